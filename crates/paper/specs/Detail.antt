@@ -1,0 +1,62 @@
+-- Document 01, 'Questions', Detail: over whole numbers. A finite float is, in size, the fraction `num x` / `den x` of two whole numbers
+-- (`lib.Ieee.Positive`); two fractions are compared by multiplying across. 'These compare exact values.' Definitions only.
+use Prim.Native.Nat.{ℕ, zero, suc, _*_, _^_}
+use mathlib.Core.Bool.{Bool, true, false, not, _&&_, _||_, cond}
+use mathlib.Core.List.{List, [], _∷_}
+use lib.Dec.{leb, eqb}
+use lib.Ieee.{Float, nan, inf, fin}
+use lib.Ieee.Positive.{num, den}
+use Rattle.paper.specs.Rooms.{depthOk}
+use Rattle.paper.specs.Answers.{Outcome}
+use Rattle.paper.specs.Order.{Test, when, firstOf, settled}
+use Rattle.paper.specs.declared.Wish.{Wish}
+use Rattle.paper.specs.declared.Wish.the-variants.{EveryVoxel, WidestEdge, Distance}
+
+-- a number that is not below zero: no NaN, no infinity; '-0 counts as 0'
+abbrev pub plain : Float → Bool
+plain nan = false
+plain (inf s) = false
+plain (fin s m e) = not s || eqb m 0
+
+-- x is such a number, with a / b <= x <= c
+abbrev pub within : ℕ → ℕ → ℕ → Float → Bool
+within a b c x = plain x && (leb (a * den x) (num x * b) && leb (num x) (c * den x))
+
+-- 'a widest edge (1 to 2^40)'; a distance (0 to 2^40); a factor (2^-30 to 2^30)
+abbrev pub edgeOk : Float → Bool
+edgeOk e = within 1 1 (2 ^ 40) e
+
+abbrev pub distanceOk : Float → Bool
+distanceOk d = within 0 1 (2 ^ 40) d
+
+abbrev pub factorOk : Float → Bool
+factorOk f = within 1 (2 ^ 30) (2 ^ 30) f
+
+-- 2^h times a / b is at most x
+abbrev pub reaches : ℕ → ℕ → Float → ℕ → Bool
+reaches a b x h = leb (2 ^ h * a * den x) (num x * b)
+
+-- the greatest h from 1 to D that passes the test, 'or 0 if none'
+unfoldable pub greatest : (ℕ → Bool) → ℕ → ℕ
+greatest p zero = 0
+greatest p (suc d) = let r = greatest p d in cond (p (suc d)) (suc d) r
+
+-- is the wish in its range
+abbrev pub wishOk : Wish → Bool
+wishOk EveryVoxel = true
+wishOk (WidestEdge e) = edgeOk e
+wishOk (Distance s) = distanceOk (s .distance) && factorOk (s .factor)
+
+-- 'every voxel gives height 0. A widest edge e gives the greatest h <= D with 2^h <= e. For the third, the greatest h <= D with 2^h times
+-- factor <= distance, or 0 if none'
+abbrev pub heightFor : ℕ → Wish → ℕ
+heightFor D EveryVoxel = 0
+heightFor D (WidestEdge e) = greatest (reaches 1 1 e) D
+heightFor D (Distance s) = greatest (reaches (num (s .factor)) (den (s .factor)) (s .distance)) D
+
+-- 'Detail: 5,13'
+abbrev pub detailOrder : ℕ → Wish → List Test
+detailOrder D w = when (not (depthOk D)) 5 ∷ when (not (wishOk w)) 13 ∷ []
+
+unfoldable pub detailOutcome : ℕ → Wish → Outcome
+detailOutcome D w = settled (firstOf (detailOrder D w)) (heightFor D w ∷ []) [] []

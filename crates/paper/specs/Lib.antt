@@ -1,0 +1,10 @@
+pub mod Numbers
+pub mod Rooms
+pub mod Leaf
+pub mod Outline
+pub mod Store
+pub mod Meaning
+pub mod Match
+pub mod Answers
+pub mod Order
+pub mod Detail

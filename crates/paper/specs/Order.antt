@@ -1,0 +1,22 @@
+-- Document 01, 'Refusal numbers and their order': a call's tests in their order, each with the number that it gives. Definitions only.
+use mathlib.Core.Bool.{Bool, cond}
+use mathlib.Core.List.{List, [], _∷_, map}
+use Prim.Native.Nat.{ℕ}
+use lib.Dec.{eqb}
+use Rattle.paper.specs.Answers.{Outcome, told, outcome}
+
+-- refused by this number where the test passes
+pub data Test : Type 0 where
+  when : Bool → ℕ → Test
+
+-- the number of the first test that passes, 0 where none does
+unfoldable pub firstOf : List Test → ℕ
+firstOf [] = 0
+firstOf (when b n ∷ ts) = let r = firstOf ts in cond b n r
+
+-- 'a refusal returns its number and zeros': accepted, the values and what was lent as it is then; refused, zeros and what was lent as it is then
+unfoldable pub settled : ℕ → List ℕ → List (List ℕ) → List (List ℕ) → Outcome
+settled n vs after else =
+    let yes : Outcome = outcome (told 0 vs) after in
+    let zeros : Outcome = outcome (told n (map (λ v. 0) vs)) else in
+    cond (eqb n 0) yes zeros

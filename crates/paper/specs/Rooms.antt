@@ -1,0 +1,110 @@
+-- Document 01, 'Rooms and mirrors', by coordinates: rooms, cells, mirrors, images, non-empty, how much is solid in a box. Definitions only.
+-- A room is a question on three coordinates; a cell of it is that question restricted and shifted. Nothing here speaks of trees or pointers.
+use mathlib.Core.Bool.{Bool, true, false, cond, _&&_}
+use mathlib.Core.Path.{_≡_}
+use Prim.Native.Nat.{ℕ, zero, suc, _+_, _-_, _*_, _/_, _%_, _^_, _<_}
+use lib.Dec.{eqb, leb, ltb}
+use Rattle.paper.specs.Numbers.{allBelow, anyBelow, sum, bitFor}
+
+-- a voxel's coordinates, or those of a cell counted in cells of its height
+pub record Point : Type 0 where
+  pub x : ℕ
+  pub y : ℕ
+  pub z : ℕ
+
+abbrev pub point : ℕ → ℕ → ℕ → Point
+point a b c = record { x = a; y = b; z = c }
+
+-- is this voxel solid
+abbrev pub Room : Type 0
+Room = Point → Bool
+
+-- 'a scene has a depth D, 2 to 16'
+abbrev pub least : ℕ
+least = 2
+
+abbrev pub deepest : ℕ
+deepest = 16
+
+abbrev pub depthOk : ℕ → Bool
+depthOk D = leb least D && leb D deepest
+
+-- each coordinate below the edge
+abbrev pub inside : ℕ → Point → Bool
+inside S v = ltb (v .x) S && ltb (v .y) S && ltb (v .z) S
+
+pub record Inside (S : ℕ) (v : Point) : Type 0 where
+  pub inX : v .x < S
+  pub inY : v .y < S
+  pub inZ : v .z < S
+
+-- ---- cells: 'a cell of height h is an aligned cube of edge 2^h'
+
+-- the cell of height h at c, c counted in cells of that height
+abbrev pub cellOf : Room → ℕ → Point → Room
+cellOf r h c v = r (point (c .x * 2 ^ h + v .x) (c .y * 2 ^ h + v .y) (c .z * 2 ^ h + v .z))
+
+-- 'eight children, number i = x + 2y + 4z, each bit saying which half': the number of the child that holds v, S the children's edge;
+-- where v lies in it; and the corner of child i
+abbrev pub childNo : ℕ → Point → ℕ
+childNo S v = v .x / S + 2 * (v .y / S) + 4 * (v .z / S)
+
+abbrev pub inChild : ℕ → Point → Point
+inChild S v = point (v .x % S) (v .y % S) (v .z % S)
+
+abbrev pub childRoom : ℕ → ℕ → Room → Room
+childRoom S i r v = r (point (i % 2 * S + v .x) (i / 2 % 2 * S + v .y) (i / 4 % 2 * S + v .z))
+
+-- ---- mirrors: 'bit 0 for x, bit 1 for y, bit 2 for z. On a marked axis, coordinate c in a cube of edge S becomes S - 1 - c'
+
+abbrev pub flip : Bool → ℕ → ℕ → ℕ
+flip true S c = S - 1 - c
+flip false S c = c
+
+abbrev pub markX : ℕ → Bool
+markX t = eqb (t % 2) 1
+
+abbrev pub markY : ℕ → Bool
+markY t = eqb (t / 2 % 2) 1
+
+abbrev pub markZ : ℕ → Bool
+markZ t = eqb (t / 4 % 2) 1
+
+abbrev pub mirror : ℕ → ℕ → Point → Point
+mirror t S v = point (flip (markX t) S (v .x)) (flip (markY t) S (v .y)) (flip (markZ t) S (v .z))
+
+-- a cell of edge S so mirrored
+abbrev pub mirrored : ℕ → ℕ → Room → Room
+mirrored t S r v = r (mirror t S v)
+
+-- ---- equal cells, images, non-empty: of voxels
+
+-- the same voxels in a cube of edge S
+abbrev pub Same : ℕ → Room → Room → Type 0
+Same S a b = (v : Point) → Inside S v → a v ≡ b v
+
+-- a is b mirrored by some mirror
+abbrev pub Image : ℕ → Room → Room → Type 0
+Image S a b = (t : ℕ) × (t < 8) × Same S a (mirrored t S b)
+
+-- some voxel is solid
+abbrev pub NonEmpty : ℕ → Room → Type 0
+NonEmpty S r = (v : Point) × Inside S v × (r v ≡ true)
+
+-- ---- boxes: 'how many solid voxels v have low <= v < high on each axis'
+
+abbrev pub inBox : Point → Point → Point → Bool
+inBox low high v =
+    leb (low .x) (v .x) && ltb (v .x) (high .x) && leb (low .y) (v .y) && ltb (v .y) (high .y) && leb (low .z) (v .z) && ltb (v .z) (high .z)
+
+-- f summed over the points of a cube of edge S
+unfoldable pub sum3 : ℕ → (Point → ℕ) → ℕ
+sum3 S f = sum S (λ c. sum S (λ b. sum S (λ a. f (point a b c))))
+
+-- how many points of the box, in a cube of edge S, pass
+unfoldable pub boxCount : ℕ → Room → Point → Point → ℕ
+boxCount S r low high = sum3 S (λ v. cond (inBox low high v) (bitFor (r v)) 0)
+
+-- some voxel of a cube of edge S is solid: the test of NonEmpty
+unfoldable pub nonEmpty : ℕ → Room → Bool
+nonEmpty S r = anyBelow S (λ c. anyBelow S (λ b. anyBelow S (λ a. r (point a b c))))

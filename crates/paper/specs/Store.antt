@@ -1,0 +1,184 @@
+-- Document 01, 'The store': the cells and scenes that a store holds, the words that hold them, and when a store is damaged. Definitions only.
+-- Heights are counted from 2: list k has the cells of height k + 2, so list 0 has the leaves. A cell is its words: a leaf two, high first,
+-- any other eight pointers.
+use mathlib.Core.Bool.{Bool, true, false, cond, not, _&&_, _||_}
+use mathlib.Core.List.{List, [], _∷_, _++_, map}
+use Prim.Native.Nat.{ℕ, zero, suc, _+_, _-_, _*_, _/_, _%_, _^_}
+use lib.Dec.{eqb, leb, ltb}
+use lib.ListN.{length, take, drop, getD, replicate}
+use Rattle.paper.specs.Numbers.{allBelow, anyBelow, allIn, flatten, tabulate}
+use Rattle.paper.specs.Rooms.{depthOk}
+
+abbrev pub Cell : Type 0
+Cell = List ℕ
+
+-- what a store holds: its capacity, its scenes (depth and root pointer), and the cells kept at each height
+pub record Store : Type 0 where
+  pub capacity : ℕ
+  pub scenes : List Cell
+  pub kept : List (List Cell)
+
+abbrev pub cellsAt : List (List Cell) → ℕ → List Cell
+cellsAt K k = getD K k []
+
+abbrev pub cellAt : List (List Cell) → ℕ → ℕ → Cell
+cellAt K k q = getD (cellsAt K k) q []
+
+-- the number of a leaf's two words, high first
+abbrev pub leafNo : Cell → ℕ
+leafNo c = getD c 0 0 * 2 ^ 32 + getD c 1 0
+
+-- ---- pointers: '0 for none; otherwise its top three bits are a mirror and its low 29 bits the kept cell's number plus 1'
+
+abbrev pub tagOf : ℕ → ℕ
+tagOf p = p / 2 ^ 29 % 8
+
+abbrev pub lowOf : ℕ → ℕ
+lowOf p = p % 2 ^ 29
+
+abbrev pub cellNo : ℕ → ℕ
+cellNo p = lowOf p - 1
+
+abbrev pub pointer : ℕ → ℕ → ℕ
+pointer tag n = tag * 2 ^ 29 + (n + 1)
+
+-- 'bad: not 0 and its number is not kept', n cells being kept at the height pointed to. A tag with no number is bad.
+abbrev pub badPointer : ℕ → ℕ → Bool
+badPointer n p = not (eqb p 0) && not (leb 1 (lowOf p) && leb (lowOf p) n)
+
+-- 'a bad pointer among the eight of a cell', n cells being kept one height down
+abbrev pub anyBad : ℕ → Cell → Bool
+anyBad n c = anyBelow 8 (λ i. badPointer n (getD c i 0))
+
+-- ---- the words, by named places
+
+-- 'C (1 to 65,536)', 'scenes held, at most 64', heights 2 to 16
+abbrev pub mostCapacity : ℕ
+mostCapacity = 65536
+
+abbrev pub mostScenes : ℕ
+mostScenes = 64
+
+abbrev pub heights : ℕ
+heights = 15
+
+-- 'for capacity C it uses the first 160 + 114C words'
+abbrev pub used : ℕ → ℕ
+used C = 160 + 114 * C
+
+-- 'word 0: C. Word 1: scenes held. Words 2 to 16: cells kept at heights 2 to 16. Words 17 to 31: zero'
+abbrev pub capacityOf : List ℕ → ℕ
+capacityOf ws = getD ws 0 0
+
+abbrev pub scenesHeld : List ℕ → ℕ
+scenesHeld ws = getD ws 1 0
+
+abbrev pub keptCount : List ℕ → ℕ → ℕ
+keptCount ws k = getD ws (2 + k) 0
+
+abbrev pub zerosPlace : ℕ
+zerosPlace = 17
+
+-- 'words 32 to 159: 64 scenes of two words, depth and root pointer'
+abbrev pub scenePlace : ℕ → ℕ
+scenePlace n = 32 + 2 * n
+
+-- 'then C leaves of two words, then for heights 3 to 16 in turn C cells of 8 pointers': the words of a cell of list k, where list k starts
+abbrev pub cellWords : ℕ → ℕ
+cellWords zero = 2
+cellWords (suc k) = 8
+
+abbrev pub listPlace : ℕ → ℕ → ℕ
+listPlace C zero = 160
+listPlace C (suc k) = 160 + 2 * C + 8 * C * k
+
+abbrev pub cellPlace : ℕ → ℕ → ℕ → ℕ
+cellPlace C k n = listPlace C k + cellWords k * n
+
+-- ---- from words to cells
+
+-- n groups of w words
+unfoldable pub groups : ℕ → ℕ → List ℕ → List Cell
+groups w zero l = []
+groups w (suc n) l = take w l ∷ groups w n (drop w l)
+
+unfoldable pub keptIn : List ℕ → ℕ → List Cell
+keptIn ws k = groups (cellWords k) (keptCount ws k) (drop (listPlace (capacityOf ws) k) ws)
+
+unfoldable pub keptOf : List ℕ → List (List Cell)
+keptOf ws = tabulate 0 heights (keptIn ws)
+
+unfoldable pub storeOf : List ℕ → Store
+storeOf ws = record { capacity = capacityOf ws; scenes = groups 2 (scenesHeld ws) (drop (scenePlace 0) ws); kept = keptOf ws }
+
+-- a scene's two words
+abbrev pub sceneDepth : List ℕ → ℕ → ℕ
+sceneDepth ws n = getD ws (scenePlace n) 0
+
+abbrev pub sceneRoot : List ℕ → ℕ → ℕ
+sceneRoot ws n = getD ws (scenePlace n + 1) 0
+
+-- ---- from cells to words
+
+-- these cells' words, and zeros up to n words: 'unused words are zero'
+unfoldable pub padded : ℕ → List Cell → List ℕ
+padded n cs = flatten cs ++ replicate (n - length (flatten cs)) 0
+
+-- the lists from list k on, each C cells long
+unfoldable pub listWords : ℕ → ℕ → List (List Cell) → List ℕ
+listWords C k [] = []
+listWords C k (cs ∷ Ks) = padded (cellWords k * C) cs ++ listWords C (suc k) Ks
+
+abbrev pub headerWords : Store → List ℕ
+headerWords s = s .capacity ∷ length (s .scenes) ∷ map length (s .kept) ++ replicate (32 - zerosPlace) 0
+
+unfoldable pub wordsOf : Store → List ℕ
+wordsOf s = headerWords s ++ (padded (2 * mostScenes) (s .scenes) ++ listWords (s .capacity) 0 (s .kept))
+
+-- a store with nothing in it
+unfoldable pub emptyStore : ℕ → Store
+emptyStore C = record { capacity = C; scenes = []; kept = replicate heights [] }
+
+-- ---- damage
+
+-- all of n words from place a on are zero
+unfoldable pub blank : List ℕ → ℕ → ℕ → Bool
+blank ws a n = allIn (eqb 0) (take n (drop a ws))
+
+abbrev pub capacityOk : ℕ → Bool
+capacityOk C = leb 1 C && leb C mostCapacity
+
+-- 'damaged, header: words 0 to 31 out of range, or slice too short'
+unfoldable pub headerOk : List ℕ → Bool
+headerOk ws =
+    leb (used (capacityOf ws)) (length ws) && capacityOk (capacityOf ws) && leb (scenesHeld ws) mostScenes
+    && allBelow heights (λ k. leb (keptCount ws k) (capacityOf ws)) && blank ws zerosPlace (32 - zerosPlace)
+
+-- 'scene: depth not 2 to 16, or a bad root pointer'
+unfoldable pub sceneOk : List ℕ → ℕ → Bool
+sceneOk ws n = depthOk (sceneDepth ws n) && not (badPointer (keptCount ws (sceneDepth ws n - 2)) (sceneRoot ws n))
+
+-- 'used cells not empty': a leaf with a voxel; a cell with a child and no bad pointer
+unfoldable pub leafUsable : Cell → Bool
+leafUsable c = ltb 0 (leafNo c)
+
+unfoldable pub cellUsable : ℕ → Cell → Bool
+cellUsable n c = not (allBelow 8 (λ i. eqb (getD c i 0) 0)) && not (anyBad n c)
+
+unfoldable pub listUsable : List (List Cell) → ℕ → Bool
+listUsable K zero = allIn leafUsable (cellsAt K 0)
+listUsable K (suc k) = allIn (cellUsable (length (cellsAt K k))) (cellsAt K (suc k))
+
+-- 'unused words zero': of the scenes, and of list k
+abbrev pub scenesBlank : List ℕ → Bool
+scenesBlank ws = blank ws (scenePlace (scenesHeld ws)) (2 * (mostScenes - scenesHeld ws))
+
+abbrev pub listBlank : List ℕ → ℕ → Bool
+listBlank ws k =
+    blank ws (cellPlace (capacityOf ws) k (keptCount ws k)) (cellWords k * (capacityOf ws - keptCount ws k))
+
+-- 'add, outline and pack test all of that for the whole store, with used cells not empty and unused words zero'
+unfoldable pub storeOk : List ℕ → Bool
+storeOk ws =
+    headerOk ws && allBelow (scenesHeld ws) (sceneOk ws) && scenesBlank ws
+    && allBelow heights (listUsable (keptOf ws)) && allBelow heights (listBlank ws)
