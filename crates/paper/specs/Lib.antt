@@ -5,6 +5,11 @@ pub mod Outline
 pub mod Store
 pub mod Meaning
 pub mod Match
+pub mod Questions
+pub mod Packed
+pub mod Pack
 pub mod Answers
 pub mod Order
 pub mod Detail
+pub mod Calls
+pub mod Samples

@@ -1,0 +1,306 @@
+-- Document 01, 'The packed file': what its bytes say, when it is proper, which room it means, and the walk of a voxel question. Definitions only.
+-- A list is named by k, as a store's are: that of height k + 2, so list 0 is the leaves and list D - 2 the top.
+-- All reading is total: on broken bytes it gives some value, and a named test says that they are broken. A list is measured from the end of the
+-- file, where the leaves are. The lists are read into a GRAPH: cells whose pointers go by the number of the record, just as a store keeps them,
+-- so the match rule and the voxels of a cell are the store's own.
+use mathlib.Core.Bool.{Bool, true, false, cond, not, _&&_, _||_}
+use mathlib.Core.List.{List, [], _∷_, map}
+use Prim.Native.Nat.{ℕ, zero, suc, _+_, _-_, _*_, _/_, _%_, _^_}
+use lib.Dec.{eqb, leb, ltb}
+use lib.Bits.{bitXor}
+use lib.ListN.{length, take, drop, getD, replicate}
+use Rattle.paper.specs.Numbers.{allBelow, num, count, tabulate, allIn, isIn, indexIn}
+use Rattle.paper.specs.Rooms.{Point, Room, mirror, childNo, inChild, depthOk}
+use Rattle.paper.specs.Leaf.{leafVoxel}
+use Rattle.paper.specs.Outline.{edge, fileDepth, frontOk, lengthOk}
+use Rattle.paper.specs.Store.{Cell, heights, cellsAt, cellAt, leafNo, tagOf, cellNo, pointer}
+use Rattle.paper.specs.Meaning.{cellVoxel}
+use Rattle.paper.specs.Match.{matches}
+use Rattle.paper.specs.Questions.{entered}
+
+-- ---- the header
+
+-- 'byte 0 is 0x21'
+abbrev pub packedFront : ℕ
+packedFront = 0x21
+
+-- the bytes before the sizes: front byte, length, depth, the root's mirror
+abbrev pub packedHead : ℕ
+packedHead = 7
+
+-- byte 6: 'the root's mirror, or 8 for an empty scene'
+abbrev pub emptyMark : ℕ
+emptyMark = 8
+
+abbrev pub rootTag : List ℕ → ℕ
+rootTag bs = getD bs 6 0
+
+abbrev pub isEmpty : List ℕ → Bool
+isEmpty bs = eqb (rootTag bs) emptyMark
+
+-- the top list, that of height D
+abbrev pub topOf : List ℕ → ℕ
+topOf bs = fileDepth bs - 2
+
+-- 'then for heights D down to 3 that list's size in half-words, then the number of leaves, 4 bytes each': the size of list k
+unfoldable pub sizeAt : List ℕ → ℕ → ℕ
+sizeAt bs k = num 4 (drop (packedHead + 4 * (topOf bs - k)) bs)
+
+-- 'then the lists in that order, leaves of 8 bytes last': the bytes of list k and of all that follow it
+unfoldable pub tailAt : List ℕ → ℕ → ℕ
+tailAt bs zero = 8 * sizeAt bs 0
+tailAt bs (suc k) = 2 * sizeAt bs (suc k) + tailAt bs k
+
+-- where list k starts in the file
+abbrev pub startAt : List ℕ → ℕ → ℕ
+startAt bs k = length bs - tailAt bs k
+
+-- the bytes of list k
+unfoldable pub listAt : List ℕ → ℕ → List ℕ
+listAt bs zero = drop (startAt bs 0) bs
+listAt bs (suc k) = take (2 * sizeAt bs (suc k)) (drop (startAt bs (suc k)) bs)
+
+-- ---- a record at place p of the bytes l of a list
+
+-- 'a two-byte header, two bits for each child (child i in bits 2i and 2i+1): 0 none, 1 a 2-byte pointer, 2 a 4-byte pointer'
+abbrev pub headerAt : List ℕ → ℕ → ℕ
+headerAt l p = num 2 (drop (2 * p) l)
+
+-- its half-words: one for the header and, for each of n children, as many as its code says
+unfoldable pub halves : ℕ → ℕ → ℕ
+halves zero h = 1
+halves (suc n) h = h % 4 + halves n (h / 4)
+
+-- no code 3 among the lowest n
+unfoldable pub codesOk : ℕ → ℕ → Bool
+codesOk zero h = true
+codesOk (suc n) h = let r = codesOk n (h / 4) in cond (eqb (h % 4) 3) false r
+
+-- 'a pointer is three mirror bits, then the child's place': with its code
+pub record Link : Type 0 where
+  pub code : ℕ
+  pub tag : ℕ
+  pub place : ℕ
+
+-- of code c, read as the number v
+abbrev pub linkOf : ℕ → ℕ → Link
+linkOf c v = record { code = c; tag = v / 2 ^ (16 * c - 3); place = v % 2 ^ (16 * c - 3) }
+
+abbrev pub noLink : Link
+noLink = record { code = 0; tag = 0; place = 0 }
+
+-- 'then the pointers, i rising': n of them, with the codes of h
+unfoldable pub readLinks : ℕ → ℕ → List ℕ → List Link
+readLinks zero h bs = []
+readLinks (suc n) h bs = linkOf (h % 4) (num (2 * (h % 4)) bs) ∷ readLinks n (h / 4) (drop (2 * (h % 4)) bs)
+
+unfoldable pub linksAt : List ℕ → ℕ → List Link
+linksAt l p = readLinks 8 (headerAt l p) (drop (2 * p + 2) l)
+
+-- leaf p: its two words, high first
+unfoldable pub leafAt : List ℕ → ℕ → Cell
+leafAt l p = num 4 (drop (8 * p) l) ∷ num 4 (drop (8 * p + 4) l) ∷ []
+
+-- header not zero, no code 3, room in its list
+unfoldable pub recordOk : List ℕ → ℕ → Bool
+recordOk l p = ltb 0 (headerAt l p) && codesOk 8 (headerAt l p) && leb (2 * (p + halves 8 (headerAt l p))) (length l)
+
+-- leaf not zero
+unfoldable pub leafOk : List ℕ → ℕ → Bool
+leafOk l p = ltb 0 (leafNo (leafAt l p))
+
+-- 'short exactly when its place is at most 8,191'
+abbrev pub farthestShort : ℕ
+farthestShort = 8191
+
+abbrev pub codeFor : ℕ → ℕ
+codeFor p = cond (leb p farthestShort) 1 2
+
+-- ---- the lists as records, and the graph: cells whose pointers go by number, as a store's do
+
+-- where records start: at most n, the first at place p
+unfoldable pub startsFrom : List ℕ → ℕ → ℕ → List ℕ
+startsFrom l zero p = []
+startsFrom l (suc n) p = let r = p ∷ startsFrom l n (p + halves 8 (headerAt l p)) in cond (ltb (2 * p) (length l)) r []
+
+-- the places at which the records of list k start
+unfoldable pub placesAt : List ℕ → ℕ → List ℕ
+placesAt bs zero = count 0 (sizeAt bs 0)
+placesAt bs (suc k) = startsFrom (listAt bs (suc k)) (sizeAt bs (suc k)) 0
+
+-- a pointer by the number of the record that it names; ps: where those start
+abbrev pub byNumber : List ℕ → Link → ℕ
+byNumber ps l = cond (eqb (l .code) 0) 0 (pointer (l .tag) (indexIn (l .place) ps))
+
+unfoldable pub cellsOf : List ℕ → ℕ → List Cell
+cellsOf bs zero = map (leafAt (listAt bs 0)) (placesAt bs 0)
+cellsOf bs (suc k) = map (λ p. map (byNumber (placesAt bs k)) (linksAt (listAt bs (suc k)) p)) (placesAt bs (suc k))
+
+-- leaves first
+unfoldable pub graphOf : List ℕ → List (List Cell)
+graphOf bs = tabulate 0 (suc (topOf bs)) (cellsOf bs)
+
+-- ---- the rules of a proper file, in document 01's order
+
+-- 1. 'the sizes add up to the length'
+unfoldable pub sizesOk : List ℕ → Bool
+sizesOk bs = eqb (packedHead + 4 * suc (topOf bs) + tailAt bs (topOf bs)) (length bs)
+
+-- 2. 'the top list has exactly one record'
+unfoldable pub topOk : List ℕ → Bool
+topOk bs = eqb (length (placesAt bs (topOf bs))) 1
+
+-- 3. 'every list divides into whole records, no header zero or with code 3, no leaf zero': of list k
+unfoldable pub wholeAt : List ℕ → ℕ → Bool
+wholeAt bs zero = allIn (leafOk (listAt bs 0)) (placesAt bs 0)
+wholeAt bs (suc k) = allIn (recordOk (listAt bs (suc k))) (placesAt bs (suc k))
+
+-- 4. 'every pointer names the start of a record and is short exactly when its place is at most 8,191': ps are the starts; of list k + 1
+unfoldable pub linkOk : List ℕ → Link → Bool
+linkOk ps l = cond (eqb (l .code) 0) true (isIn (l .place) ps && eqb (l .code) (codeFor (l .place)))
+
+unfoldable pub linksOk : List ℕ → ℕ → Bool
+linksOk bs k = allIn (λ p. allIn (linkOk (placesAt bs k)) (linksAt (listAt bs (suc k)) p)) (placesAt bs (suc k))
+
+-- does the cell name number q
+unfoldable pub names : ℕ → Cell → Bool
+names q [] = false
+names q (p ∷ ps) = let r = names q ps in cond (eqb p 0) r (cond (eqb (cellNo p) q) true r)
+
+-- 'the number of records one height up that name it': each once, however often it does
+unfoldable pub popularity : List Cell → ℕ → ℕ
+popularity [] q = 0
+popularity (c ∷ cs) q = cond (names q c) 1 0 + popularity cs q
+
+-- 5. 'every record below the top is named': of list k, by those of list k + 1
+unfoldable pub namedOk : List (List Cell) → ℕ → Bool
+namedOk K k = allBelow (length (cellsAt K k)) (λ q. ltb 0 (popularity (cellsAt K (suc k)) q))
+
+-- 6. 'no two of one height match under any mirror': of list k
+unfoldable pub apartOk : List (List Cell) → ℕ → Bool
+apartOk K k =
+    allBelow (length (cellsAt K k)) (λ q. allBelow q (λ r. allBelow 8 (λ t. not (matches K k (cellAt K k q) (cellAt K k r) t))))
+
+-- 7. 'every tag, the root's too, is the lowest with the same meaning': no lower one differs from it by a mirror under which the cell matches itself
+abbrev pub tagLow : List (List Cell) → ℕ → ℕ → ℕ → Bool
+tagLow K k tag q = allBelow tag (λ u. not (matches K k (cellAt K k q) (cellAt K k q) (bitXor u tag)))
+
+unfoldable pub pointerLow : List (List Cell) → ℕ → ℕ → Bool
+pointerLow K k p = let r = tagLow K k (tagOf p) (cellNo p) in cond (eqb p 0) true r
+
+-- of all pointers of list k + 1
+unfoldable pub tagsOk : List (List Cell) → ℕ → Bool
+tagsOk K k = allBelow (length (cellsAt K (suc k))) (λ n. allBelow 8 (λ i. pointerLow K k (getD (cellAt K (suc k) n) i 0)))
+
+-- 8. 'along each list the number of records one height up that name it never rises': of list k
+unfoldable pub fallingOk : List (List Cell) → ℕ → Bool
+fallingOk K k =
+    allBelow (length (cellsAt K k) - 1) (λ q. leb (popularity (cellsAt K (suc k)) (suc q)) (popularity (cellsAt K (suc k)) q))
+
+-- rules 2 to 4, on the bytes
+unfoldable pub listsOk : List ℕ → Bool
+listsOk bs = topOk bs && allBelow (suc (topOf bs)) (wholeAt bs) && allBelow (topOf bs) (linksOk bs)
+
+-- rules 5 to 8, on a graph; k the top and m the root's mirror
+unfoldable pub graphOk : ℕ → ℕ → List (List Cell) → Bool
+graphOk k m K = allBelow k (namedOk K) && allBelow (suc k) (apartOk K) && allBelow k (tagsOk K) && tagLow K k m 0 && allBelow k (fallingOk K)
+
+-- byte 6: 'at most 8; 8 only at 7 bytes'
+abbrev pub rootOk : List ℕ → Bool
+rootOk bs = leb (rootTag bs) emptyMark && cond (isEmpty bs) (eqb (length bs) packedHead) true
+
+-- byte 6 and, unless the scene is empty, the sizes
+unfoldable pub headOk : List ℕ → Bool
+headOk bs = let r = sizesOk bs in rootOk bs && cond (isEmpty bs) true r
+
+-- refusal 6 of a check is given where this fails: byte 6 and, unless the scene is empty, the eight rules
+unfoldable pub packedRules : List ℕ → Bool
+packedRules bs =
+    let r : Bool = listsOk bs && graphOk (topOf bs) (rootTag bs) (graphOf bs) in
+    headOk bs && cond (isEmpty bs) true r
+
+-- 'a file is proper when'. 'An empty scene's 7 bytes are proper.'
+unfoldable pub proper : List ℕ → Bool
+proper bs = frontOk packedFront bs && lengthOk packedHead bs && depthOk (fileDepth bs) && packedRules bs
+
+-- ---- the room that a proper file means, by coordinates, and the path to a voxel
+
+-- voxel v as the top record sees it
+abbrev pub inTop : List ℕ → Point → Point
+inTop bs v = mirror (rootTag bs) (2 ^ fileDepth bs) v
+
+unfoldable pub packedRoom : List ℕ → Room
+packedRoom bs v =
+    let k : ℕ = topOf bs in
+    let r : Bool = cellVoxel (graphOf bs) k (cellAt (graphOf bs) k 0) (inTop bs v) in
+    cond (isEmpty bs) false r
+
+-- 'the number of records read on the way, the root's and a leaf's included (0 for an empty scene)'
+unfoldable pub packedPath : List ℕ → Point → ℕ
+packedPath bs v =
+    let k : ℕ = topOf bs in
+    let r : ℕ = length (entered (graphOf bs) k (cellAt (graphOf bs) k 0) (inTop bs v)) in
+    cond (isEmpty bs) 0 r
+
+-- ---- the walk of a packed voxel question, on any bytes
+
+-- a record entered: its list, its place, and the tag under which it is seen
+pub record Step : Type 0 where
+  pub list : ℕ
+  pub place : ℕ
+  pub tag : ℕ
+
+-- how a walk ends: broken, or solid or empty with the records read, the root's first
+pub data Way : Type 0 where
+  broken : Way
+  ended : Bool → List Step → Way
+
+-- one record before the others
+abbrev pub after : Step → Way → Way
+after s broken = broken
+after s (ended b path) = ended b (s ∷ path)
+
+-- the records read are all of the path
+abbrev pub records : Way → ℕ
+records broken = 0
+records (ended b path) = length path
+
+abbrev pub solid : Way → Bool
+solid broken = false
+solid (ended b path) = b
+
+abbrev pub isBroken : Way → Bool
+isBroken broken = true
+isBroken (ended b path) = false
+
+-- broken unless the test passes
+abbrev pub unless : Bool → Way → Way
+unless true w = w
+unless false w = broken
+
+-- from the record at place p of list k, seen under tag t: 'it tests on its path each record (header, room in its list, leaf not zero) and the
+-- pointer taken (place inside the next list, width)'
+unfoldable pub packedWay : List ℕ → ℕ → ℕ → ℕ → Point → Way
+packedWay bs zero p t v =
+    unless (leafOk (listAt bs 0) p) (ended (leafVoxel (leafNo (leafAt (listAt bs 0) p)) (mirror t (edge 0) v)) (record { list = 0; place = p; tag = t } ∷ []))
+packedWay bs (suc k) p t v =
+    let here : Step = record { list = suc k; place = p; tag = t } in
+    let l : List ℕ = listAt bs (suc k) in
+    let w : Point = mirror t (edge (suc k)) v in
+    let q : Link = getD (linksAt l p) (childNo (edge k) w) noLink in
+    let on : Way = after here (packedWay bs k (q .place) (q .tag) (inChild (edge k) w)) in
+    let to : Way = unless (ltb (q .place) (sizeAt bs k) && eqb (q .code) (codeFor (q .place))) on in
+    unless (recordOk l p) (cond (eqb (q .code) 0) (ended false (here ∷ [])) to)
+
+-- from the root; an empty scene reads nothing
+unfoldable pub wayIn : List ℕ → Point → Way
+wayIn bs v =
+    let r : Way = packedWay bs (topOf bs) 0 (rootTag bs) v in
+    unless (headOk bs) (cond (isEmpty bs) (ended false []) r)
+
+-- ---- opening: the list starts, 0 above the depth and for an empty scene
+
+unfoldable pub startsOf : List ℕ → List ℕ
+startsOf bs =
+    let r : List ℕ = tabulate 0 heights (λ k. cond (leb k (topOf bs)) (startAt bs k) 0) in
+    cond (isEmpty bs) (replicate heights 0) r

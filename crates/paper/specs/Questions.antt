@@ -1,0 +1,93 @@
+-- Document 01, 'Questions', on a store's cells: what a voxel, cell or box question finds, and where its walk meets damage. Definitions only.
+-- K are the kept cells, list k those of height k + 2; a walk goes down by coordinates, as the meaning of a pointer does.
+use mathlib.Core.Bool.{Bool, true, false, cond, not}
+use mathlib.Core.List.{List, [], _∷_}
+use Prim.Native.Nat.{ℕ, zero, suc, _-_, _*_, _^_}
+use lib.Dec.{eqb, leb, ltb}
+use lib.ListN.{length, getD}
+use Rattle.paper.specs.Rooms.{Point, point, Room, mirror, inChild, cellOf, nonEmpty, boxCount}
+use Rattle.paper.specs.Outline.{edge}
+use Rattle.paper.specs.Store.{Cell, cellsAt, cellAt, tagOf, cellNo, badPointer, anyBad}
+use Rattle.paper.specs.Meaning.{pointerFor, rootRoom}
+
+-- ---- one step down: the pointer taken from a cell of list k + 1 to voxel v; the cell that it names; v in that cell
+
+abbrev pub taken : ℕ → Cell → Point → ℕ
+taken k c v = pointerFor c (edge k) v
+
+abbrev pub below : List (List Cell) → ℕ → ℕ → Cell
+below K k p = cellAt K k (cellNo p)
+
+abbrev pub inBelow : ℕ → ℕ → Point → Point
+inBelow k p v = mirror (tagOf p) (edge k) (inChild (edge k) v)
+
+-- the cells entered on the way to voxel v of cell c of list k: c first, then that of the pointer taken, to a leaf or an absent child
+unfoldable pub entered : List (List Cell) → ℕ → Cell → Point → List Cell
+entered K zero c v = c ∷ []
+entered K (suc k) c v =
+    let p : ℕ = taken k c v in
+    let r : List Cell = c ∷ entered K k (below K k p) (inBelow k p v) in
+    cond (eqb p 0) (c ∷ []) r
+
+-- ---- damage on a walk
+
+-- voxel and cell: 'a bad pointer among the eight of a cell entered'. Cells above list `stop` are entered: a voxel question stops at the leaf,
+-- 'a cell question stops above the cell asked for'
+unfoldable pub wayDamaged : List (List Cell) → ℕ → ℕ → Cell → Point → Bool
+wayDamaged K stop zero c v = false
+wayDamaged K stop (suc k) c v =
+    let p : ℕ = taken k c v in
+    let r : Bool = wayDamaged K stop k (below K k p) (inBelow k p v) in
+    let here : Bool = cond (anyBad (length (cellsAt K k)) c) true (cond (eqb p 0) false r) in
+    cond (leb (suc k) stop) false here
+
+-- box: 'among children whose cubes share a voxel with it'. Those children are the ones that hold a voxel of the box, so a box is damaged where
+-- a pointer taken on the way to one of its voxels is bad
+unfoldable pub takenBad : List (List Cell) → ℕ → Cell → Point → Bool
+takenBad K zero c v = false
+takenBad K (suc k) c v =
+    let p : ℕ = taken k c v in
+    let r : Bool = takenBad K k (below K k p) (inBelow k p v) in
+    cond (badPointer (length (cellsAt K k)) p) true (cond (eqb p 0) false r)
+
+-- from the root of depth D: an absent root enters nothing
+abbrev pub fromRoot : (ℕ → Cell → Point → Bool) → List (List Cell) → ℕ → ℕ → Point → Bool
+fromRoot way K D p v = let r = way (D - 2) (below K (D - 2) p) (mirror (tagOf p) (2 ^ D) v) in cond (eqb p 0) false r
+
+-- ---- the answers
+
+-- the pointer of the cell of list `stop` that holds v, under pointer p of list k; 0 where a cell above it is absent
+unfoldable pub pointerTo : List (List Cell) → ℕ → ℕ → ℕ → Point → ℕ
+pointerTo K stop zero p v = p
+pointerTo K stop (suc k) p v =
+    let w : Point = mirror (tagOf p) (edge (suc k)) v in
+    let r : ℕ = pointerTo K stop k (taken k (below K (suc k) p) w) (inChild (edge k) w) in
+    cond (leb (suc k) stop) p (cond (eqb p 0) 0 r)
+
+-- the low corner of the cell of height h at c
+abbrev pub corner : ℕ → Point → Point
+corner h c = point (c .x * 2 ^ h) (c .y * 2 ^ h) (c .z * 2 ^ h)
+
+-- voxel: 'solid or empty'
+abbrev pub voxelSolid : List (List Cell) → ℕ → ℕ → Room
+voxelSolid K D p = rootRoom K D p
+
+abbrev pub voxelWay : List (List Cell) → ℕ → ℕ → Point → Bool
+voxelWay K D p v = fromRoot (wayDamaged K 0) K D p v
+
+-- cell: 'non-empty or empty', 'whose pointer or bits decide': the pointer from height 2 up, below that the leaf's bits
+unfoldable pub cellFull : List (List Cell) → ℕ → ℕ → ℕ → Point → Bool
+cellFull K D p h c =
+    let bits : Bool = nonEmpty (2 ^ h) (cellOf (rootRoom K D p) h c) in
+    let named : Bool = not (eqb (pointerTo K (h - 2) (D - 2) p (corner h c)) 0) in
+    cond (leb 2 h) named bits
+
+abbrev pub cellWay : List (List Cell) → ℕ → ℕ → ℕ → Point → Bool
+cellWay K D p h c = fromRoot (wayDamaged K (h - 2)) K D p (corner h c)
+
+-- box: 'how many solid voxels v have low <= v < high on each axis'
+abbrev pub boxSolid : List (List Cell) → ℕ → ℕ → Point → Point → ℕ
+boxSolid K D p low high = boxCount (2 ^ D) (rootRoom K D p) low high
+
+unfoldable pub boxWay : List (List Cell) → ℕ → ℕ → Point → Point → Bool
+boxWay K D p low high = ltb 0 (boxCount (2 ^ D) (fromRoot (takenBad K) K D p) low high)
