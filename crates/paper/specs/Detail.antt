@@ -4,7 +4,7 @@ use Prim.Native.Nat.{ℕ, zero, suc, _*_, _^_}
 use mathlib.Core.Bool.{Bool, true, false, not, _&&_, _||_, cond}
 use mathlib.Core.List.{List, [], _∷_}
 use lib.Dec.{leb, eqb}
-use lib.Ieee.{Float, nan, inf, fin}
+use lib.Ieee.{Float, nan, inf, fin, add, binary64}
 use lib.Ieee.Positive.{num, den}
 use Rattle.paper.specs.Rooms.{depthOk}
 use Rattle.paper.specs.Answers.{Outcome}
@@ -22,15 +22,22 @@ plain (fin s m e) = not s || eqb m 0
 abbrev pub within : ℕ → ℕ → ℕ → Float → Bool
 within a b c x = plain x && (leb (a * den x) (num x * b) && leb (num x) (c * den x))
 
+-- the greatest edge and distance; the greatest factor, and what the least is one part of
+abbrev pub farthest : ℕ
+farthest = 2 ^ 40
+
+abbrev pub greatestFactor : ℕ
+greatestFactor = 2 ^ 30
+
 -- 'a widest edge (1 to 2^40)'; a distance (0 to 2^40); a factor (2^-30 to 2^30)
 abbrev pub edgeOk : Float → Bool
-edgeOk e = within 1 1 (2 ^ 40) e
+edgeOk e = within 1 1 farthest e
 
 abbrev pub distanceOk : Float → Bool
-distanceOk d = within 0 1 (2 ^ 40) d
+distanceOk d = within 0 1 farthest d
 
 abbrev pub factorOk : Float → Bool
-factorOk f = within 1 (2 ^ 30) (2 ^ 30) f
+factorOk f = within 1 greatestFactor greatestFactor f
 
 -- 2^h times a / b is at most x
 abbrev pub reaches : ℕ → ℕ → Float → ℕ → Bool
@@ -60,3 +67,9 @@ detailOrder D w = when (not (depthOk D)) 5 ∷ when (not (wishOk w)) 13 ∷ []
 
 unfoldable pub detailOutcome : ℕ → Wish → Outcome
 detailOutcome D w = settled (firstOf (detailOrder D w)) (heightFor D w ∷ []) [] []
+
+-- ---- on floats, as code does it: what 'doubling the factor' gives after h times
+
+unfoldable pub doubled : ℕ → Float → Float
+doubled zero x = x
+doubled (suc h) x = let y = doubled h x in add binary64 y y

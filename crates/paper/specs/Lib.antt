@@ -13,3 +13,5 @@ pub mod Order
 pub mod Detail
 pub mod Calls
 pub mod Samples
+pub mod Runs
+pub mod Claims

@@ -1,6 +1,9 @@
 // Document 01's public types: what the calls take and answer. Their reading as this paper's number and values is
 // specs/Answers.antt; the calls themselves are those of the crate `rooms`.
 
+ghost use mathlib.Core.Path.{_≡_};
+ghost use Rattle.paper.specs.Answers.{numberOf};
+
 // The refusals of document 01's table, in its order: 1 to 13.
 pub enum Refusal {
     BadSize,
@@ -16,6 +19,29 @@ pub enum Refusal {
     ScratchShort,
     OutputShort,
     BadWish,
+}
+
+impl Refusal {
+    // Its number in the table.
+    pub fn number(self) -> u32
+        ensures { λ r. ⌜ r ≡ numberOf self ⌝ }
+    {
+        match self {
+            Refusal::BadSize => 1,
+            Refusal::DamagedStore => 2,
+            Refusal::BadVersion => 3,
+            Refusal::BadLength => 4,
+            Refusal::BadDepth => 5,
+            Refusal::BrokenRules => 6,
+            Refusal::ScenesFull => 7,
+            Refusal::CellsFull => 8,
+            Refusal::NoScene => 9,
+            Refusal::Outside => 10,
+            Refusal::ScratchShort => 11,
+            Refusal::OutputShort => 12,
+            Refusal::BadWish => 13,
+        }
+    }
 }
 
 // New store.

@@ -1,0 +1,58 @@
+-- `detail::for_sight` meets its contract: the code's two range tests are the rule's.
+-- Each way is one of the rule's. Assumes nothing.
+use mathlib.Core.Path.{_≡_, sym, ap, ap₂, _∙_, subst}
+use mathlib.Core.Bool.{Bool, true, _&&_}
+use mathlib.Core.List.{[]}
+use Prim.Native.Nat.{ℕ}
+use lib.Dec.{T}
+use native.Mathlib.Omega.{arith}
+use borrow.Author.Needs.{needs}
+use Rattle.paper.specs.Answers.{outcome, chosen}
+use Rattle.paper.specs.Detail.{distanceOk, factorOk}
+use Rattle.paper.specs.declared.Wish.the-variants.{Distance}
+use Rattle.paper.specs.declared.Chosen.the-variants.{Height}
+use Rattle.detail.proofs.Ranges.{distance-range, factor-range}
+use Rattle.detail.proofs.Ways.{depth-in, bad-wish, in-order}
+use Rattle.detail.proofs.for_sight.Statement.{statement}
+use Rattle.detail.proofs.for_sight.Tie as tie
+
+between-requires : tie.Need-between-requires
+between-requires c κs = search needs
+
+between-requires-2 : tie.Need-between-requires-2
+between-requires-2 c κs = search needs
+
+-- the distance's test passed
+near : (c : tie.Then1) → distanceOk (c .before .before .args .sight .distance) ≡ true
+near c = sym (distance-range (c .before .before .args .sight .distance)) ∙ sym (c .before .between .ensures) ∙ c .if1 .taken
+
+-- and so did the factor's
+fair : (c : tie.Then2) → factorOk (c .before .before .before .before .args .sight .factor) ≡ true
+fair c = sym (factor-range (c .before .before .before .before .args .sight .factor)) ∙ sym (c .before .between2 .ensures) ∙ c .if2 .taken
+
+height-requires : tie.Need-height-requires
+height-requires c κs = (omega arith, (subst T (sym (fair c)) tt, subst T (sym (near (c .before .before))) tt))
+
+returns : tie.Need-returns
+returns c =
+    let s = c .before .before .before .before .before in
+    ap (λ (h : ℕ). outcome (chosen (Height h)) []) (c .height .ensures)
+    ∙ in-order (s .args .depth) (Distance (s .args .sight)) (depth-in (s .args .depth) (s .pre .0) (s .pre .1))
+    (ap₂ (λ (p q : Bool). p && q) (near (c .before .before .before)) (fair (c .before)))
+
+returns-2 : tie.Need-returns-2
+returns-2 c =
+    let s = c .before .before .before .before in
+    bad-wish (s .args .depth) (Distance (s .args .sight)) (depth-in (s .args .depth) (s .pre .0) (s .pre .1))
+    (ap₂ (λ (p q : Bool). p && q) (near (c .before .before)) (sym (factor-range (s .args .sight .factor)) ∙ sym (c .before .between2 .ensures) ∙ c .if2 .left))
+
+returns-3 : tie.Need-returns-3
+returns-3 c =
+    let s = c .before .before in
+    bad-wish (s .args .depth) (Distance (s .args .sight)) (depth-in (s .args .depth) (s .pre .0) (s .pre .1))
+    (ap (λ (p : Bool). p && factorOk (s .args .sight .factor)) (sym (distance-range (s .args .sight .distance)) ∙ sym (c .before .between .ensures) ∙ c .if1 .left))
+
+pub for-sight-spec : {M : Type 1} → statement M
+for-sight-spec =
+    tie.close
+    (tie.spec between-requires between-requires-2 height-requires returns returns-2 returns-3)

@@ -1,0 +1,6 @@
+pub mod OutlineLists
+pub mod OutlineLeaves
+pub mod OutlineCells
+pub mod OutlineWriting
+pub mod OutlineReading
+pub mod Outlines

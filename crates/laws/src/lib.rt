@@ -1,0 +1,1 @@
+// The laws of the paper's definitions: proofs only, no code.

@@ -1,0 +1,191 @@
+-- The claims C1 to C11, the demands of the mission, as types. This file states all and proves none; docs/READING.md says where each is proved.
+-- A claim that speaks of a call speaks of its outcome function (Calls, Detail); the promise of the call ties the code to that function.
+use mathlib.Core.Bool.{Bool, true, false}
+use mathlib.Core.List.{List, [], _∷_}
+use mathlib.Core.Option.{some}
+use mathlib.Core.Logic.{_↔_}
+use mathlib.Core.Path.{_≡_}
+use Prim.Native.Nat.{ℕ, suc, _-_, _*_, _<_, _≤_, _^_}
+use lib.Bits.{bitXor}
+use lib.Dec.{T}
+use lib.Ieee.{Float, binary64, fits, le}
+use lib.Ieee.Exact.{HasValue}
+use lib.Ieee.Positive.{num, den}
+use lib.ListN.{length, take, drop, getD}
+use Rattle.paper.specs.Numbers.{allIn, bitFor}
+use Rattle.paper.specs.Rooms.{Point, Room, deepest, depthOk, Inside, cellOf, childRoom, mirror, mirrored, Same, Image, boxCount, nonEmpty}
+use Rattle.paper.specs.Outline.{edge, IsOutline, outlineOf, fileDepth, fileRoom}
+use Rattle.paper.specs.Store.{capacityOf, scenesHeld, keptOf, cellsAt, cellAt}
+use Rattle.paper.specs.Match.{matches}
+use Rattle.paper.specs.Packed.{proper, packedRoom, packedPath}
+use Rattle.paper.specs.Answers.{Outcome, told, outcome}
+use Rattle.paper.specs.Order.{firstOf}
+use Rattle.paper.specs.Detail.{factorOk, distanceOk, reaches, doubled}
+use Rattle.paper.specs.Calls.{over, cleared, nextScene, scenesFull, outlineOrder, addOutcome, voxelOutcome, cellOutcome, boxOutcome, keptOutcome, outlineOutcome, scratchFor, packBytes, packOutcome, checkOutcome, packedVoxelOutcome, openOutcome, askOutcome}
+use Rattle.paper.specs.Runs.{Call, Bytes, Given, outcomeOf, wordsAfter, besides, Scene, sceneOf, holding, State, Reached, Occurs, Outnumbered, Number, keptRoom, usedBy}
+use Rattle.paper.specs.Samples.{samples, holds}
+
+-- ---- C1, mirror laws, once over the edge
+
+pub record C1 : Type 0 where
+  -- a mirror twice is nothing
+  pub twice : (t S : ℕ) (v : Point) → Inside S v → mirror t S (mirror t S v) ≡ v
+  -- two in a row are their exclusive or
+  pub in-a-row : (t u S : ℕ) (v : Point) → t < 8 → u < 8 → Inside S v → mirror t S (mirror u S v) ≡ mirror (bitXor t u) S v
+  -- child i of a mirrored cell is the mirrored child (i xor t); S is the children's edge
+  pub child : (t i S : ℕ) (r : Room) → t < 8 → i < 8 → Same S (childRoom S i (mirrored t (2 * S) r)) (mirrored t S (childRoom S (bitXor i t) r))
+
+-- ---- C2, one room for each file
+
+-- refused by 3, 4, 5 or 6, or by none
+abbrev pub outlineRefusal : List ℕ → ℕ
+outlineRefusal bs = firstOf (outlineOrder bs)
+
+pub record C2 : Type 0 where
+  -- two outlines of one depth that mean the same room are the same bytes
+  pub one-file : (D : ℕ) (r r′ : Room) (bs bs′ : List ℕ) → IsOutline bs D r → IsOutline bs′ D r′ → Same (2 ^ D) r r′ → bs ≡ bs′
+  -- and a file means one room
+  pub one-room : (D D′ : ℕ) (r r′ : Room) (bs : List ℕ) → IsOutline bs D r → IsOutline bs D′ r′ → (D ≡ D′) × Same (2 ^ D) r r′
+  -- a file is refused exactly when it is no room's outline
+  pub refused : (bs : List ℕ) → Bytes bs → (outlineRefusal bs ≡ 0) ↔ ((D : ℕ) × (r : Room) × IsOutline bs D r)
+  -- what is written for a room is read back as that room
+  pub read-back : (bs : List ℕ) (D : ℕ) (r : Room) → IsOutline bs D r → (fileDepth bs ≡ D) × Same (2 ^ D) (fileRoom bs) r
+  -- and what was read is written back byte for byte
+  pub written-back : (bs : List ℕ) → Bytes bs → outlineRefusal bs ≡ 0 → outlineOf (fileDepth bs) (fileRoom bs) ≡ bs
+
+-- ---- C3, the match rule agrees with the voxels, on every store that only the calls wrote
+
+pub record MatchesVoxels (s : State) : Type 0 where
+  pub agree : (k a b t : ℕ) → a < length (cellsAt (keptOf (s .words)) k) → b < length (cellsAt (keptOf (s .words)) k) → t < 8
+      → (matches (keptOf (s .words)) k (cellAt (keptOf (s .words)) k a) (cellAt (keptOf (s .words)) k b) t ≡ true)
+      ↔ Same (edge k) (keptRoom (s .words) k a) (mirrored t (edge k) (keptRoom (s .words) k b))
+
+abbrev pub C3 : Type 0
+C3 = (s : State) → Reached s → MatchesVoxels s
+
+-- ---- C4, demand 3, after any list of calls on a new store
+
+pub record Demand3 (s : State) : Type 0 where
+  -- (a) no call answers 2
+  pub undamaged : (c : Call) → Given c → ¬ (outcomeOf (s .words) c .number ≡ 2)
+  -- (b) no two kept cells of one height are images
+  pub apart : (k q r : ℕ) → r < q → q < length (cellsAt (keptOf (s .words)) k) → ¬ Image (edge k) (keptRoom (s .words) k q) (keptRoom (s .words) k r)
+  -- (c) every kept cell occurs in an accepted scene, itself, unmirrored, at an aligned place
+  pub occur : (k q : ℕ) → q < length (cellsAt (keptOf (s .words)) k) → Occurs (s .held) (suc (suc k)) (keptRoom (s .words) k q)
+  -- (d) each accepted scene answers every voxel as its outline does
+  pub voxels : (n : ℕ) (sc : Scene) (v : Point) → s .held n ≡ some sc → Inside (2 ^ sc .depth) v
+      → voxelOutcome (s .words) n v ≡ outcome (told 0 (bitFor (sc .room v) ∷ [])) []
+  -- (e) an outline that meets no earlier refusal is refused by 8 exactly when the cells of the accepted scenes and its own outnumber C
+  pub capacity : (file : List ℕ) → Bytes file → outlineRefusal file ≡ 0 → scenesFull (s .words) ≡ false
+      → (addOutcome (s .words) file .number ≡ 8) ↔ Outnumbered (holding (nextScene (s .words)) (sceneOf file) (s .held)) (capacityOf (s .words))
+  -- (f) kept at h answers the number of differing non-empty cells of height h in the accepted scenes, images counted once
+  pub kept : (h : ℕ) → T (depthOk h) → (n : ℕ) × (keptOutcome (s .words) h ≡ outcome (told 0 (n ∷ [])) []) × Number (s .held) h n
+  -- the scenes held are those below the count, so that a number is never given twice
+  pub numbers : (n : ℕ) → (n < scenesHeld (s .words)) ↔ ((sc : Scene) × (s .held n ≡ some sc))
+
+abbrev pub C4 : Type 0
+C4 = (s : State) → Reached s → Demand3 s
+
+-- ---- C5, answers are the room's (demand 2), on such a store; of voxels it is (d) above
+
+pub record AnswersAreTheRooms (s : State) : Type 0 where
+  -- the cell of height h at c
+  pub cells : (n : ℕ) (sc : Scene) (h : ℕ) (c : Point) → s .held n ≡ some sc → h ≤ sc .depth → Inside (2 ^ (sc .depth - h)) c
+      → cellOutcome (s .words) n h c ≡ outcome (told 0 (bitFor (nonEmpty (2 ^ h) (cellOf (sc .room) h c)) ∷ [])) []
+  -- the box from low to high
+  pub boxes : (n : ℕ) (sc : Scene) (low high : Point) → s .held n ≡ some sc
+      → (low .x ≤ high .x) × (high .x ≤ 2 ^ sc .depth) × (low .y ≤ high .y) × (high .y ≤ 2 ^ sc .depth) × (low .z ≤ high .z) × (high .z ≤ 2 ^ sc .depth)
+      → boxOutcome (s .words) n low high ≡ outcome (told 0 (boxCount (2 ^ sc .depth) (sc .room) low high ∷ [])) []
+  -- outline out gives the file that came
+  pub outlines : (n : ℕ) (sc : Scene) (out : List ℕ) → s .held n ≡ some sc → length (sc .file) ≤ length out
+      → outlineOutcome (s .words) n out ≡ outcome (told 0 (length (sc .file) ∷ [])) (over (sc .file) out ∷ [])
+
+abbrev pub C5 : Type 0
+C5 = (s : State) → Reached s → AnswersAreTheRooms s
+
+-- ---- C6, packing, on such a store: of every accepted scene, with `file` what pack writes for it
+
+pub record Packs (s : State) (n : ℕ) (sc : Scene) (file : List ℕ) : Type 0 where
+  -- it is written, into scratch and output that hold it
+  pub written : (scratch out : List ℕ) → scratchFor (s .words) ≤ length scratch → length file ≤ length out
+      → packOutcome (s .words) n scratch out ≡ outcome (told 0 (length file ∷ [])) (cleared (scratchFor (s .words)) scratch ∷ over file out ∷ [])
+  -- it is proper, and means that room
+  pub isProper : proper file ≡ true
+  pub depth : fileDepth file ≡ sc .depth
+  pub means : Same (2 ^ sc .depth) (packedRoom file) (sc .room)
+  -- check accepts it
+  pub checks : (scratch : List ℕ) → length file ≤ length scratch
+      → checkOutcome file scratch ≡ outcome (told 0 (sc .depth ∷ [])) (cleared (length file) scratch ∷ [])
+  -- packed voxel on it gives the room's voxel
+  pub voxels : (v : Point) → Inside (2 ^ sc .depth) v
+      → packedVoxelOutcome file v ≡ outcome (told 0 (bitFor (sc .room v) ∷ packedPath file v ∷ [])) []
+
+abbrev pub C6 : Type 0
+C6 = (s : State) → Reached s → (n : ℕ) (sc : Scene) → s .held n ≡ some sc → Packs s n sc (packBytes (s .words) n)
+
+-- ---- C7, proper files
+
+pub record C7 : Type 0 where
+  -- check answers 0 exactly on proper files (with scratch enough to look)
+  pub checked : (file scratch : List ℕ) → Bytes file → (checkOutcome file scratch .number ≡ 0) ↔ ((proper file ≡ true) × (length file ≤ length scratch))
+  -- on a proper file the packed voxel never refuses a point inside, gives the voxel of the room that the file means, and its number of records
+  -- is the length of the path in the definition
+  pub asked : (file : List ℕ) (v : Point) → Bytes file → proper file ≡ true → Inside (2 ^ fileDepth file) v
+      → packedVoxelOutcome file v ≡ outcome (told 0 (bitFor (packedRoom file v) ∷ packedPath file v ∷ [])) []
+
+-- ---- C8, opened scenes
+
+pub record C8 : Type 0 where
+  -- a question on an opened scene answers as the packed voxel on its bytes
+  pub asked : (file part starts : List ℕ) (D : ℕ) (v : Point) → openOutcome file ≡ outcome (told 0 (D ∷ starts)) (part ∷ [])
+      → (part ≡ file) × (askOutcome part D starts v ≡ packedVoxelOutcome file v)
+  -- and one on a refused opening is refused by 6
+  pub refused : (file part starts : List ℕ) (n D : ℕ) (v : Point) → openOutcome file ≡ outcome (told (suc n) (D ∷ starts)) (part ∷ [])
+      → (part ≡ []) × (askOutcome part D starts v ≡ outcome (told 6 (0 ∷ 0 ∷ [])) [])
+
+-- ---- C9, detail: the floats that the code compares, against whole numbers
+
+pub record C9 : Type 0 where
+  -- doubling the factor, an f64, up to 16 times loses nothing
+  pub exact : (h : ℕ) (f : Float) → h ≤ deepest → T (fits binary64 f) → T (factorOk f) → HasValue (doubled h f) false (2 ^ h * num f) (den f)
+  -- so comparing the doubled factor with the distance compares the exact values
+  pub compared : (h : ℕ) (f d : Float) → h ≤ deepest → T (fits binary64 f) → T (factorOk f) → T (distanceOk d)
+      → le (doubled h f) d ≡ reaches (num f) (den f) d h
+
+-- ---- C10, samples: S1 to S12, one list
+
+abbrev pub C10 : Type 0
+C10 = allIn holds samples ≡ true
+
+-- ---- C11, what is not looked at
+
+-- two stores that agree on the words used give the same answer and the same used words afterwards, and each keeps its own rest
+pub record SameAnswer (c : Call) (ws ws′ : List ℕ) : Type 0 where
+  pub number : outcomeOf ws c .number ≡ outcomeOf ws′ c .number
+  pub values : outcomeOf ws c .values ≡ outcomeOf ws′ c .values
+  pub lent : besides ws c ≡ besides ws′ c
+  pub first : take (usedBy ws c) (wordsAfter ws c) ≡ take (usedBy ws c) (wordsAfter ws′ c)
+  pub rest : drop (usedBy ws c) (wordsAfter ws c) ≡ drop (usedBy ws c) ws
+  pub rest′ : drop (usedBy ws c) (wordsAfter ws′ c) ≡ drop (usedBy ws c) ws′
+
+-- two outcomes that differ only where a slice lent to them kept what it held: the same number and values, and the same m elements at the front
+pub record SameBut (m : ℕ) (o o′ : Outcome) (was was′ : List ℕ) (i : ℕ) : Type 0 where
+  pub number : o .number ≡ o′ .number
+  pub values : o .values ≡ o′ .values
+  pub front : take m (getD (o .lent) i []) ≡ take m (getD (o′ .lent) i [])
+  pub kept : drop m (getD (o .lent) i []) ≡ drop m was
+  pub kept′ : drop m (getD (o′ .lent) i []) ≡ drop m was′
+
+-- the length written, 0 on a refusal
+abbrev pub lengthIn : Outcome → ℕ
+lengthIn o = getD (o .values) 0 0
+
+pub record C11 : Type 0 where
+  pub stores : (c : Call) (ws ws′ : List ℕ) → take (usedBy ws c) ws ≡ take (usedBy ws c) ws′ → SameAnswer c ws ws′
+  -- outline out, pack and check answer alike whatever output and scratch held before
+  pub outlines : (ws : List ℕ) (n : ℕ) (out out′ : List ℕ) → length out ≡ length out′
+      → SameBut (lengthIn (outlineOutcome ws n out)) (outlineOutcome ws n out) (outlineOutcome ws n out′) out out′ 0
+  pub packs : (ws : List ℕ) (n : ℕ) (scratch scratch′ out out′ : List ℕ) → length scratch ≡ length scratch′ → length out ≡ length out′
+      → SameBut (lengthIn (packOutcome ws n scratch out)) (packOutcome ws n scratch out) (packOutcome ws n scratch′ out′) out out′ 1
+  pub checks : (file scratch scratch′ : List ℕ) → length scratch ≡ length scratch′
+      → (checkOutcome file scratch .number ≡ checkOutcome file scratch′ .number) × (checkOutcome file scratch .values ≡ checkOutcome file scratch′ .values)
