@@ -4,3 +4,4 @@ pub mod OutlineCells
 pub mod OutlineWriting
 pub mod OutlineReading
 pub mod Outlines
+pub mod OutlineClaim

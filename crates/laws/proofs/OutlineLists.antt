@@ -14,6 +14,7 @@ use lib.Dec.{T, eqb, lit<}
 use lib.ListN.{length, take, drop, getD}
 use lib.Pow.{shr-shr}
 use Rattle.paper.specs.Numbers.{anyBelow, bitFor, bit, gather, bytes, be, flatten, tabulate}
+use Rattle.paper.specs.Runs.{Bytes}
 
 -- ---- tests
 
@@ -150,10 +151,6 @@ tabulate-at (suc n) a zero f d h = ap f (omega arith)
 tabulate-at (suc n) a (suc j) f d h = tabulate-at n (suc a) j f d (le-of-suc-le-suc h) ∙ ap f (omega arith)
 
 -- ---- bytes
-
--- each below 256
-abbrev pub Bytes : List ℕ → Type 0
-Bytes l = (i : ℕ) → getD l i 0 < 256
 
 pub bytes-nil : Bytes []
 bytes-nil i = lit< tt

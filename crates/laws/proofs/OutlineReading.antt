@@ -15,7 +15,8 @@ use Rattle.paper.specs.Rooms.{Room, Same, nonEmpty}
 use Rattle.paper.specs.Leaf.{leafVoxel, leafOf}
 use Rattle.paper.specs.Outline.{edge, childOf, childFull, maskOf, recordOf, Tree, none, leaf, nodeOf, treeVoxel}
 use Rattle.paper.specs.Outline.{Read, bad, ok, bind, before, readLeaf, readChildren, readRecord}
-use Rattle.laws.proofs.OutlineLists.{Bytes, bytes-take, bytes-drop, bytes-length, be-bytes, bytes-be, be-lt}
+use Rattle.paper.specs.Runs.{Bytes}
+use Rattle.laws.proofs.OutlineLists.{bytes-take, bytes-drop, bytes-length, be-bytes, bytes-be, be-lt}
 use Rattle.laws.proofs.OutlineLists.{gather-same, gather-shift, gather-some, bitFor-pos, tabulate-same, tabulate-shift}
 use Rattle.laws.proofs.OutlineLeaves.{leaf-lt, leaf-back, leaf-pos, leaf-some}
 use Rattle.laws.proofs.OutlineCells.{nonEmpty-some, some-nonEmpty, nonEmpty-same, no-voxel-empty, child-nonEmpty, node-child}

@@ -10,7 +10,8 @@ use Rattle.paper.specs.Numbers.{bitFor, bytes, flatten, tabulate}
 use Rattle.paper.specs.Rooms.{Room, Inside, Same, NonEmpty, nonEmpty, childNo, inChild}
 use Rattle.paper.specs.Leaf.{leafOf}
 use Rattle.paper.specs.Outline.{edge, childOf, childFull, maskOf, recordOf, Tree, none, leaf, nodeOf, treeVoxel}
-use Rattle.laws.proofs.OutlineLists.{Bytes, bytes-nil, bytes-cons, bytes-flatten, bytes-below}
+use Rattle.paper.specs.Runs.{Bytes}
+use Rattle.laws.proofs.OutlineLists.{bytes-nil, bytes-cons, bytes-flatten, bytes-below}
 use Rattle.laws.proofs.OutlineLists.{gather-same, gather-lt, gather-pos, bitFor-lt, tabulate-same, tabulate-at}
 use Rattle.laws.proofs.OutlineLeaves.{leaf-same, leaf-voxels}
 use Rattle.laws.proofs.OutlineCells.{nonEmpty-some, some-nonEmpty, nonEmpty-same, empty-voxel, nonEmpty-child}
