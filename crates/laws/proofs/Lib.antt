@@ -5,3 +5,4 @@ pub mod OutlineWriting
 pub mod OutlineReading
 pub mod Outlines
 pub mod OutlineClaim
+pub mod Kept
