@@ -1,0 +1,87 @@
+-- The symmetry mask of a cell: bit t is set where it matches itself under t. A cell's matching and its own mask need its children's masks only,
+-- the mask is odd, and cells that match have one mask. By the match rule, pointer by pointer. Assumes nothing.
+use mathlib.Core.Path.{_≡_, refl, sym, _∙_, ap}
+use mathlib.Core.Bool.{Bool, true, false, cond}
+use mathlib.Core.List.{List}
+use Prim.Native.Nat.{ℕ, suc, _%_, _^_, _<_}
+use native.Mathlib.Nat.{div-one}
+use borrow.Author.Tests.{eqb-true, eqb-false}
+use lib.Bits.{bitXor}
+use lib.Dec.{T, eqb, lit<}
+use lib.ListN.{getD}
+use Rattle.paper.specs.Numbers.{allBelow, bit, bitFor, gather}
+use Rattle.paper.specs.Store.{Cell, cellAt, tagOf, cellNo}
+use Rattle.paper.specs.Match.{pointerMatch, cellMatch, matches}
+use Rattle.laws.proofs.Tests.{all-same, T-true}
+use Rattle.laws.proofs.Leaves.{tests-bit, tests-lt, tests-ext}
+use Rattle.laws.proofs.Matching.{turn-lt, selfAt, LeafFits, match-self, self-same}
+
+-- ---- the mask of tests, and of a cell
+
+-- 8 bits, bit t the test at t
+unfoldable pub maskFor : (ℕ → Bool) → ℕ
+maskFor p = gather 0 8 (λ t. bitFor (p t))
+
+-- bit t of a mask, as a test
+abbrev pub marked : ℕ → ℕ → Bool
+marked m t = eqb (bit m t) 1
+
+-- the mirrors under which a cell of list k matches itself
+abbrev pub symmetries : List (List Cell) → ℕ → Cell → ℕ
+symmetries K k c = maskFor (matches K k c c)
+
+pub mask-lt : (p : ℕ → Bool) → maskFor p < 2 ^ 8
+unfolding maskFor
+mask-lt p = tests-lt p 8
+
+pub mask-bit : (p : ℕ → Bool) (t : ℕ) → t < 8 → marked (maskFor p) t ≡ p t
+unfolding maskFor
+mask-bit p t h = tests-bit p 8 t h
+
+pub mask-same : (p q : ℕ → Bool) → ((t : ℕ) → t < 8 → p t ≡ q t) → maskFor p ≡ maskFor q
+mask-same p q e = tests-ext 8 (maskFor p) (maskFor q) (mask-lt p) (mask-lt q) (λ t h. mask-bit p t h ∙ e t h ∙ sym (mask-bit q t h))
+
+-- 'matches itself' holds at 0, so the mask is odd
+pub mask-odd : (K : List (List Cell)) → ((q : ℕ) → LeafFits 0 (cellAt K 0 q)) → (k : ℕ) (c : Cell) → LeafFits k c → symmetries K k c % 2 ≡ 1
+mask-odd K fit k c h =
+    let m : ℕ = symmetries K k c in
+    ap (λ (n : ℕ). n % 2) (sym (div-one m)) ∙ eqb-true (bit m 0) 1 (mask-bit (matches K k c c) 0 (lit< tt) ∙ T-true {b = matches K k c c 0} (match-self K fit k c h))
+
+-- a cell and one that it matches have the same mask
+pub mask-match-same : (K : List (List Cell)) (k : ℕ) (a b : Cell) (t : ℕ) → t < 8 → LeafFits k a → LeafFits k b → T (matches K k a b t) → symmetries K k a ≡ symmetries K k b
+mask-match-same K k a b t ht ha hb m = mask-same (matches K k a a) (matches K k b b) (λ u hu. self-same K k a b t u ht hu ha hb m)
+
+-- ---- matching by masks
+
+-- pointers match alike by two tests of 'matches itself' that agree where the rule asks
+pub pointer-agree : (f g : ℕ → ℕ → Bool) (t p q : ℕ) → t < 8 → ((p ≡ 0 → ⊥) → (u : ℕ) → u < 8 → f (cellNo p) u ≡ g (cellNo p) u)
+    → pointerMatch f t p q ≡ pointerMatch g t p q
+unfolding pointerMatch
+pointer-agree f g t p q ht e = go (eqb p 0) refl
+  where
+    go : (b : Bool) → eqb p 0 ≡ b
+        → cond b (eqb q 0) (cond (eqb q 0) false (cond (eqb (cellNo p) (cellNo q)) (f (cellNo p) (bitXor (bitXor (tagOf p) (tagOf q)) t)) false))
+        ≡ cond b (eqb q 0) (cond (eqb q 0) false (cond (eqb (cellNo p) (cellNo q)) (g (cellNo p) (bitXor (bitXor (tagOf p) (tagOf q)) t)) false))
+    go true h = refl
+    go false h = rw (e (eqb-false p 0 h) (bitXor (bitXor (tagOf p) (tagOf q)) t) (turn-lt t p q ht))
+
+-- cell a matches b under t, ms being the masks of the cells that a's eight pointers name
+unfoldable pub maskMatch : List ℕ → Cell → Cell → ℕ → Bool
+maskMatch ms a b t = allBelow 8 (λ i. pointerMatch (λ q u. marked (getD ms i 0) u) t (getD a i 0) (getD b (bitXor i t) 0))
+
+-- ms has the masks of a's children; nothing is asked where there is none
+abbrev pub ChildMasks : List (List Cell) → ℕ → Cell → List ℕ → Type 0
+ChildMasks K k a ms = (i : ℕ) → i < 8 → (getD a i 0 ≡ 0 → ⊥) → getD ms i 0 ≡ symmetries K k (cellAt K k (cellNo (getD a i 0)))
+
+pub mask-match : (K : List (List Cell)) (k : ℕ) (a b : Cell) (ms : List ℕ) (t : ℕ) → t < 8 → ChildMasks K k a ms → maskMatch ms a b t ≡ matches K (suc k) a b t
+unfolding maskMatch matches cellMatch
+mask-match K k a b ms t ht h =
+    all-same 8 (λ i. pointerMatch (λ q u. marked (getD ms i 0) u) t (getD a i 0) (getD b (bitXor i t) 0))
+    (λ i. pointerMatch (selfAt K k) t (getD a i 0) (getD b (bitXor i t) 0))
+    (λ i hi. pointer-agree (λ q u. marked (getD ms i 0) u) (selfAt K k) t (getD a i 0) (getD b (bitXor i t) 0) ht
+    (λ ne u hu. ap (λ (m : ℕ). marked m u) (h i hi ne)
+    ∙ mask-bit (matches K k (cellAt K k (cellNo (getD a i 0))) (cellAt K k (cellNo (getD a i 0)))) u hu))
+
+-- so the cell's own mask comes from its children's
+pub mask-children : (K : List (List Cell)) (k : ℕ) (a : Cell) (ms : List ℕ) → ChildMasks K k a ms → maskFor (maskMatch ms a a) ≡ symmetries K (suc k) a
+mask-children K k a ms h = mask-same (maskMatch ms a a) (matches K (suc k) a a) (λ t ht. mask-match K k a a ms t ht h)
