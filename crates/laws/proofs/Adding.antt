@@ -144,37 +144,29 @@ fresh-trans K {K′} {K″} P by ok x f g j q h l = go (decLt q (length (cellsAt
 pub fresh-none : (K : List (List Cell)) (P : ℕ → Room → Type 0) → Fresh K K P
 fresh-none K P j q h l = absurd (omega arith)
 
-pub refused-map : {A : Type 0} {C : ℕ} {K : List (List Cell)} (P Q : ℕ → Room → Type 0) → ((j : ℕ) (r : Room) → P j r → Q j r) → Refused A C K P → Refused A C K Q
-refused-map P Q h n = record {
+-- the same refusal, seen from other lists and of another rule
+refused-with : {A : Type 0} {C : ℕ} {K K′ : List (List Cell)} (P Q : ℕ → Room → Type 0) (n : Refused A C K′ P) → Extends K (n .lists) → Fresh K (n .lists) Q
+    → Q (n .list) (cellVoxel (n .lists) (n .list) (n .cell)) → Refused A C K Q
+refused-with P Q n x f c = record {
   lists = n .lists;
   list = n .list;
   cell = n .cell;
   sound = n .sound;
-  ext = n .ext;
-  fresh = λ j q l m. h j _ (n .fresh j q l m);
+  ext = x;
+  fresh = f;
   okc = n .okc;
-  of-cell = h (n .list) _ (n .of-cell);
+  of-cell = c;
   nowhere = n .nowhere;
   no-room = n .no-room;
   invs = n .invs;
   solid = n .solid;
 }
 
+pub refused-map : {A : Type 0} {C : ℕ} {K : List (List Cell)} (P Q : ℕ → Room → Type 0) → ((j : ℕ) (r : Room) → P j r → Q j r) → Refused A C K P → Refused A C K Q
+refused-map P Q h n = refused-with P Q n (n .ext) (λ j q l m. h j _ (n .fresh j q l m)) (h (n .list) _ (n .of-cell))
+
 pub refused-after : {A : Type 0} {C : ℕ} {K K′ : List (List Cell)} (P : ℕ → Room → Type 0) → ByVoxels P → OkCells K′ → Extends K K′ → Fresh K K′ P → Refused A C K′ P → Refused A C K P
-refused-after {K = K} P by ok x f n = record {
-  lists = n .lists;
-  list = n .list;
-  cell = n .cell;
-  sound = n .sound;
-  ext = ext-trans x (n .ext);
-  fresh = fresh-trans K P by ok (n .ext) f (n .fresh);
-  okc = n .okc;
-  of-cell = n .of-cell;
-  nowhere = n .nowhere;
-  no-room = n .no-room;
-  invs = n .invs;
-  solid = n .solid;
-}
+refused-after {K = K} P by ok x f n = refused-with P P n (ext-trans x (n .ext)) (fresh-trans K P by ok (n .ext) f (n .fresh)) (n .of-cell)
 
 -- ---- adding a cell
 

@@ -6,14 +6,14 @@ use mathlib.Core.Logic.{inl, inr, _≢_}
 use Prim.Native.Nat.{ℕ, suc, _<_}
 use native.Mathlib.Nat.{le-of-suc-le-suc, eq-or-lt-of-le}
 use native.Mathlib.Decide.{ℕ-discrete}
-use native.Mathlib.Omega.{arith}
-use lib.ListN.{getD, length, set, length-append}
+use lib.ListN.{getD, length, set}
 use lib.Seq.{getD-set-same, getD-set-other, getD-append-seam}
 use Rattle.paper.specs.Rooms.{NonEmpty}
 use Rattle.paper.specs.Outline.{edge}
 use Rattle.paper.specs.Store.{Cell, cellsAt, cellAt}
 use Rattle.paper.specs.Meaning.{cellVoxel}
 use Rattle.paper.specs.Match.{matches}
+use Rattle.laws.proofs.Lists.{length-snoc}
 use Rattle.laws.proofs.Mirrors.{mirrored-sym}
 use Rattle.laws.proofs.Invariant.{OkCell, OkCells, Alike, Shape, Inv, match-complete}
 use Rattle.laws.proofs.Seeking.{Nowhere}
@@ -43,7 +43,7 @@ module _ (K : List (List Cell)) (k : ℕ) (hk : k < length K) (c : Cell) where
   keep-extends = record { more = λ j. grown j (ℕ-discrete j k); is = λ j. grown-is j (ℕ-discrete j k) }
 
   pub keep-length : length (cellsAt K⁺ k) ≡ suc (length (cellsAt K k))
-  keep-length = ap length at-k ∙ length-append (cellsAt K k) (c ∷ []) ∙ omega arith
+  keep-length = ap length at-k ∙ length-snoc (cellsAt K k) c
 
   -- under the next number
   pub keep-cell : cellAt K⁺ k (length (cellsAt K k)) ≡ c

@@ -1,15 +1,14 @@
--- Where a kept cell's words lie: cell q of list k is so many words from its place on, and a list has as many cells as its count says. By the
--- groups that a list is cut into. Assumes nothing.
+-- Where a kept cell's and a scene's words lie: cell q of list k is so many words from its place on, and a list has as many cells as its count
+-- says. By the groups that the words are cut into. Assumes nothing.
 use mathlib.Core.Path.{_≡_, refl, sym, ap, _∙_}
-use mathlib.Core.List.{List, [], _∷_}
+use mathlib.Core.List.{List, []}
 use Prim.Native.Nat.{ℕ, zero, suc, _+_, _*_, _<_}
 use native.Mathlib.Nat.{le-of-suc-le-suc, mul-zero, zero-add}
 use native.Mathlib.Omega.{arith}
 use lib.ListN.{length, take, drop, getD}
-use lib.Seq.{drop-drop}
-use Rattle.paper.specs.Numbers.{tabulate}
-use Rattle.paper.specs.Store.{Cell, heights, capacityOf, keptCount, cellWords, listPlace, cellPlace, groups, keptIn, keptOf, cellsAt, cellAt}
-use Rattle.laws.proofs.OutlineLists.{tabulate-at}
+use lib.Seq.{drop-drop, getD-take, getD-drop}
+use Rattle.paper.specs.Store.{Cell, heights, capacityOf, scenesHeld, keptCount, scenePlace, cellWords, listPlace, cellPlace, groups, keptIn, keptOf, storeOf, cellsAt, cellAt}
+use Rattle.laws.proofs.Lists.{getD-tabulate, length-tabulate}
 
 pub groups-length : (w n : ℕ) (l : List ℕ) → length (groups w n l) ≡ n
 unfolding groups
@@ -26,11 +25,24 @@ groups-at w (suc n) (suc q) l h =
 
 pub kept-list : (ws : List ℕ) (k : ℕ) → k < heights → cellsAt (keptOf ws) k ≡ keptIn ws k
 unfolding keptOf
-kept-list ws k h = tabulate-at heights 0 k (keptIn ws) [] h ∙ ap (keptIn ws) (zero-add k)
+kept-list ws k h = getD-tabulate heights 0 k (keptIn ws) [] h ∙ ap (keptIn ws) (zero-add k)
+
+pub keptIn-length : (ws : List ℕ) (k : ℕ) → length (keptIn ws k) ≡ keptCount ws k
+unfolding keptIn
+keptIn-length ws k = groups-length (cellWords k) (keptCount ws k) (drop (listPlace (capacityOf ws) k) ws)
 
 pub kept-length : (ws : List ℕ) (k : ℕ) → k < heights → length (cellsAt (keptOf ws) k) ≡ keptCount ws k
-unfolding keptIn
-kept-length ws k h = ap length (kept-list ws k h) ∙ groups-length (cellWords k) (keptCount ws k) (drop (listPlace (capacityOf ws) k) ws)
+kept-length ws k h = ap length (kept-list ws k h) ∙ keptIn-length ws k
+
+-- a list for each height
+pub kept-tall : (ws : List ℕ) → length (keptOf ws) ≡ heights
+unfolding keptOf
+kept-tall ws = length-tabulate heights 0 (keptIn ws)
+
+-- word 1 counts the scenes
+pub held-length : (ws : List ℕ) → length (storeOf ws .scenes) ≡ scenesHeld ws
+unfolding storeOf
+held-length ws = groups-length 2 (scenesHeld ws) (drop (scenePlace 0) ws)
 
 pub kept-cell : (ws : List ℕ) (k q : ℕ) → k < heights → q < keptCount ws k → cellAt (keptOf ws) k q ≡ take (cellWords k) (drop (cellPlace (capacityOf ws) k q) ws)
 unfolding keptIn
@@ -38,3 +50,12 @@ kept-cell ws k q h l =
     ap (λ (cs : List Cell). getD cs q []) (kept-list ws k h)
     ∙ groups-at (cellWords k) (keptCount ws k) q (drop (listPlace (capacityOf ws) k) ws) l
     ∙ ap (take (cellWords k)) (drop-drop (cellWords k * q) (listPlace (capacityOf ws) k) ws)
+
+-- word i of scene n
+pub scene-word : (ws : List ℕ) (n i : ℕ) → n < scenesHeld ws → i < 2 → getD (getD (storeOf ws .scenes) n []) i 0 ≡ getD ws (scenePlace n + i) 0
+unfolding storeOf
+scene-word ws n i l h =
+    let from : List ℕ = drop (scenePlace 0) ws in
+    let sum : 32 + (2 * n + i) ≡ 32 + 2 * n + i = omega arith in
+    ap (λ (c : Cell). getD c i 0) (groups-at 2 (scenesHeld ws) n from l) ∙ getD-take 2 (drop (2 * n) from) i 0 h ∙ getD-drop (2 * n) from i 0
+    ∙ getD-drop 32 ws (2 * n + i) 0 ∙ ap (λ (j : ℕ). getD ws j 0) sum

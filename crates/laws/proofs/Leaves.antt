@@ -1,91 +1,17 @@
 -- A leaf is its 64 voxels: `leafOf` and `leafVoxel` undo each other, two leaves with the same voxels are equal, and a mirrored leaf is
 -- mirrored by voxels. By the bits of a number gathered from its bits. Assumes nothing.
 use mathlib.Core.Path.{_≡_, refl, sym, _∙_, ap}
-use mathlib.Core.Bool.{Bool, true, false, false≢true}
-use mathlib.Core.Logic.{inl, inr}
-use Prim.Native.Nat.{ℕ, zero, suc, _+_, _*_, _/_, _%_, _<_, _^_, zero-le, suc-le-suc}
-use native.Mathlib.Nat.{le-of-suc-le-suc, not-suc-le-zero, mod-lt, zero-add, add-zero, zero-div, eq-or-lt-of-le}
-use native.Mathlib.Numerals.{one-add}
+use mathlib.Core.Bool.{false, false≢true}
+use Prim.Native.Nat.{ℕ, zero, suc, _/_, _%_, _<_, _^_, zero-le, suc-le-suc}
+use native.Mathlib.Nat.{zero-div}
 use native.Mathlib.Omega.{arith}
 use lib.Bits.{bitXor, xor-comm}
-use lib.Dec.{eqb, lit<}
-use lib.Pow.{shr-shr}
-use Rattle.paper.specs.Numbers.{bit, bitFor, gather}
+use lib.Dec.{eqb}
+use Rattle.paper.specs.Numbers.{bit}
 use Rattle.paper.specs.Rooms.{Point, point, Room, Inside, mirror, mirrored, Same, NonEmpty}
 use Rattle.paper.specs.Leaf.{bitOf, voxelOf, leafVoxel, leafOf, mirrorLeaf}
+use Rattle.laws.proofs.Bits.{some-bit, tests-bit, tests-lt, tests-ext}
 use Rattle.laws.proofs.Mirrors.{mirror-mirror, same-mirrored}
-
--- ---- bits of a number
-
-pub bit-lt : (n k : ℕ) → bit n k < 2
-bit-lt n k = mod-lt (n / 2 ^ k) (suc-le-suc zero-le)
-
-pub bit-suc : (n j : ℕ) → bit n (suc j) ≡ bit (n / 2) j
-bit-suc n j = ap (λ (x : ℕ). x % 2) (ap (λ (x : ℕ). n / 2 ^ x) (sym (one-add j)) ∙ sym (shr-shr n 1 j))
-
--- equal bits, equal numbers
-pub bits-ext : (w a b : ℕ) → a < 2 ^ w → b < 2 ^ w → ((k : ℕ) → k < w → bit a k ≡ bit b k) → a ≡ b
-bits-ext zero a b ha hb e = omega arith
-bits-ext (suc w) a b ha hb e =
-    let ih : a / 2 ≡ b / 2 = bits-ext w (a / 2) (b / 2) (omega arith) (omega arith) (λ k h. sym (bit-suc a k) ∙ e (suc k) (suc-le-suc h) ∙ bit-suc b k) in
-    omega (arith, e 0 (suc-le-suc zero-le))
-
--- a set bit of a number that is not 0
-pub some-bit : (w n : ℕ) → n < 2 ^ w → 0 < n → (k : ℕ) × (k < w) × (bit n k ≡ 1)
-some-bit zero n h p = absurd (omega arith)
-some-bit (suc w) n h p =
-    elim (eq-or-lt-of-le (le-of-suc-le-suc (bit-lt n 0))) [
-      | inl e ↦ (0, suc-le-suc zero-le, e)
-      | inr l ↦
-          let r : (k : ℕ) × (k < w) × (bit (n / 2) k ≡ 1) = some-bit w (n / 2) (omega arith) (omega arith) in
-          (suc (r .0), suc-le-suc (r .1), bit-suc n (r .0) ∙ r .2)
-    ]
-
--- ---- a number gathered from bits
-
-pub gather-bit : (f : ℕ → ℕ) → ((i : ℕ) → f i < 2) → (n k j : ℕ) → j < n → bit (gather k n f) j ≡ f (k + j)
-unfolding gather
-gather-bit f hf zero k j h = absurd (not-suc-le-zero h)
-gather-bit f hf (suc n) k zero h = rw add-zero (omega (arith, hf k))
-gather-bit f hf (suc n) k (suc j) h =
-    let half : (f k + 2 * gather (suc k) n f) / 2 ≡ gather (suc k) n f = omega (arith, hf k) in
-    bit-suc (f k + 2 * gather (suc k) n f) j ∙ ap (λ (x : ℕ). bit x j) half
-    ∙ gather-bit f hf n (suc k) j (le-of-suc-le-suc h) ∙ ap f (omega arith)
-
-pub gather-lt : (f : ℕ → ℕ) → ((i : ℕ) → f i < 2) → (n k : ℕ) → gather k n f < 2 ^ n
-unfolding gather
-gather-lt f hf zero k = lit< tt
-gather-lt f hf (suc n) k = omega (arith, hf k, gather-lt f hf n (suc k))
-
--- gathered from tests: each bit is its test
-bitFor-lt : (b : Bool) → bitFor b < 2
-bitFor-lt true = lit< tt
-bitFor-lt false = lit< tt
-
-bitFor-is : (b : Bool) → eqb (bitFor b) 1 ≡ b
-bitFor-is true = refl
-bitFor-is false = refl
-
-pub tests-bit : (p : ℕ → Bool) (n k : ℕ) → k < n → eqb (bit (gather 0 n (λ i. bitFor (p i))) k) 1 ≡ p k
-tests-bit p n k h =
-    let f : ℕ → ℕ = λ i. bitFor (p i) in
-    ap (λ (m : ℕ). eqb m 1) (gather-bit f (λ i. bitFor-lt (p i)) n 0 k h ∙ ap f (zero-add k)) ∙ bitFor-is (p k)
-
-pub tests-lt : (p : ℕ → Bool) (n : ℕ) → gather 0 n (λ i. bitFor (p i)) < 2 ^ n
-tests-lt p n = gather-lt (λ i. bitFor (p i)) (λ i. bitFor-lt (p i)) n 0
-
-eqb-bits : (p q : ℕ) → p < 2 → q < 2 → eqb p 1 ≡ eqb q 1 → p ≡ q
-eqb-bits zero zero hp hq e = refl
-eqb-bits zero (suc zero) hp hq e = absurd (false≢true e)
-eqb-bits (suc zero) zero hp hq e = absurd (false≢true (sym e))
-eqb-bits (suc zero) (suc zero) hp hq e = refl
-eqb-bits zero (suc (suc q)) hp hq e = absurd (omega arith)
-eqb-bits (suc zero) (suc (suc q)) hp hq e = absurd (omega arith)
-eqb-bits (suc (suc p)) q hp hq e = absurd (omega arith)
-
--- numbers whose bits pass the same tests are equal
-pub tests-ext : (w a b : ℕ) → a < 2 ^ w → b < 2 ^ w → ((k : ℕ) → k < w → eqb (bit a k) 1 ≡ eqb (bit b k) 1) → a ≡ b
-tests-ext w a b ha hb e = bits-ext w a b ha hb (λ k h. eqb-bits (bit a k) (bit b k) (bit-lt a k) (bit-lt b k) (e k h))
 
 -- ---- a voxel and its bit
 

@@ -1,9 +1,29 @@
+-- tests and lists, numbers and their bits and bytes
 pub mod Tests
 pub mod Lists
+pub mod Bits
+pub mod Bytes
+pub mod Put
+-- mirrors, leaves, trees
 pub mod Eight
 pub mod Mirrors
 pub mod Leaves
 pub mod Trees
+-- outlines
+pub mod Orders
+pub mod OutlineCells
+pub mod OutlineWriting
+pub mod OutlineReading
+pub mod OutlineFits
+pub mod Outlines
+pub mod OutlineClaim
+-- words
+pub mod Kept
+pub mod Padded
+pub mod Words
+pub mod Undamaged
+pub mod SoundWords
+-- matching and adding
 pub mod Matching
 pub mod Invariant
 pub mod Masks
@@ -16,14 +36,10 @@ pub mod Adding
 pub mod AddingTrees
 pub mod Capacity
 pub mod Counting
-pub mod Words
-pub mod Undamaged
+pub mod AddingFine
 pub mod Places
-pub mod OutlineLists
-pub mod OutlineLeaves
-pub mod OutlineCells
-pub mod OutlineWriting
-pub mod OutlineReading
-pub mod Outlines
-pub mod OutlineClaim
-pub mod Kept
+-- what is not looked at
+pub mod UnseenWords
+pub mod UnseenAnswers
+pub mod UnseenWrites
+pub mod Unseen

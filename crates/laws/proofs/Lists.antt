@@ -1,14 +1,14 @@
 -- Tests over lists, numbers found in lists, maps and tables: what each says of the list's elements by number. By induction on the list or on the
 -- number of elements. Assumes nothing.
-use mathlib.Core.Path.{_≡_, refl, _∙_, ap}
+use mathlib.Core.Path.{_≡_, refl, sym, _∙_, ap, ap₂}
 use mathlib.Core.Bool.{Bool, true, false, cond}
-use mathlib.Core.List.{List, [], _∷_, map}
+use mathlib.Core.List.{List, [], _∷_, _++_, map}
 use Prim.Native.Nat.{ℕ, zero, suc, _+_, _<_}
 use native.Mathlib.Nat.{le-of-suc-le-suc, not-suc-le-zero}
 use native.Mathlib.Omega.{arith}
 use borrow.Author.Tests.{eq-eqb, eqb-true}
-use lib.Dec.{T, eqb}
-use lib.ListN.{length, getD}
+use lib.Dec.{T, eqb, eqb→eq}
+use lib.ListN.{length, getD, replicate}
 use Rattle.paper.specs.Numbers.{count, tabulate, allIn, isIn, indexIn}
 use Rattle.laws.proofs.Tests.{T-true}
 
@@ -81,6 +81,12 @@ index-getD l once q h =
     let a : At (getD l q 0) l = isIn-at (getD l q 0) l (isIn-getD l q h) in
     once (indexIn (getD l q 0) l) q (a .inside) h (a .is)
 
+-- ---- one more at the end
+
+pub length-snoc {ℓ} : {A : Type ℓ} (l : List A) (x : A) → length (l ++ (x ∷ [])) ≡ suc (length l)
+length-snoc [] x = refl
+length-snoc (y ∷ l) x = ap suc (length-snoc l x)
+
 -- ---- maps
 
 pub map-at : {A B : Type 0} (f : A → B) (l : List A) (i : ℕ) (d : A) (e : B) → i < length l → getD (map f l) i e ≡ f (getD l i d)
@@ -106,6 +112,16 @@ unfolding tabulate
 length-tabulate zero a f = refl
 length-tabulate (suc n) a f = ap suc (length-tabulate n (suc a) f)
 
+pub tabulate-same : {A : Type 0} (a n : ℕ) (f g : ℕ → A) → ((j : ℕ) → j < a + n → f j ≡ g j) → tabulate a n f ≡ tabulate a n g
+unfolding tabulate
+tabulate-same a zero f g e = refl
+tabulate-same a (suc n) f g e = ap₂ _∷_ (e a (omega arith)) (tabulate-same (suc a) n f g (λ j h. e j (omega arith)))
+
+pub tabulate-shift : {A : Type 0} (a n : ℕ) (f : ℕ → A) → tabulate (suc a) n f ≡ tabulate a n (λ i. f (suc i))
+unfolding tabulate
+tabulate-shift a zero f = refl
+tabulate-shift a (suc n) f = ap (_∷_ (f (suc a))) (tabulate-shift (suc a) n f)
+
 pub length-count : (n a : ℕ) → length (count a n) ≡ n
 unfolding count
 length-count zero a = refl
@@ -116,3 +132,14 @@ unfolding count
 getD-count zero a j h = absurd (not-suc-le-zero h)
 getD-count (suc n) a zero h = omega arith
 getD-count (suc n) a (suc j) h = getD-count n (suc a) j (le-of-suc-le-suc h) ∙ omega arith
+
+-- ---- zeros
+
+pub zeros-of : (l : List ℕ) → T (allIn (eqb 0) l) → l ≡ replicate (length l) 0
+zeros-of [] t = refl
+zeros-of (x ∷ l) t = ap₂ _∷_ (sym (eqb→eq 0 x (allIn-head (eqb 0) x l t))) (zeros-of l (allIn-tail (eqb 0) x l t))
+
+pub zeros-pass : (n : ℕ) → allIn (eqb 0) (replicate n 0) ≡ true
+unfolding allIn
+zeros-pass zero = refl
+zeros-pass (suc n) = zeros-pass n

@@ -13,7 +13,7 @@ use Rattle.paper.specs.Numbers.{allBelow, bit, bitFor, gather}
 use Rattle.paper.specs.Store.{Cell, cellAt, tagOf, cellNo}
 use Rattle.paper.specs.Match.{pointerMatch, cellMatch, matches}
 use Rattle.laws.proofs.Tests.{all-same, T-true}
-use Rattle.laws.proofs.Leaves.{tests-bit, tests-lt, tests-ext}
+use Rattle.laws.proofs.Bits.{tests-bit, tests-lt, tests-ext}
 use Rattle.laws.proofs.Matching.{turn-lt, selfAt, LeafFits, match-self, self-same}
 
 -- ---- the mask of tests, and of a cell

@@ -1,46 +1,47 @@
 -- Claim C2, one room for each file: the refusals 3, 4, 5 and 6 are none exactly where the four tests of a file pass, and the rest are the laws of
--- outlines. By cases on each test. Assumes nothing.
-use mathlib.Core.Path.{_≡_, refl}
-use mathlib.Core.Bool.{Bool, true, false, not}
-use mathlib.Core.List.{List, [], _∷_}
+-- outlines. By the order of the tests. Assumes nothing.
+use mathlib.Core.Path.{_≡_, ap}
+use mathlib.Core.Bool.{Bool, false, not}
+use mathlib.Core.List.{List, [], _++_}
 use Prim.Native.Nat.{ℕ}
+use borrow.Author.Tests.{not-false}
 use lib.Dec.{T}
-use native.Mathlib.Nat.{suc-ne-zero}
-use Rattle.paper.specs.Rooms.{depthOk, Room}
-use Rattle.paper.specs.Outline.{outlineFront, outlineHead, frontOk, lengthOk, fileDepth, outlineRules, IsOutline}
-use Rattle.paper.specs.Order.{Test, when, firstOf}
-use Rattle.paper.specs.Runs.{Bytes}
+use Rattle.paper.specs.Rooms.{depthOk}
+use Rattle.paper.specs.Outline.{outlineFront, outlineHead, frontOk, lengthOk, fileDepth, outlineRules}
+use Rattle.paper.specs.Order.{Test, firstOf}
+use Rattle.paper.specs.Calls.{outlineOrder}
 use Rattle.paper.specs.Claims.{outlineRefusal, C2}
-use Rattle.laws.proofs.Outlines.{Accepted, accepted-exactly, outline-accepted, same-room-same-bytes, same-bytes-same-room, outline-depth, outline-room, read-written}
+use Rattle.laws.proofs.Tests.{T-true, true-T}
+use Rattle.laws.proofs.Orders.{none-passed, no-tests, first-failed}
+use Rattle.laws.proofs.Outlines.{Accepted, accepted-exactly, same-room-same-bytes, same-bytes-same-room, outline-depth, outline-room, read-written}
 
--- four tests in a row
-abbrev four : Bool → Bool → Bool → Bool → ℕ
-four a b c d = firstOf (when (not a) 3 ∷ when (not b) 4 ∷ when (not c) 5 ∷ when (not d) 6 ∷ [])
-
-all-pass : (a b c d : Bool) → four a b c d ≡ 0 → T a × T b × T c × T d
-unfolding firstOf
-all-pass true true true true e = (tt, tt, tt, tt)
-all-pass true true true false e = absurd (suc-ne-zero 5 e)
-all-pass true true false d e = absurd (suc-ne-zero 4 e)
-all-pass true false c d e = absurd (suc-ne-zero 3 e)
-all-pass false b c d e = absurd (suc-ne-zero 2 e)
-
-none-first : (a b c d : Bool) → T a → T b → T c → T d → four a b c d ≡ 0
-unfolding firstOf
-none-first true true true true p q r s = refl
-none-first true true true false p q r s = absurd s
-none-first true true false d p q r s = absurd r
-none-first true false c d p q r s = absurd q
-none-first false b c d p q r s = absurd p
+-- the tests of a file, others following
+pub file-accepted : (bs : List ℕ) (ts : List Test) → firstOf (outlineOrder bs ++ ts) ≡ 0 → Accepted bs × (firstOf ts ≡ 0)
+file-accepted bs ts e =
+    let a = none-passed (not (frontOk outlineFront bs)) 2 _ e in
+    let b = none-passed (not (lengthOk outlineHead bs)) 3 _ (a .1) in
+    let c = none-passed (not (depthOk (fileDepth bs))) 4 _ (b .1) in
+    let d = none-passed (not (outlineRules bs)) 5 ts (c .1) in
+    let pass : (t : Bool) → not t ≡ false → T t = λ t n. true-T (not-false t n) in (
+      record {
+        front = pass (frontOk outlineFront bs) (a .0);
+        long = pass (lengthOk outlineHead bs) (b .0);
+        deep = pass (depthOk (fileDepth bs)) (c .0);
+        rules = pass (outlineRules bs) (d .0);
+      },
+      d .1,
+    )
 
 pub refusal-none : (bs : List ℕ) → outlineRefusal bs ≡ 0 → Accepted bs
-refusal-none bs e =
-    let p = all-pass (frontOk outlineFront bs) (lengthOk outlineHead bs) (depthOk (fileDepth bs)) (outlineRules bs) e in
-    record { front = p .0; long = p .1; deep = p .2; rules = p .3 }
+refusal-none bs e = file-accepted bs [] e .0
 
 pub none-refusal : (bs : List ℕ) → Accepted bs → outlineRefusal bs ≡ 0
 none-refusal bs a =
-    none-first (frontOk outlineFront bs) (lengthOk outlineHead bs) (depthOk (fileDepth bs)) (outlineRules bs) (a .front) (a .long) (a .deep) (a .rules)
+    let failed : (t : Bool) → T t → not t ≡ false = λ t p. ap not (T-true {b = t} p) in
+    first-failed (not (frontOk outlineFront bs)) 3 _ (failed (frontOk outlineFront bs) (a .front))
+    (first-failed (not (lengthOk outlineHead bs)) 4 _ (failed (lengthOk outlineHead bs) (a .long))
+    (first-failed (not (depthOk (fileDepth bs))) 5 _ (failed (depthOk (fileDepth bs)) (a .deep))
+    (first-failed (not (outlineRules bs)) 6 [] (failed (outlineRules bs) (a .rules)) no-tests)))
 
 pub claim2 : C2
 claim2 = record {

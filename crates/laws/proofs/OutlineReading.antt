@@ -16,9 +16,10 @@ use Rattle.paper.specs.Leaf.{leafVoxel, leafOf}
 use Rattle.paper.specs.Outline.{edge, childOf, childFull, maskOf, recordOf, Tree, none, leaf, nodeOf, treeVoxel}
 use Rattle.paper.specs.Outline.{Read, bad, ok, bind, before, readLeaf, readChildren, readRecord}
 use Rattle.paper.specs.Runs.{Bytes}
-use Rattle.laws.proofs.OutlineLists.{bytes-take, bytes-drop, bytes-length, be-bytes, bytes-be, be-lt}
-use Rattle.laws.proofs.OutlineLists.{gather-same, gather-shift, gather-some, bitFor-pos, tabulate-same, tabulate-shift}
-use Rattle.laws.proofs.OutlineLeaves.{leaf-lt, leaf-back, leaf-pos, leaf-some}
+use Rattle.laws.proofs.Bits.{gather-same, gather-shift, gather-some, bitFor-pos}
+use Rattle.laws.proofs.Bytes.{bytes-take, bytes-drop, bytes-length, be-bytes, bytes-be, be-lt}
+use Rattle.laws.proofs.Lists.{tabulate-same, tabulate-shift}
+use Rattle.laws.proofs.Leaves.{leafOf-lt, leafOf-leafVoxel, leafOf-solid, leaf-solid}
 use Rattle.laws.proofs.OutlineCells.{nonEmpty-some, some-nonEmpty, nonEmpty-same, no-voxel-empty, child-nonEmpty, node-child}
 use Rattle.laws.proofs.OutlineWriting.{edge-twice, record-same, mask-pos, treeFor}
 
@@ -65,7 +66,7 @@ module _ (rd : List ℕ → Read Tree) (full : ℕ → Bool) (rec : ℕ → List
 
 pub record-read : (k : ℕ) (r : Room) → nonEmpty (edge k) r ≡ true → (x : List ℕ) → readRecord k (recordOf k r ++ x) ≡ ok (treeFor k r) x
 unfolding readRecord recordOf treeFor
-record-read zero r e x = leaf-read (leafOf r) x (leaf-lt r) (leaf-pos r (nonEmpty-some 4 r e))
+record-read zero r e x = leaf-read (leafOf r) x (leafOf-lt r) (leafOf-solid r (nonEmpty-some 4 r e))
 record-read (suc k) r e x =
     rw (
       ne-eqb (maskOf k r) 0 (λ q. omega (arith, mask-pos k r e)),
@@ -79,7 +80,8 @@ abbrev pub OkRead : {A : Type 0} → (A → List ℕ → Type 0) → Read A → 
 OkRead P bad = Unit {0}
 OkRead P (ok a bs) = P a bs
 
-bind-ok : {A B : Type 0} (P : A → List ℕ → Type 0) (Q : B → List ℕ → Type 0) (x : Read A) (f : A → List ℕ → Read B)
+-- what is said of the first reader's answer goes into the second
+pub bind-ok : {A B : Type 0} (P : A → List ℕ → Type 0) (Q : B → List ℕ → Type 0) (x : Read A) (f : A → List ℕ → Read B)
     → OkRead P x → ((a : A) (bs : List ℕ) → P a bs → OkRead Q (f a bs)) → OkRead Q (bind x f)
 bind-ok P Q bad f h g = tt
 bind-ok P Q (ok a bs) f h g = g a bs h
@@ -106,10 +108,11 @@ leaf-recorded bs h l ne =
     let n : ℕ = num 8 bs in
     let eight : length (take 8 bs) ≡ 8 = length-take-le 8 bs l in
     let lt : n < 1 * 256 ^ length (take 8 bs) = be-lt (take 8 bs) 0 1 (bytes-take 8 bs h) (le-refl 1) in
-    let back : leafOf (leafVoxel n) ≡ n = leaf-back n (rw eight at lt) in
+    let small : n < 2 ^ 64 = rw eight at lt in
+    let back : leafOf (leafVoxel n) ≡ n = leafOf-leafVoxel n small in
     let front : bytes 8 n ≡ take 8 bs = ap (λ (j : ℕ). bytes j n) (sym eight) ∙ bytes-be (take 8 bs) 0 (bytes-take 8 bs h) in
     record {
-      solid = some-nonEmpty 4 (leafVoxel n) (leaf-some (leafVoxel n) (rw back (omega arith)));
+      solid = some-nonEmpty 4 (leafVoxel n) (leaf-solid n small (omega arith));
       written = sym (take-append-drop 8 bs) ∙ ap (λ (l : List ℕ). l ++ drop 8 bs) (sym front ∙ ap (bytes 8) (sym back));
       after = bytes-drop 8 bs h;
     }

@@ -11,22 +11,23 @@ use Rattle.paper.specs.Rooms.{Room, Inside, Same, NonEmpty, nonEmpty, childNo, 
 use Rattle.paper.specs.Leaf.{leafOf}
 use Rattle.paper.specs.Outline.{edge, childOf, childFull, maskOf, recordOf, Tree, none, leaf, nodeOf, treeVoxel}
 use Rattle.paper.specs.Runs.{Bytes}
-use Rattle.laws.proofs.OutlineLists.{bytes-nil, bytes-cons, bytes-flatten, bytes-below}
-use Rattle.laws.proofs.OutlineLists.{gather-same, gather-lt, gather-pos, bitFor-lt, tabulate-same, tabulate-at}
-use Rattle.laws.proofs.OutlineLeaves.{leaf-same, leaf-voxels}
-use Rattle.laws.proofs.OutlineCells.{nonEmpty-some, some-nonEmpty, nonEmpty-same, empty-voxel, nonEmpty-child}
-use Rattle.laws.proofs.OutlineCells.{childNo-lt, inChild-in, child-same, child-voxel, node-voxel}
+use Rattle.laws.proofs.Bits.{gather-same, gather-pos, tests-lt}
+use Rattle.laws.proofs.Bytes.{bytes-nil, bytes-cons, bytes-flatten, bytes-below}
+use Rattle.laws.proofs.Lists.{tabulate-same, getD-tabulate}
+use Rattle.laws.proofs.Leaves.{leafOf-same, leafOf-voxels}
+use Rattle.laws.proofs.Mirrors.{childNo-lt, inChild-inside, same-children}
+use Rattle.laws.proofs.OutlineCells.{nonEmpty-some, some-nonEmpty, nonEmpty-same, empty-voxel, nonEmpty-child, child-voxel, node-voxel}
 
 -- a cell's edge is twice its children's
 pub edge-twice : (k : ℕ) → edge (suc k) ≡ 2 * edge k
 edge-twice k = pow-succ' 2 (suc (suc k))
 
 pub childOf-same : (k : ℕ) (r r′ : Room) → Same (edge (suc k)) r r′ → (i : ℕ) → Same (edge k) (childOf k r i) (childOf k r′ i)
-childOf-same k r r′ e i = child-same (edge k) i r r′ (rw (edge-twice k) at e)
+childOf-same k r r′ e = same-children (edge k) r r′ (rw (edge-twice k) at e)
 
 pub record-same : (k : ℕ) (r r′ : Room) → Same (edge k) r r′ → recordOf k r ≡ recordOf k r′
 unfolding recordOf
-record-same zero r r′ e = ap (bytes 8) (leaf-same r r′ e)
+record-same zero r r′ e = ap (bytes 8) (leafOf-same r r′ e)
 record-same (suc k) r r′ e =
     let child : (i : ℕ) → Same (edge k) (childOf k r i) (childOf k r′ i) = childOf-same k r r′ e in
     let full : (i : ℕ) → childFull k r i ≡ childFull k r′ i = λ i. nonEmpty-same (edge k) (childOf k r i) (childOf k r′ i) (child i) in
@@ -50,7 +51,7 @@ unfolding recordOf
 record-bytes zero r = bytes-below 8 (leafOf r)
 record-bytes (suc k) r =
     bytes-cons (maskOf k r) (flatten (tabulate 0 8 (λ i. cond (childFull k r i) (recordOf k (childOf k r i)) [])))
-    (gather-lt 0 8 (λ i. bitFor (childFull k r i)) (λ i. bitFor-lt (childFull k r i)))
+    (tests-lt (childFull k r) 8)
     (bytes-flatten 0 8 (λ i. cond (childFull k r i) (recordOf k (childOf k r i)) [])
     (λ i. part-bytes (childFull k r i) (recordOf k (childOf k r i)) (record-bytes k (childOf k r i))))
 
@@ -70,12 +71,12 @@ child-voxels k r ih false e = λ v h. sym (empty-voxel (edge k) r e v h)
 
 pub tree-voxels : (k : ℕ) (r : Room) → Same (edge k) (treeVoxel (treeFor k r) (suc (suc k))) r
 unfolding treeFor treeVoxel
-tree-voxels zero r v l = leaf-voxels r v l
+tree-voxels zero r v l = leafOf-voxels r v l
 tree-voxels (suc k) r v l =
     let h : Inside (2 * edge k) v = rw (edge-twice k) at l in
     let i : ℕ = childNo (edge k) v in
     let t : ℕ → Tree = λ j. cond (childFull k r j) (treeFor k (childOf k r j)) none in
     node-voxel (suc (suc k)) (tabulate 0 8 t) v h
-    ∙ ap (λ (u : Tree). treeVoxel u (suc (suc k)) (inChild (edge k) v)) (tabulate-at 8 0 i t none (childNo-lt (edge k) v h) ∙ ap t (zero-add i))
-    ∙ child-voxels k (childOf k r i) (tree-voxels k (childOf k r i)) (childFull k r i) refl (inChild (edge k) v) (inChild-in (edge k) v h)
+    ∙ ap (λ (u : Tree). treeVoxel u (suc (suc k)) (inChild (edge k) v)) (getD-tabulate 8 0 i t none (childNo-lt (edge k) v h) ∙ ap t (zero-add i))
+    ∙ child-voxels k (childOf k r i) (tree-voxels k (childOf k r i)) (childFull k r i) refl (inChild (edge k) v) (inChild-inside (edge k) v h)
     ∙ child-voxel (edge k) r v h

@@ -16,9 +16,9 @@ use Rattle.paper.specs.Rooms.{Room, Inside, Same, depthOk, least, deepest, nonE
 use Rattle.paper.specs.Outline.{outlineFront, outlineHead, longest, recordOf, rootRecord, outlineOf, IsOutline}
 use Rattle.paper.specs.Outline.{Tree, none, treeVoxel, Read, bad, ok, readRecord, readRoot, readWhole, treeRead}
 use Rattle.paper.specs.Outline.{frontOk, lengthOk, fileDepth, outlineRead, outlineRules, outlineTree, fileRoom}
-use Rattle.laws.proofs.OutlineLists.{true-T, and-left, and-right, and-T, be-bytes, bytes-be, be-lt}
 use Rattle.paper.specs.Runs.{Bytes}
-use Rattle.laws.proofs.OutlineLists.{bytes-cons, bytes-append, bytes-take, bytes-drop, bytes-below}
+use Rattle.laws.proofs.Tests.{true-T, and-left, and-right, and-T}
+use Rattle.laws.proofs.Bytes.{bytes-cons, bytes-append, bytes-take, bytes-drop, bytes-below, be-bytes, bytes-be, be-lt}
 use Rattle.laws.proofs.OutlineCells.{nonEmpty-same, no-voxel-empty, empty-voxel}
 use Rattle.laws.proofs.OutlineWriting.{record-same, part-bytes, record-bytes, treeFor, tree-voxels}
 use Rattle.laws.proofs.OutlineReading.{record-read, OkRead, Recorded, record-written}

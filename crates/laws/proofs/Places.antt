@@ -3,56 +3,36 @@
 use mathlib.Core.Path.{_≡_, _∙_, subst, ap}
 use mathlib.Core.Bool.{false, not}
 use mathlib.Core.List.{List, []}
-use Prim.Native.Nat.{ℕ, zero, suc, _+_, _*_, _^_, _<_, _≤_}
-use native.Mathlib.Nat.{zero-add, not-suc-le-zero, le-of-suc-le-suc}
+use Prim.Native.Nat.{ℕ, zero, suc, _+_, _^_, _<_, _≤_}
+use native.Mathlib.Nat.{not-suc-le-zero}
 use native.Mathlib.Decide.{decLt}
 use native.Mathlib.Omega.{arith}
 use borrow.Author.Tests.{not-true}
 use lib.Dec.{T, eqb, lit<}
 use lib.ListN.{length, drop, getD, List·getD-eq-default}
 use lib.Seq.{getD-take, getD-drop}
-use Rattle.paper.specs.Numbers.{allBelow, tabulate}
-use Rattle.paper.specs.Store.{Cell, cellsAt, cellAt, leafNo, badPointer, anyBad, heights, capacityOf, keptCount, cellWords, listPlace, cellPlace, groups, keptIn, keptOf, cellUsable, listUsable}
+use Rattle.paper.specs.Numbers.{allBelow}
+use Rattle.paper.specs.Store.{Cell, cellsAt, cellAt, leafNo, badPointer, anyBad, heights, capacityOf, keptCount, cellWords, cellPlace, keptOf, cellUsable, listUsable}
 use Rattle.laws.proofs.Tests.{T-true, and-right, none-at}
-use Rattle.laws.proofs.Lists.{allIn-in, getD-tabulate, length-tabulate}
+use Rattle.laws.proofs.Lists.{allIn-in}
+pub use Rattle.laws.proofs.Kept.{kept-list, kept-length}
+use Rattle.laws.proofs.Kept.{kept-cell, kept-tall}
 use Rattle.laws.proofs.Invariant.{OkCell, OkCells, not-bad-ok}
 use Rattle.laws.proofs.Adding.{Sound}
-use Rattle.laws.proofs.Undamaged.{Undamaged, keptIn-length}
+use Rattle.laws.proofs.Undamaged.{Undamaged}
 
 -- ---- kept cells by place
 
-groups-at : (w n q i : ℕ) (l : List ℕ) → q < n → i < w → getD (getD (groups w n l) q []) i 0 ≡ getD l (w * q + i) 0
-unfolding groups
-groups-at w zero q i l hq hi = absurd (not-suc-le-zero hq)
-groups-at w (suc n) zero i l hq hi =
-    let e : i ≡ w * 0 + i = omega arith in
-    getD-take w l i 0 hi ∙ ap (λ (j : ℕ). getD l j 0) e
-groups-at w (suc n) (suc q) i l hq hi =
-    let e : w + (w * q + i) ≡ w * suc q + i = omega arith in
-    groups-at w n q i (drop w l) (le-of-suc-le-suc hq) hi ∙ getD-drop w l (w * q + i) 0 ∙ ap (λ (j : ℕ). getD l j 0) e
-
-pub kept-list : (ws : List ℕ) (k : ℕ) → k < heights → cellsAt (keptOf ws) k ≡ keptIn ws k
-unfolding keptOf
-kept-list ws k h = getD-tabulate heights 0 k (keptIn ws) [] h ∙ ap (keptIn ws) (zero-add k)
-
-pub kept-length : (ws : List ℕ) (k : ℕ) → k < heights → length (cellsAt (keptOf ws) k) ≡ keptCount ws k
-kept-length ws k h = ap length (kept-list ws k h) ∙ keptIn-length ws k
-
 -- above height 16 nothing is kept
 pub kept-none : (ws : List ℕ) (k : ℕ) → heights ≤ k → cellsAt (keptOf ws) k ≡ []
-unfolding keptOf
-kept-none ws k h = List·getD-eq-default (tabulate 0 heights (keptIn ws)) [] {n = k} (rw (length-tabulate heights 0 (keptIn ws)) h)
+kept-none ws k h = List·getD-eq-default (keptOf ws) [] {n = k} (rw (kept-tall ws) h)
 
 -- word i of cell q of list k
 pub kept-word : (ws : List ℕ) (k q i : ℕ) → k < heights → q < keptCount ws k → i < cellWords k
     → getD (cellAt (keptOf ws) k q) i 0 ≡ getD ws (cellPlace (capacityOf ws) k q + i) 0
-unfolding keptIn
 kept-word ws k q i h hq hi =
-    let C : ℕ = capacityOf ws in
-    let e : listPlace C k + (cellWords k * q + i) ≡ cellPlace C k q + i = omega arith in
-    ap (λ (l : List Cell). getD (getD l q []) i 0) (kept-list ws k h)
-    ∙ groups-at (cellWords k) (keptCount ws k) q i (drop (listPlace C k) ws) hq hi
-    ∙ getD-drop (listPlace C k) ws (cellWords k * q + i) 0 ∙ ap (λ (j : ℕ). getD ws j 0) e
+    let a : ℕ = cellPlace (capacityOf ws) k q in
+    ap (λ (c : Cell). getD c i 0) (kept-cell ws k q h hq) ∙ getD-take (cellWords k) (drop a ws) i 0 hi ∙ getD-drop a ws i 0
 
 -- ---- an undamaged store's cells are ok
 

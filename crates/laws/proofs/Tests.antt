@@ -2,7 +2,7 @@
 -- Assumes nothing.
 use mathlib.Core.Path.{_≡_, refl, sym, _∙_, ap, ap₂}
 use mathlib.Core.Bool.{Bool, true, false, false≢true, cond, _&&_, Bool·beq}
-use mathlib.Core.Logic.{inl, inr}
+use mathlib.Core.Logic.{_⊎_, inl, inr}
 use Prim.Native.Nat.{ℕ, zero, suc, _<_}
 use native.Mathlib.Nat.{le-of-suc-le-suc, not-suc-le-zero, le-refl, eq-or-lt-of-le}
 use native.Mathlib.Omega.{arith}
@@ -17,6 +17,11 @@ T-true {b = false} t = absurd t
 
 pub true-T : {b : Bool} → b ≡ true → T b
 true-T e = rw e tt
+
+-- false, or it would be true
+pub false-unless : (b : Bool) → (b ≡ true → ⊥) → b ≡ false
+false-unless true n = absurd (n refl)
+false-unless false n = refl
 
 pub beq-eq : (a b : Bool) → T (Bool·beq a b) → a ≡ b
 beq-eq true true t = refl
@@ -56,12 +61,19 @@ pub and-T : (a b : Bool) → T a → T b → T (a && b)
 and-T true b s t = t
 and-T false b s t = s
 
+pub and-true : (b : Bool) → b && true ≡ b
+and-true true = refl
+and-true false = refl
+
 pub and5 : (a b c d e : Bool) → T (a && b && c && d && e) → T a × T b × T c × T d × T e
 and5 a b c d e t =
     let u : T (a && b && c && d) = and-left (a && b && c && d) e t in
     let v : T (a && b && c) = and-left (a && b && c) d u in
     let w : T (a && b) = and-left (a && b) c v in
     (and-left a b w, and-right a b w, and-right (a && b) c v, and-right (a && b && c) d u, and-right (a && b && c && d) e t)
+
+pub and5-T : (a b c d e : Bool) → T a → T b → T c → T d → T e → T (a && b && c && d && e)
+and5-T a b c d e p q r s t = and-T (a && b && c && d) e (and-T (a && b && c) d (and-T (a && b) c (and-T a b p q) r) s) t
 
 -- ---- every number below n
 
@@ -84,24 +96,35 @@ pub all-same : (n : ℕ) (p q : ℕ → Bool) → ((i : ℕ) → i < n → p i �
 all-same zero p q h = refl
 all-same (suc n) p q h = ap₂ both (h n (le-refl (suc n))) (all-same n p q (λ i l. h i (omega arith)))
 
+-- ---- some number below n
+
+pub any-at : (n : ℕ) (p : ℕ → Bool) → anyBelow n p ≡ true → (i : ℕ) × (i < n) × (p i ≡ true)
+any-at zero p e = absurd (true-T {b = false} e)
+any-at (suc n) p e = go (p n) refl (any-at n p) e
+  where
+    go : (b : Bool) → p n ≡ b → (anyBelow n p ≡ true → (i : ℕ) × (i < n) × (p i ≡ true)) → cond b true (anyBelow n p) ≡ true
+        → (i : ℕ) × (i < suc n) × (p i ≡ true)
+    go true q ih h = (n, le-refl (suc n), q)
+    go false q ih h = let w : (i : ℕ) × (i < n) × (p i ≡ true) = ih h in (w .0, omega (arith, w .1), w .2)
+
+pub at-any : (n : ℕ) (p : ℕ → Bool) (i : ℕ) → i < n → p i ≡ true → anyBelow n p ≡ true
+at-any zero p i h e = absurd (not-suc-le-zero h)
+at-any (suc n) p i h e = go (eq-or-lt-of-le (le-of-suc-le-suc h)) (p n) refl (at-any n p i)
+  where
+    go : (i ≡ n) ⊎ (i < n) → (b : Bool) → p n ≡ b → (i < n → p i ≡ true → anyBelow n p ≡ true) → cond b true (anyBelow n p) ≡ true
+    go o true q ih = refl
+    go (inl s) false q ih = absurd (true-T {b = false} (sym q ∙ ap p (sym s) ∙ e))
+    go (inr l) false q ih = ih l e
+
+pub any-same : (n : ℕ) (p q : ℕ → Bool) → ((i : ℕ) → i < n → p i ≡ q i) → anyBelow n p ≡ anyBelow n q
+any-same zero p q e = refl
+any-same (suc n) p q e = ap₂ (λ (a b : Bool). cond a true b) (e n (le-refl (suc n))) (any-same n p q (λ i h. e i (omega arith)))
+
 -- ---- no number below n
 
 pub none-at : (n : ℕ) (p : ℕ → Bool) → anyBelow n p ≡ false → (i : ℕ) → i < n → p i ≡ false
-none-at zero p e i h = absurd (not-suc-le-zero h)
-none-at (suc n) p e i h =
-    elim (eq-or-lt-of-le (le-of-suc-le-suc h)) [
-      | inl q ↦ ap p q ∙ here (p n) (anyBelow n p) e
-      | inr l ↦ none-at n p (rest (p n) (anyBelow n p) e) i l
-    ]
-  where
-    here : (a b : Bool) → cond a true b ≡ false → a ≡ false
-    here true b q = q
-    here false b q = refl
-
-    rest : (a b : Bool) → cond a true b ≡ false → b ≡ false
-    rest true b q = absurd (false≢true (sym q))
-    rest false b q = q
+none-at n p e i h = false-unless (p i) (λ q. false≢true (sym e ∙ at-any n p i h q))
 
 pub none-T : (n : ℕ) (p : ℕ → Bool) → ((i : ℕ) → i < n → p i ≡ false) → anyBelow n p ≡ false
-none-T zero p h = refl
-none-T (suc n) p h = ap₂ (λ (a b : Bool). cond a true b) (h n (le-refl (suc n))) (none-T n p (λ i l. h i (omega arith)))
+none-T n p h =
+    false-unless (anyBelow n p) (λ q. let w : (i : ℕ) × (i < n) × (p i ≡ true) = any-at n p q in false≢true (sym (h (w .0) (w .1)) ∙ w .2))

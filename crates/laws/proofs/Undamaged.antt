@@ -1,65 +1,55 @@
--- An undamaged store's words are the words of the store that they hold, followed by the rest of the slice. By the parts of the words, each
--- read in groups and padded with the zeros that the tests find. Assumes nothing.
-use mathlib.Core.Path.{_≡_, refl, sym, _∙_, subst, subst₂, ap, ap₂}
+-- What the tests of a store say; the store that words with a good header hold is fine, and an undamaged store's words are the words of the store
+-- that they hold, followed by the rest of the slice. By the parts of the words, each cut into cells and padded with zeros. Assumes nothing.
+use mathlib.Core.Path.{_≡_, refl, sym, _∙_, subst, ap, ap₂}
+use mathlib.Core.Bool.{Bool, true, false, _&&_}
 use mathlib.Core.List.{List, [], _∷_, _++_, map}
 use Prim.Native.Nat.{ℕ, zero, suc, _+_, _-_, _*_, _<_, _≤_}
-use native.Mathlib.Nat.{zero-add, zero-mul, mul-comm, mul-le-mul-left, le-of-suc-le-suc}
 use native.Mathlib.Omega.{arith}
-use lib.Dec.{T, eqb, leb, eqb→eq, leb→le}
+use lib.Dec.{T, leb, leb→le, le→leb}
 use lib.ListN.{length, take, drop, getD, replicate, length-map, length-drop, take-append-drop}
 use lib.Seq.{take-add, drop-drop, length-take-le, ext-getD, getD-take, getD-drop}
-use Rattle.paper.specs.Numbers.{flatten, tabulate, allBelow, allIn}
+use Rattle.paper.specs.Numbers.{tabulate, allBelow}
+use Rattle.paper.specs.Rooms.{depthOk}
 use Rattle.paper.specs.Store.{Cell, mostScenes, heights, used, capacityOf, scenesHeld, keptCount, zerosPlace, scenePlace, cellWords, listPlace, cellPlace, groups, keptIn, keptOf, storeOf, padded, listWords, headerWords, wordsOf, blank, capacityOk, headerOk, sceneOk, scenesBlank, listUsable, listBlank, storeOk}
-use Rattle.laws.proofs.Tests.{and5, all-at}
-use Rattle.laws.proofs.Lists.{allIn-head, allIn-tail, map-at, getD-tabulate, length-tabulate}
-use Rattle.laws.proofs.Words.{Sized, snil, scons, Lists, lnil, lcons, Fine, gap, gap-place, words-fit}
+use Rattle.paper.specs.Calls.{over}
+use Rattle.laws.proofs.Tests.{true-T, and-right, and5, and5-T, all-at, all-T}
+use Rattle.laws.proofs.Lists.{map-at}
+pub use Rattle.laws.proofs.Kept.{groups-length, keptIn-length}
+use Rattle.laws.proofs.Kept.{kept-length, kept-tall, held-length}
+pub use Rattle.laws.proofs.Padded.{groups-sized, blank-zeros, padded-groups}
+use Rattle.laws.proofs.Words.{Lists, lnil, lcons, Fine, gap, gap-place, list-next, list-in, words-fit}
 
--- ---- groups of words, read and written again
+-- ---- what the tests say
 
-pub groups-length : (w n : ℕ) (l : List ℕ) → length (groups w n l) ≡ n
-unfolding groups
-groups-length w zero l = refl
-groups-length w (suc n) l = ap suc (groups-length w n (drop w l))
+pub record Headed (ws : List ℕ) : Type 0 where
+  pub long : used (capacityOf ws) ≤ length ws
+  pub capacity : T (capacityOk (capacityOf ws))
+  pub held : scenesHeld ws ≤ mostScenes
+  pub few : (k : ℕ) → k < heights → keptCount ws k ≤ capacityOf ws
+  pub header-zeros : T (blank ws zerosPlace 15)
 
-pub groups-sized : (w n : ℕ) (l : List ℕ) → n * w ≤ length l → Sized w (groups w n l)
-unfolding groups
-groups-sized w zero l h = snil
-groups-sized w (suc n) l h =
-    scons (length-take-le w l (omega arith)) (groups-sized w n (drop w l) (rw length-drop (omega arith)))
+pub headed : (ws : List ℕ) → T (headerOk ws) → Headed ws
+unfolding headerOk
+headed ws t =
+    let C : ℕ = capacityOf ws in
+    let few : ℕ → Bool = λ k. leb (keptCount ws k) C in
+    let h = and5 (leb (used C) (length ws)) (capacityOk C) (leb (scenesHeld ws) mostScenes) (allBelow heights few) (blank ws zerosPlace 15) t in
+    record {
+      long = leb→le (used C) (length ws) (h .0);
+      capacity = h .1;
+      held = leb→le (scenesHeld ws) mostScenes (h .2);
+      few = λ k l. leb→le (keptCount ws k) C (all-at heights few (h .3) k l);
+      header-zeros = h .4;
+    }
 
-flatten-groups : (w n : ℕ) (l : List ℕ) → flatten (groups w n l) ≡ take (n * w) l
-unfolding flatten groups
-flatten-groups w zero l = ap (λ (m : ℕ). take m l) (sym (zero-mul w))
-flatten-groups w (suc n) l =
-    let e : w + n * w ≡ suc n * w = omega arith in
-    ap (λ (x : List ℕ). take w l ++ x) (flatten-groups w n (drop w l)) ∙ sym (take-add w (n * w) l) ∙ ap (λ (m : ℕ). take m l) e
-
-zeros-of : (l : List ℕ) → T (allIn (eqb 0) l) → l ≡ replicate (length l) 0
-zeros-of [] t = refl
-zeros-of (x ∷ l) t = ap₂ {C = List ℕ} (λ (a : ℕ) (r : List ℕ). a ∷ r) (sym (eqb→eq 0 x (allIn-head (eqb 0) x l t))) (zeros-of l (allIn-tail (eqb 0) x l t))
-
-pub blank-zeros : (ws : List ℕ) (a n : ℕ) → a + n ≤ length ws → T (blank ws a n) → take n (drop a ws) ≡ replicate n 0
-unfolding blank
-blank-zeros ws a n h t =
-    let e : length (take n (drop a ws)) ≡ n = length-take-le n (drop a ws) (rw length-drop (omega arith)) in
-    zeros-of (take n (drop a ws)) t ∙ ap (λ (m : ℕ). replicate m 0) e
-
--- n groups of w words at place a, and zeros up to m words
-pub padded-groups : (ws : List ℕ) (a w n m : ℕ) → n * w ≤ m → a + m ≤ length ws → T (blank ws (a + n * w) (m - n * w))
-    → padded m (groups w n (drop a ws)) ≡ take m (drop a ws)
-unfolding padded
-padded-groups ws a w n m fit long t =
-    let l : List ℕ = drop a ws in
-    let g : ℕ = n * w in
-    let hl : g ≤ length l = rw length-drop (omega arith) in
-    let hF : length (take g l) ≡ g = length-take-le g l hl in
-    let hm : g + (m - g) ≡ m = omega arith in
-    ap (λ (x : List ℕ). x ++ replicate (m - length x) 0) (flatten-groups w n l)
-    ∙ ap (λ (x : ℕ). take g l ++ replicate (m - x) 0) hF
-    ∙ ap (λ (x : List ℕ). take g l ++ x) (sym (blank-zeros ws (a + g) (m - g) (omega arith) t) ∙ ap (take (m - g)) (sym (drop-drop g a ws)))
-    ∙ sym (take-add g (m - g) l) ∙ ap (λ (x : ℕ). take x l) hm
-
--- ---- what the test says
+pub headed-ok : (ws : List ℕ) → Headed ws → T (headerOk ws)
+unfolding headerOk
+headed-ok ws h =
+    let C : ℕ = capacityOf ws in
+    let few : ℕ → Bool = λ k. leb (keptCount ws k) C in
+    and5-T (leb (used C) (length ws)) (capacityOk C) (leb (scenesHeld ws) mostScenes) (allBelow heights few) (blank ws zerosPlace 15)
+    (le→leb (used C) (length ws) (h .long)) (h .capacity) (le→leb (scenesHeld ws) mostScenes (h .held))
+    (all-T heights few (λ k l. le→leb (keptCount ws k) C (h .few k l))) (h .header-zeros)
 
 pub record Undamaged (ws : List ℕ) : Type 0 where
   pub long : used (capacityOf ws) ≤ length ws
@@ -72,59 +62,94 @@ pub record Undamaged (ws : List ℕ) : Type 0 where
   pub usable : (k : ℕ) → k < heights → T (listUsable (keptOf ws) k)
   pub list-zeros : (k : ℕ) → k < heights → T (listBlank ws k)
 
+store-tests : (ws : List ℕ) → T (storeOk ws)
+    → T (headerOk ws) × T (allBelow (scenesHeld ws) (sceneOk ws)) × T (scenesBlank ws) × T (allBelow heights (listUsable (keptOf ws))) × T (allBelow heights (listBlank ws))
+unfolding storeOk
+store-tests ws =
+    and5 (headerOk ws) (allBelow (scenesHeld ws) (sceneOk ws)) (scenesBlank ws) (allBelow heights (listUsable (keptOf ws))) (allBelow heights (listBlank ws))
+
+-- an undamaged store has a good header
+pub store-header : (ws : List ℕ) → T (storeOk ws) → T (headerOk ws)
+store-header ws t = store-tests ws t .0
+
 pub undamaged : (ws : List ℕ) → T (storeOk ws) → Undamaged ws
-unfolding storeOk headerOk
 undamaged ws t =
-    let C : ℕ = capacityOf ws in
-    let s = and5 (headerOk ws) (allBelow (scenesHeld ws) (sceneOk ws)) (scenesBlank ws) (allBelow heights (listUsable (keptOf ws))) (allBelow heights (listBlank ws)) t in
-    let h = and5 (leb (used C) (length ws)) (capacityOk C) (leb (scenesHeld ws) mostScenes) (allBelow heights (λ k. leb (keptCount ws k) C)) (blank ws zerosPlace 15) (s .0) in
+    let s = store-tests ws t in
+    let h : Headed ws = headed ws (s .0) in
     record {
-      long = leb→le (used C) (length ws) (h .0);
-      capacity = h .1;
-      held = leb→le (scenesHeld ws) mostScenes (h .2);
-      few = λ k l. leb→le (keptCount ws k) C (all-at heights (λ k. leb (keptCount ws k) C) (h .3) k l);
-      header-zeros = h .4;
+      long = h .long;
+      capacity = h .capacity;
+      held = h .held;
+      few = h .few;
+      header-zeros = h .header-zeros;
       scenes = all-at (scenesHeld ws) (sceneOk ws) (s .1);
       scenes-zeros = s .2;
       usable = all-at heights (listUsable (keptOf ws)) (s .3);
       list-zeros = all-at heights (listBlank ws) (s .4);
     }
 
--- ---- part by part
+pub undamaged-headed : {ws : List ℕ} → Undamaged ws → Headed ws
+undamaged-headed u = record { long = u .long; capacity = u .capacity; held = u .held; few = u .few; header-zeros = u .header-zeros }
 
-list-next : (C j : ℕ) → listPlace C (suc j) ≡ listPlace C j + cellWords j * C
-list-next C zero = omega arith
-list-next C (suc j) = omega arith
+-- a depth in range has its list, and a test after it looks at that list only
+pub depth-low : (D : ℕ) → T (depthOk D) → D - 2 < heights
+depth-low D t = let low : D ≤ 16 = leb→le D 16 (and-right (leb 2 D) (leb D 16) t) in omega arith
+
+pub depth-list : (D : ℕ) (f g : ℕ → Bool) → ((k : ℕ) → k < heights → f k ≡ g k) → depthOk D && f (D - 2) ≡ depthOk D && g (D - 2)
+depth-list D f g e = go (depthOk D) refl
+  where
+    go : (b : Bool) → depthOk D ≡ b → b && f (D - 2) ≡ b && g (D - 2)
+    go true q = e (D - 2) (depth-low D (true-T q))
+    go false q = refl
+
+-- ---- the store that words with a good header hold is fine
+
+module _ (ws : List ℕ) (h : Headed ws) where
+  tables-fine : (n j : ℕ) → j + n ≡ heights → Lists (capacityOf ws) j (tabulate j n (keptIn ws))
+  unfolding tabulate keptIn
+  tables-fine zero j e = lnil
+  tables-fine (suc n) j e =
+      let C : ℕ = capacityOf ws in
+      let m : ℕ = keptCount ws j in
+      let hj : j < heights = omega arith in
+      let hl : m * cellWords j ≤ length (drop (listPlace C j) ws) = rw length-drop (omega (arith, h .long, list-in C j hj, words-fit j m C (h .few j hj))) in
+      lcons (groups-sized (cellWords j) m (drop (listPlace C j) ws) hl)
+      (rw (groups-length (cellWords j) m (drop (listPlace C j) ws)) (h .few j hj)) (tables-fine n (suc j) (omega arith))
+
+  pub header-fine : Fine (capacityOf ws) (storeOf ws .scenes) (storeOf ws .kept)
+  unfolding storeOf keptOf
+  header-fine = record {
+    lists = kept-tall ws;
+    of-scenes = groups-sized 2 (scenesHeld ws) (drop (scenePlace 0) ws) (rw length-drop (omega (arith, h .long, h .held)));
+    few-scenes = rw (held-length ws) (h .held);
+    of-cells = tables-fine heights 0 refl;
+  }
+
+-- ---- the words of an undamaged store, part by part
 
 take2 : (ws : List ℕ) → 2 ≤ length ws → take 2 ws ≡ getD ws 0 0 ∷ getD ws 1 0 ∷ []
 take2 [] h = absurd (omega arith)
 take2 (x ∷ []) h = absurd (omega arith)
 take2 (x ∷ y ∷ ws) h = refl
 
-pub keptIn-length : (ws : List ℕ) (k : ℕ) → length (keptIn ws k) ≡ keptCount ws k
-unfolding keptIn
-keptIn-length ws k = groups-length (cellWords k) (keptCount ws k) (drop (listPlace (capacityOf ws) k) ws)
+-- the zeros of the scenes and of list j, counted in groups
+pub scenes-blank-at : (ws : List ℕ) (n : ℕ) → blank ws (scenePlace n) (2 * (mostScenes - n)) ≡ blank ws (32 + n * 2) (128 - n * 2)
+scenes-blank-at ws n = ap₂ (blank ws) (omega arith) (omega arith)
 
-list-in : (C j : ℕ) → j < 15 → listPlace C j + cellWords j * C ≤ used C
-list-in C j h = omega (arith, list-next C j, mul-le-mul-left (8 * C) (le-of-suc-le-suc h))
-
-words-left : (j n C : ℕ) → cellWords j * (C - n) ≡ cellWords j * C - n * cellWords j
-words-left zero n C = omega arith
-words-left (suc j) n C = omega arith
+pub list-blank-at : (ws : List ℕ) (C j n : ℕ) → blank ws (cellPlace C j n) (cellWords j * (C - n)) ≡ blank ws (listPlace C j + n * cellWords j) (cellWords j * C - n * cellWords j)
+list-blank-at ws C zero n = ap₂ (blank ws) (omega arith) (omega arith)
+list-blank-at ws C (suc j) n = ap₂ (blank ws) (omega arith) (omega arith)
 
 module _ (ws : List ℕ) (u : Undamaged ws) where
   counts-back : map length (keptOf ws) ≡ take 15 (drop 2 ws)
-  unfolding keptOf
   counts-back =
-      let m : List ℕ = map (length {A = Cell}) (tabulate 0 heights (keptIn ws)) in
-      let hm : length m ≡ 15 = length-map (tabulate 0 heights (keptIn ws)) length ∙ length-tabulate heights 0 (keptIn ws) in
+      let m : List ℕ = map (length {A = Cell}) (keptOf ws) in
+      let hm : length m ≡ 15 = length-map (keptOf ws) length ∙ kept-tall ws in
       let hd : 15 ≤ length (drop 2 ws) = rw length-drop (omega (arith, u .long)) in
       ext-getD 0 m (take 15 (drop 2 ws)) (hm ∙ sym (length-take-le 15 (drop 2 ws) hd))
       (λ i h.
       let hi : i < 15 = omega arith in
-      map-at length (tabulate 0 heights (keptIn ws)) i [] 0 (rw (length-tabulate heights 0 (keptIn ws)) hi)
-      ∙ ap length (getD-tabulate heights 0 i (keptIn ws) [] hi ∙ ap (keptIn ws) (zero-add i))
-      ∙ keptIn-length ws i ∙ sym (getD-take 15 (drop 2 ws) i 0 hi ∙ getD-drop 2 ws i 0))
+      map-at length (keptOf ws) i [] 0 (rw (kept-tall ws) hi) ∙ kept-length ws i hi ∙ sym (getD-take 15 (drop 2 ws) i 0 hi ∙ getD-drop 2 ws i 0))
 
   header-back : headerWords (storeOf ws) ≡ take 32 ws
   unfolding storeOf
@@ -132,25 +157,21 @@ module _ (ws : List ℕ) (u : Undamaged ws) where
       let A : List ℕ = take 15 (drop 2 ws) in
       let whole : take 32 ws ≡ (getD ws 0 0 ∷ getD ws 1 0 ∷ A) ++ take 15 (drop 17 ws) =
       take-add 2 30 ws ∙ ap₂ (λ (x y : List ℕ). x ++ y) (take2 ws (omega (arith, u .long))) (take-add 15 15 (drop 2 ws) ∙ ap (λ (x : List ℕ). A ++ take 15 x) (drop-drop 15 2 ws)) in
-      ap₂ (λ (n : ℕ) (r : List ℕ). (getD ws 0 0 ∷ n ∷ r) ++ replicate 15 0) (groups-length 2 (scenesHeld ws) (drop (scenePlace 0) ws)) counts-back
+      ap₂ (λ (n : ℕ) (r : List ℕ). (getD ws 0 0 ∷ n ∷ r) ++ replicate 15 0) (held-length ws) counts-back
       ∙ ap (λ (r : List ℕ). (getD ws 0 0 ∷ getD ws 1 0 ∷ A) ++ r) (sym (blank-zeros ws zerosPlace 15 (omega (arith, u .long)) (u .header-zeros)))
       ∙ sym whole
 
   scenes-back : padded (2 * mostScenes) (groups 2 (scenesHeld ws) (drop (scenePlace 0) ws)) ≡ take 128 (drop 32 ws)
   scenes-back =
-      let n : ℕ = scenesHeld ws in
-      let at : scenePlace n ≡ 32 + n * 2 = omega arith in
-      let left : 2 * (mostScenes - n) ≡ 128 - n * 2 = omega arith in
-      padded-groups ws 32 2 n 128 (omega (arith, u .held)) (omega (arith, u .long)) (subst₂ (λ (a m : ℕ). T (blank ws a m)) at left (u .scenes-zeros))
+      padded-groups ws 32 2 (scenesHeld ws) 128 (omega (arith, u .held)) (omega (arith, u .long)) (subst T (scenes-blank-at ws (scenesHeld ws)) (u .scenes-zeros))
 
   list-back : (j : ℕ) → j < heights → padded (cellWords j * capacityOf ws) (keptIn ws j) ≡ take (cellWords j * capacityOf ws) (drop (listPlace (capacityOf ws) j) ws)
   unfolding keptIn
   list-back j h =
       let C : ℕ = capacityOf ws in
       let n : ℕ = keptCount ws j in
-      let at : cellPlace C j n ≡ listPlace C j + n * cellWords j = ap (λ (x : ℕ). listPlace C j + x) (mul-comm (cellWords j) n) in
       padded-groups ws (listPlace C j) (cellWords j) n (cellWords j * C) (words-fit j n C (u .few j h)) (omega (arith, u .long, list-in C j h))
-      (subst₂ (λ (a m : ℕ). T (blank ws a m)) at (words-left j n C) (u .list-zeros j h))
+      (subst T (list-blank-at ws C j n) (u .list-zeros j h))
 
   lists-back : (n j : ℕ) → j + n ≡ heights → listWords (capacityOf ws) j (tabulate j n (keptIn ws)) ≡ take (gap (capacityOf ws) j n) (drop (listPlace (capacityOf ws) j) ws)
   unfolding listWords tabulate gap
@@ -163,7 +184,7 @@ module _ (ws : List ℕ) (u : Undamaged ws) where
       ap₂ (λ (x y : List ℕ). x ++ y) (list-back j (omega arith)) (lists-back n (suc j) (omega arith) ∙ ap (take (gap C (suc j) n)) next)
       ∙ sym (take-add w (gap C (suc j) n) l)
 
-  words-front : wordsOf (storeOf ws) ≡ take (used (capacityOf ws)) ws
+  pub words-front : wordsOf (storeOf ws) ≡ take (used (capacityOf ws)) ws
   unfolding wordsOf storeOf keptOf
   words-front =
       let C : ℕ = capacityOf ws in
@@ -179,23 +200,11 @@ module _ (ws : List ℕ) (u : Undamaged ws) where
   pub wordsOf-storeOf : wordsOf (storeOf ws) ++ drop (used (capacityOf ws)) ws ≡ ws
   wordsOf-storeOf = ap (λ (x : List ℕ). x ++ drop (used (capacityOf ws)) ws) words-front ∙ take-append-drop (used (capacityOf ws)) ws
 
-  -- and that store is fine
-  tables-fine : (n j : ℕ) → j + n ≡ heights → Lists (capacityOf ws) j (tabulate j n (keptIn ws))
-  unfolding tabulate keptIn
-  tables-fine zero j e = lnil
-  tables-fine (suc n) j e =
-      let C : ℕ = capacityOf ws in
-      let m : ℕ = keptCount ws j in
-      let hj : j < heights = omega arith in
-      let hl : m * cellWords j ≤ length (drop (listPlace C j) ws) = rw length-drop (omega (arith, u .long, list-in C j hj, words-fit j m C (u .few j hj))) in
-      lcons (groups-sized (cellWords j) m (drop (listPlace C j) ws) hl)
-      (subst (λ (x : ℕ). x ≤ C) (sym (groups-length (cellWords j) m (drop (listPlace C j) ws))) (u .few j hj)) (tables-fine n (suc j) (omega arith))
+  -- so writing its words again changes nothing
+  pub words-again : over (wordsOf (storeOf ws)) ws ≡ ws
+  words-again =
+      let n : ℕ = used (capacityOf ws) in
+      ap (λ (m : ℕ). wordsOf (storeOf ws) ++ drop m ws) (ap length words-front ∙ length-take-le n ws (u .long)) ∙ wordsOf-storeOf
 
   pub store-fine : Fine (capacityOf ws) (storeOf ws .scenes) (storeOf ws .kept)
-  unfolding storeOf keptOf
-  store-fine = record {
-    lists = length-tabulate heights 0 (keptIn ws);
-    of-scenes = groups-sized 2 (scenesHeld ws) (drop (scenePlace 0) ws) (rw length-drop (omega (arith, u .long, u .held)));
-    few-scenes = subst (λ (x : ℕ). x ≤ mostScenes) (sym (groups-length 2 (scenesHeld ws) (drop (scenePlace 0) ws))) (u .held);
-    of-cells = tables-fine heights 0 refl;
-  }
+  store-fine = header-fine ws (undamaged-headed u)

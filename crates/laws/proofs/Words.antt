@@ -1,103 +1,19 @@
 -- The words of a store: how many they are, that they give the store back, and that a cell or a scene more is its count and its words stored at
 -- their places. By stores in the first and in the second part of a list, and induction on the lists. Assumes nothing.
-use mathlib.Core.Path.{_≡_, refl, sym, _∙_, ap, ap₂}
-use mathlib.Core.List.{List, [], _∷_, _++_, map, append-assoc, append-nil}
-use Prim.Native.Nat.{ℕ, zero, suc, _+_, _-_, _*_, _<_, _≤_}
-use native.Mathlib.Nat.{le-of-suc-le-suc, not-suc-le-zero, zero-mul, add-zero, add-suc, zero-add, suc-add, sub-zero, zero-sub, suc-sub-suc}
+use mathlib.Core.Path.{_≡_, refl, sym, _∙_, subst, ap, ap₂}
+use mathlib.Core.List.{List, [], _∷_, _++_, map, append-assoc}
+use Prim.Native.Nat.{ℕ, zero, suc, _+_, _*_, _<_, _≤_, zero-le}
+use native.Mathlib.Nat.{le-of-suc-le-suc, not-suc-le-zero, add-zero, zero-add, mul-le-mul-left}
 use native.Mathlib.Omega.{arith}
-use lib.ListN.{length, drop, getD, set, replicate, length-append, length-replicate, length-map, length-set, List·getD-append}
-use lib.Seq.{sets, sets-eq, set-append-left, take-at, drop-at, drop-append-add, ext-getD}
-use Rattle.paper.specs.Numbers.{flatten, tabulate}
-use Rattle.paper.specs.Store.{Cell, Store, mostScenes, heights, used, scenePlace, cellWords, listPlace, cellPlace, groups, keptIn, keptOf, storeOf, padded, listWords, headerWords, wordsOf}
-use Rattle.laws.proofs.Lists.{map-at, getD-tabulate, length-tabulate}
-
--- ---- stores in one part of a list
-
-pub set-right : (p q : List ℕ) (j a : ℕ) → set (p ++ q) (length p + j) a ≡ p ++ set q j a
-set-right [] q j a = ap (λ (n : ℕ). set q n a) (zero-add j)
-set-right (x ∷ p) q j a = ap (λ (n : ℕ). set (x ∷ (p ++ q)) n a) (suc-add (length p) j) ∙ ap {B = List ℕ} (λ r. x ∷ r) (set-right p q j a)
-
-pub sets-right : (vs p q : List ℕ) (j : ℕ) → sets (p ++ q) (length p + j) vs ≡ p ++ sets q j vs
-sets-right [] p q j = refl
-sets-right (a ∷ vs) p q j =
-    ap₂ (λ (l : List ℕ) (n : ℕ). sets l n vs) (set-right p q j a) (sym (add-suc (length p) j)) ∙ sets-right vs p (set q j a) (suc j)
-
-pub sets-left : (vs p q : List ℕ) (i : ℕ) → i + length vs ≤ length p → sets (p ++ q) i vs ≡ sets p i vs ++ q
-sets-left [] p q i h = refl
-sets-left (a ∷ vs) p q i h =
-    ap (λ (l : List ℕ). sets l (suc i) vs) (set-append-left p q i a (omega arith))
-    ∙ sets-left vs (set p i a) q (suc i) (simp length-set (omega arith))
-
-pub drop-past : (p q : List ℕ) (m n : ℕ) → length p ≡ m → drop (m + n) (p ++ q) ≡ drop n q
-drop-past p q m n e = ap (λ (i : ℕ). drop (i + n) (p ++ q)) (sym e) ∙ drop-append-add p q n
-
-zeros : ℕ → List ℕ
-zeros n = replicate n 0
-
-drop-zeros : (k n : ℕ) → drop k (zeros n) ≡ zeros (n - k)
-unfolding zeros
-drop-zeros zero n = ap zeros (sym (sub-zero n))
-drop-zeros (suc k) zero = ap zeros (sym (zero-sub (suc k)))
-drop-zeros (suc k) (suc n) = drop-zeros k n ∙ ap zeros (sym (suc-sub-suc n k))
-
-zeros-length : (n : ℕ) → length (zeros n) ≡ n
-unfolding zeros
-zeros-length n = length-replicate n 0
-
-sets-zeros : (c : List ℕ) (n : ℕ) → length c ≤ n → sets (zeros n) 0 c ≡ c ++ zeros (n - length c)
-sets-zeros c n h =
-    sets-eq c (zeros n) 0 (rw (zeros-length n, zero-add (length c)) h)
-    ∙ ap (λ (r : List ℕ). c ++ r) (ap (λ (m : ℕ). drop m (zeros n)) (zero-add (length c)) ∙ drop-zeros (length c) n)
-
--- ---- groups of words
-
--- every cell has w words
-pub data Sized (w : ℕ) : List Cell → Type 0 where
-  snil : Sized w []
-  scons : {c : Cell} {cs : List Cell} → length c ≡ w → Sized w cs → Sized w (c ∷ cs)
-
-pub flatten-length : {w : ℕ} {cs : List Cell} → Sized w cs → length (flatten cs) ≡ length cs * w
-unfolding flatten
-flatten-length {w} snil = sym (zero-mul w)
-flatten-length {w} (scons {c} {cs} e r) = length-append c (flatten cs) ∙ omega (arith, flatten-length r)
-
-pub padded-length : {w : ℕ} {cs : List Cell} (n : ℕ) → Sized w cs → length cs * w ≤ n → length (padded n cs) ≡ n
-unfolding padded
-padded-length {w} {cs} n r h = simp (length-append, length-replicate, flatten-length r) (omega arith)
-
--- read group by group, they are the groups
-groups-flatten : {w : ℕ} {cs : List Cell} (l : List ℕ) → Sized w cs → groups w (length cs) (flatten cs ++ l) ≡ cs
-unfolding flatten groups
-groups-flatten l snil = refl
-groups-flatten {w} l (scons {c} {cs} e r) = rw (append-assoc, take-at c (flatten cs ++ l) w e, drop-at c (flatten cs ++ l) w e, groups-flatten l r)
-
-groups-padded : {w : ℕ} {cs : List Cell} (n : ℕ) (l : List ℕ) → Sized w cs → groups w (length cs) (padded n cs ++ l) ≡ cs
-unfolding padded
-groups-padded {w} {cs} n l r = rw append-assoc (groups-flatten (replicate (n - length (flatten cs)) 0 ++ l) r)
-
-pub sized-snoc : {w : ℕ} {cs : List Cell} (c : Cell) → Sized w cs → length c ≡ w → Sized w (cs ++ (c ∷ []))
-sized-snoc c snil e = scons e snil
-sized-snoc c (scons d r) e = scons d (sized-snoc c r e)
-
-flatten-snoc : (cs : List Cell) (c : Cell) → flatten (cs ++ (c ∷ [])) ≡ flatten cs ++ c
-unfolding flatten
-flatten-snoc [] c = append-nil c
-flatten-snoc (b ∷ cs) c = ap {B = List ℕ} (λ r. b ++ r) (flatten-snoc cs c) ∙ sym (append-assoc b (flatten cs) c)
-
--- a group more, stored behind the others
-pub padded-snoc : (w n : ℕ) (cs : List Cell) (c : Cell) → Sized w cs → length c ≡ w → suc (length cs) * w ≤ n
-    → padded n (cs ++ (c ∷ [])) ≡ sets (padded n cs) (length cs * w) c
-unfolding padded zeros
-padded-snoc w n cs c r e h =
-    let F : List ℕ = flatten cs in
-    let m : ℕ = n - length F in
-    let left : n - length (F ++ c) ≡ m - length c = simp length-append (omega arith) in
-    ap (λ (x : List ℕ). x ++ zeros (n - length x)) (flatten-snoc cs c)
-    ∙ append-assoc F c (zeros (n - length (F ++ c)))
-    ∙ ap (λ (k : ℕ). F ++ (c ++ zeros k)) left
-    ∙ ap (λ (x : List ℕ). F ++ x) (sym (sets-zeros c m (omega (arith, flatten-length r))))
-    ∙ sym (sets-right c F (zeros m) 0)
-    ∙ ap (λ (i : ℕ). sets (F ++ zeros m) i c) (add-zero (length F) ∙ flatten-length r)
+use lib.ListN.{length, take, drop, getD, set, replicate, length-append, length-replicate, length-map, length-set, List·getD-append}
+use lib.Seq.{sets, set-append-left, drop-at, ext-getD}
+use Rattle.paper.specs.Store.{Cell, Store, mostScenes, heights, used, capacityOf, scenesHeld, keptCount, zerosPlace, scenePlace, cellWords, listPlace, cellPlace, groups, keptIn, keptOf, storeOf, padded, listWords, headerWords, wordsOf}
+pub use Rattle.laws.proofs.Put.{set-right, sets-right, sets-left, drop-past}
+use Rattle.laws.proofs.Put.{put, stored-before}
+pub use Rattle.laws.proofs.Padded.{Sized, snil, scons, flatten-length, padded-length, sized-snoc, padded-snoc}
+use Rattle.laws.proofs.Padded.{groups-padded}
+use Rattle.laws.proofs.Lists.{length-snoc, map-at}
+use Rattle.laws.proofs.Kept.{kept-list, kept-tall}
 
 -- ---- the lists of cells
 
@@ -121,6 +37,14 @@ unfolding gap
 gap-place C zero = refl
 gap-place C (suc k) = omega (arith, gap-cells C 0 k)
 
+-- where the next list stands, and that the words of each are used
+pub list-next : (C j : ℕ) → listPlace C (suc j) ≡ listPlace C j + cellWords j * C
+list-next C zero = omega arith
+list-next C (suc j) = omega arith
+
+pub list-in : (C j : ℕ) → j < 15 → listPlace C j + cellWords j * C ≤ used C
+list-in C j h = omega (arith, list-next C j, mul-le-mul-left (8 * C) (le-of-suc-le-suc h))
+
 pub words-fit : (j n C : ℕ) → n ≤ C → n * cellWords j ≤ cellWords j * C
 words-fit zero n C h = omega arith
 words-fit (suc j) n C h = omega arith
@@ -134,18 +58,29 @@ listWords-length lnil = refl
 listWords-length {C} {j} (lcons {cs = cs} {Ks = Ks} r h t) =
     length-append (padded (cellWords j * C) cs) (listWords C (suc j) Ks) ∙ ap₂ (λ (a b : ℕ). a + b) (list-length C j cs r h) (listWords-length t)
 
--- list j + m, read at its place
-listWords-groups : {C j : ℕ} {Ks : List (List Cell)} (l : List ℕ) → Lists C j Ks → (m : ℕ) → m < length Ks
-    → groups (cellWords (j + m)) (length (getD Ks m [])) (drop (gap C j m) (listWords C j Ks ++ l)) ≡ getD Ks m []
+-- list j + m has cells of its words, at most C of them, and stands at its place
+lists-sized : {C j : ℕ} {Ks : List (List Cell)} → Lists C j Ks → (m : ℕ) → m < length Ks → Sized (cellWords (j + m)) (getD Ks m [])
+lists-sized lnil m h = absurd (not-suc-le-zero h)
+lists-sized {j} (lcons {cs = cs} r q t) zero h = rw (add-zero j) r
+lists-sized {j} (lcons r q t) (suc m) h =
+    let ji : j + suc m ≡ suc j + m = omega arith in
+    rw ji (lists-sized t m (le-of-suc-le-suc h))
+
+lists-few : {C j : ℕ} {Ks : List (List Cell)} → Lists C j Ks → (m : ℕ) → length (getD Ks m []) ≤ C
+lists-few lnil m = zero-le
+lists-few (lcons r q t) zero = q
+lists-few (lcons r q t) (suc m) = lists-few t m
+
+listWords-from : {C j : ℕ} {Ks : List (List Cell)} (l : List ℕ) → Lists C j Ks → (m : ℕ) → m < length Ks
+    → drop (gap C j m) (listWords C j Ks ++ l) ≡ padded (cellWords (j + m) * C) (getD Ks m []) ++ (listWords C (suc (j + m)) (drop (suc m) Ks) ++ l)
 unfolding listWords gap
-listWords-groups l lnil m h = absurd (not-suc-le-zero h)
-listWords-groups {C} {j} l (lcons {cs = cs} {Ks = Ks} r q t) zero h =
-    rw (add-zero j, append-assoc) (groups-padded (cellWords j * C) (listWords C (suc j) Ks ++ l) r)
-listWords-groups {C} {j} l (lcons {cs = cs} {Ks = Ks} r u t) (suc m) h =
+listWords-from l lnil m h = absurd (not-suc-le-zero h)
+listWords-from {C} {j} l (lcons {cs = cs} {Ks = Ks} r q t) zero h = rw (add-zero j) (append-assoc (padded (cellWords j * C) cs) (listWords C (suc j) Ks) l)
+listWords-from {C} {j} l (lcons {cs = cs} {Ks = Ks} r u t) (suc m) h =
     let ji : j + suc m ≡ suc j + m = omega arith in
     let q : List ℕ = listWords C (suc j) Ks ++ l in
     rw (ji, append-assoc, drop-past (padded (cellWords j * C) cs) q (cellWords j * C) (gap C (suc j) m) (list-length C j cs r u))
-    (listWords-groups l t m (le-of-suc-le-suc h))
+    (listWords-from l t m (le-of-suc-le-suc h))
 
 -- a cell more in list j + m
 listWords-snoc : {C j : ℕ} {Ks : List (List Cell)} → Lists C j Ks → (m : ℕ) (c : Cell) → m < length Ks → length c ≡ cellWords (j + m) → length (getD Ks m []) < C
@@ -170,11 +105,11 @@ listWords-snoc {C} {j} (lcons {cs = cs} {Ks = Ks} r q t) (suc m) c h e l =
     ∙ sym (sets-right c (padded (w * C) cs) (listWords C (suc j) Ks) at)
     ∙ ap (λ (i : ℕ). sets (padded (w * C) cs ++ listWords C (suc j) Ks) i c) (rw jw (omega arith))
 
-lists-snoc : {C j : ℕ} {Ks : List (List Cell)} → Lists C j Ks → (m : ℕ) (c : Cell) → length c ≡ cellWords (j + m) → length (getD Ks m []) < C
+pub lists-snoc : {C j : ℕ} {Ks : List (List Cell)} → Lists C j Ks → (m : ℕ) (c : Cell) → length c ≡ cellWords (j + m) → length (getD Ks m []) < C
     → Lists C j (set Ks m (getD Ks m [] ++ (c ∷ [])))
 lists-snoc lnil m c e l = lnil
 lists-snoc {C} {j} (lcons {cs = cs} r q t) zero c e l =
-    lcons (sized-snoc c r (e ∙ ap cellWords (add-zero j))) (rw length-append (omega arith)) t
+    lcons (sized-snoc c r (e ∙ ap cellWords (add-zero j))) (rw (length-snoc cs c) l) t
 lists-snoc {C} {j} (lcons r q t) (suc m) c e l =
     let ji : j + suc m ≡ suc j + m = omega arith in
     lcons r q (lists-snoc t m c (e ∙ ap cellWords ji) l)
@@ -236,10 +171,9 @@ module _ (C : ℕ) (S : List Cell) (Ks : List (List Cell)) (f : Fine C S Ks) whe
       let P : List ℕ = padded (2 * mostScenes) S in
       let L : List ℕ = listWords C 0 Ks in
       let H′ : List ℕ = set H (2 + k) (suc n) in
-      let hX : length X ≡ suc n = length-append (getD Ks k []) (c ∷ []) ∙ omega arith in
       let ck : cellWords (0 + k) ≡ cellWords k = ap cellWords (zero-add k) in
       let j : ℕ = gap C 0 k + cellWords (0 + k) * n in
-      ap₂ (λ (h r : List ℕ). h ++ (P ++ r)) (header-set k X (omega (arith, f .lists)) ∙ ap (set H (2 + k)) hX)
+      ap₂ (λ (h r : List ℕ). h ++ (P ++ r)) (header-set k X (omega (arith, f .lists)) ∙ ap (set H (2 + k)) (length-snoc (getD Ks k []) c))
       (listWords-snoc (f .of-cells) k c (omega (arith, f .lists)) (e ∙ sym ck) l)
       ∙ ap (λ (r : List ℕ). H′ ++ r) (sym (sets-right c P L j))
       ∙ sym (sets-right c H′ (P ++ L) (length P + j))
@@ -264,8 +198,7 @@ module _ (C : ℕ) (S : List Cell) (Ks : List (List Cell)) (f : Fine C S Ks) whe
       let P : List ℕ = padded (2 * mostScenes) S in
       let L : List ℕ = listWords C 0 Ks in
       let H′ : List ℕ = set H 1 (suc n) in
-      let hS : length (S ++ (c ∷ [])) ≡ suc n = length-append S (c ∷ []) ∙ omega arith in
-      ap₂ (λ (h r : List ℕ). h ++ (r ++ L)) (ap (λ (m : ℕ). C ∷ m ∷ (map (length {A = Cell}) Ks ++ replicate 15 0)) hS)
+      ap₂ (λ (h r : List ℕ). h ++ (r ++ L)) (ap (λ (m : ℕ). C ∷ m ∷ (map (length {A = Cell}) Ks ++ replicate 15 0)) (length-snoc S c))
       (padded-snoc 2 (2 * mostScenes) S c (f .of-scenes) e (omega arith))
       ∙ ap (λ (r : List ℕ). H′ ++ r) (sym (sets-left c P L (n * 2) (omega (arith, scenes-length))))
       ∙ sym (sets-right c H′ (P ++ L) (n * 2))
@@ -276,19 +209,44 @@ module _ (C : ℕ) (S : List Cell) (Ks : List (List Cell)) (f : Fine C S Ks) whe
   scene-fine c e l = record {
     lists = f .lists;
     of-scenes = sized-snoc c (f .of-scenes) e;
-    few-scenes = rw length-append (omega arith);
+    few-scenes = rw (length-snoc S c) l;
     of-cells = f .of-cells;
   }
+
+  -- the same with other words x behind
+  pub keep-words-before : (k : ℕ) (c : Cell) (x : List ℕ) → k < heights → length c ≡ cellWords k → length (getD Ks k []) < C
+      → wordsOf (storeWith C S (set Ks k (getD Ks k [] ++ (c ∷ [])))) ++ x
+      ≡ put (cellPlace C k (length (getD Ks k []))) c (set (wordsOf (storeWith C S Ks) ++ x) (2 + k) (suc (length (getD Ks k []))))
+  keep-words-before k c x h e l =
+      let n : ℕ = length (getD Ks k []) in
+      ap (λ (r : List ℕ). r ++ x) (keep-words k c h e l)
+      ∙ stored-before (wordsOf (storeWith C S Ks)) x c (cellPlace C k n) (2 + k) (suc n)
+      (omega (arith, wordsOf-length)) (omega (arith, wordsOf-length, list-in C k h, mul-le-mul-left (cellWords k) l))
+
+  pub scene-words-before : (c : Cell) (x : List ℕ) → length c ≡ 2 → length S < mostScenes
+      → wordsOf (storeWith C (S ++ (c ∷ [])) Ks) ++ x ≡ put (scenePlace (length S)) c (set (wordsOf (storeWith C S Ks) ++ x) 1 (suc (length S)))
+  scene-words-before c x e l =
+      let n : ℕ = length S in
+      ap (λ (r : List ℕ). r ++ x) (scene-words c e l)
+      ∙ stored-before (wordsOf (storeWith C S Ks)) x c (scenePlace n) 1 (suc n) (omega (arith, wordsOf-length)) (omega (arith, wordsOf-length))
+
+  -- the cells of list k
+  pub cells-sized : (k : ℕ) → k < heights → Sized (cellWords k) (getD Ks k [])
+  cells-sized k h = subst (λ (n : ℕ). Sized (cellWords n) (getD Ks k [])) (zero-add k) (lists-sized (f .of-cells) k (omega (arith, f .lists)))
+
+  pub cells-few : (k : ℕ) → length (getD Ks k []) ≤ C
+  cells-few = lists-few (f .of-cells)
 
   -- ---- read again, l being the words that follow
 
   module _ (l : List ℕ) where
-    ws : List ℕ
+    abbrev ws : List ℕ
     ws = wordsOf (storeWith C S Ks) ++ l
 
     parts : ws ≡ headerWords (storeWith C S Ks) ++ (padded (2 * mostScenes) S ++ (listWords C 0 Ks ++ l))
-    unfolding ws wordsOf
-    parts = append-assoc (headerWords (storeWith C S Ks)) (padded (2 * mostScenes) S ++ listWords C 0 Ks) l
+    unfolding wordsOf
+    parts =
+        append-assoc (headerWords (storeWith C S Ks)) (padded (2 * mostScenes) S ++ listWords C 0 Ks) l
         ∙ ap (λ (r : List ℕ). headerWords (storeWith C S Ks) ++ r) (append-assoc (padded (2 * mostScenes) S) (listWords C 0 Ks) l)
 
     past-header : (n : ℕ) → drop (32 + n) ws ≡ drop n (padded (2 * mostScenes) S ++ (listWords C 0 Ks ++ l))
@@ -299,41 +257,55 @@ module _ (C : ℕ) (S : List Cell) (Ks : List (List Cell)) (f : Fine C S Ks) whe
         let e : 160 + n ≡ 32 + (2 * mostScenes + n) = omega arith in
         ap (λ (m : ℕ). drop m ws) e ∙ past-header (2 * mostScenes + n) ∙ drop-past (padded (2 * mostScenes) S) (listWords C 0 Ks ++ l) (2 * mostScenes) n scenes-length
 
-    count-at : (k : ℕ) → k < length Ks → getD ws (2 + k) 0 ≡ length (getD Ks k [])
-    count-at k h =
+    -- what stands at each place: the zeros of the header, the scenes, list k
+    pub zeros-from : take 15 (drop zerosPlace (wordsOf (storeWith C S Ks) ++ l)) ≡ replicate 15 0
+    zeros-from =
+        let H : List ℕ = C ∷ length S ∷ map (length {A = Cell}) Ks in
+        let r : List ℕ = padded (2 * mostScenes) S ++ (listWords C 0 Ks ++ l) in
+        ap (λ (x : List ℕ). take 15 (drop 17 x)) (parts ∙ append-assoc H (replicate 15 0) r)
+        ∙ ap (take 15) (drop-at H (replicate 15 0 ++ r) 17 (omega (arith, length-map Ks length, f .lists)))
+
+    pub scenes-from : drop 32 (wordsOf (storeWith C S Ks) ++ l) ≡ padded (2 * mostScenes) S ++ (listWords C 0 Ks ++ l)
+    scenes-from = past-header 0
+
+    pub cells-from : (k : ℕ) → k < heights → drop (listPlace C k) (wordsOf (storeWith C S Ks) ++ l) ≡ padded (cellWords k * C) (getD Ks k []) ++ (listWords C (suc k) (drop (suc k) Ks) ++ l)
+    cells-from k h =
+        ap (λ (n : ℕ). drop n ws) (sym (gap-place C k)) ∙ past-scenes (gap C 0 k) ∙ listWords-from l (f .of-cells) k (omega (arith, f .lists))
+        ∙ ap (λ (n : ℕ). padded (cellWords n * C) (getD Ks k []) ++ (listWords C (suc n) (drop (suc k) Ks) ++ l)) (zero-add k)
+
+    -- what the words give back
+    pub capacity-read : capacityOf (wordsOf (storeWith C S Ks) ++ l) ≡ C
+    capacity-read = ap (λ (x : List ℕ). getD x 0 0) parts
+
+    pub scenes-read : scenesHeld (wordsOf (storeWith C S Ks) ++ l) ≡ length S
+    scenes-read = ap (λ (x : List ℕ). getD x 1 0) parts
+
+    pub count-read : (k : ℕ) → k < heights → keptCount (wordsOf (storeWith C S Ks) ++ l) k ≡ length (getD Ks k [])
+    count-read k h =
         let r : List ℕ = padded (2 * mostScenes) S ++ (listWords C 0 Ks ++ l) in
         let m : List ℕ = map (length {A = Cell}) Ks in
-        ap₂ (λ (x : List ℕ) (i : ℕ). getD x i 0) (parts ∙ append-assoc (C ∷ length S ∷ m) (replicate 15 0) r) (two-add k)
-        ∙ List·getD-append m (replicate 15 0 ++ r) 0 k (rw (length-map Ks length) h) ∙ map-at length Ks k [] 0 h
-
-    list-back : (k : ℕ) → k < heights → keptIn ws k ≡ getD Ks k []
-    unfolding keptIn
-    list-back k h =
         let hk : k < length Ks = omega (arith, f .lists) in
-        let c0 : getD ws 0 0 ≡ C = ap (λ (x : List ℕ). getD x 0 0) parts in
-        ap₂ (λ (n : ℕ) (x : List ℕ). groups (cellWords k) n x) (count-at k hk)
-        (ap (λ (n : ℕ). drop (listPlace n k) ws) c0 ∙ ap (λ (n : ℕ). drop n ws) (sym (gap-place C k)) ∙ past-scenes (gap C 0 k))
-        ∙ ap (λ (n : ℕ). groups (cellWords n) (length (getD Ks k [])) (drop (gap C 0 k) (listWords C 0 Ks ++ l))) (sym (zero-add k))
-        ∙ listWords-groups l (f .of-cells) k hk
+        ap₂ (λ (x : List ℕ) (i : ℕ). getD x i 0) (parts ∙ append-assoc (C ∷ length S ∷ m) (replicate 15 0) r) (two-add k)
+        ∙ List·getD-append m (replicate 15 0 ++ r) 0 k (rw (length-map Ks length) hk) ∙ map-at length Ks k [] 0 hk
 
-    kept-back : keptOf ws ≡ Ks
-    unfolding keptOf
-    kept-back =
-        ext-getD [] (tabulate 0 heights (keptIn ws)) Ks (length-tabulate heights 0 (keptIn ws) ∙ sym (f .lists))
-        (λ i h.
-        let hi : i < heights = omega (arith, length-tabulate heights 0 (keptIn ws)) in
-        getD-tabulate heights 0 i (keptIn ws) [] hi ∙ ap (keptIn ws) (zero-add i) ∙ list-back i hi)
+    list-read : (k : ℕ) → k < heights → keptIn ws k ≡ getD Ks k []
+    unfolding keptIn
+    list-read k h =
+        ap₂ (λ (n c : ℕ). groups (cellWords k) n (drop (listPlace c k) ws)) (count-read k h) capacity-read
+        ∙ ap (groups (cellWords k) (length (getD Ks k []))) (cells-from k h)
+        ∙ groups-padded (cellWords k * C) (listWords C (suc k) (drop (suc k) Ks) ++ l) (cells-sized k h)
 
-    scenes-back : groups 2 (getD ws 1 0) (drop (scenePlace 0) ws) ≡ S
-    scenes-back =
-        ap₂ (λ (n : ℕ) (x : List ℕ). groups 2 n x) (ap (λ (x : List ℕ). getD x 1 0) parts) (past-header 0)
-        ∙ groups-padded (2 * mostScenes) (listWords C 0 Ks ++ l) (f .of-scenes)
+    pub kept-read : keptOf (wordsOf (storeWith C S Ks) ++ l) ≡ Ks
+    kept-read =
+        ext-getD [] (keptOf ws) Ks (kept-tall ws ∙ sym (f .lists))
+        (λ k h.
+        let hk : k < heights = omega (arith, kept-tall ws) in
+        kept-list ws k hk ∙ list-read k hk)
 
-    store-back : storeOf ws ≡ storeWith C S Ks
+    held-read : groups 2 (scenesHeld ws) (drop (scenePlace 0) ws) ≡ S
+    held-read = ap₂ (groups 2) scenes-read scenes-from ∙ groups-padded (2 * mostScenes) (listWords C 0 Ks ++ l) (f .of-scenes)
+
+    -- the words give the store back, whatever follows them
+    pub storeOf-wordsOf : storeOf (wordsOf (storeWith C S Ks) ++ l) ≡ storeWith C S Ks
     unfolding storeOf
-    store-back = λ i. storeWith (ap (λ (x : List ℕ). getD x 0 0) parts i) (scenes-back i) (kept-back i)
-
-  -- the words give the store back, whatever follows them
-  pub storeOf-wordsOf : (l : List ℕ) → storeOf (wordsOf (storeWith C S Ks) ++ l) ≡ storeWith C S Ks
-  unfolding ws
-  storeOf-wordsOf l = store-back l
+    storeOf-wordsOf = λ i. storeWith (capacity-read i) (held-read i) (kept-read i)

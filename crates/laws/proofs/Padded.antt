@@ -1,0 +1,120 @@
+-- Cells laid one after the other and filled up with zeros are cut back into those cells, and words that end in zeros are the words of the cells
+-- cut from them. By induction on the cells. Assumes nothing.
+use mathlib.Core.Path.{_≡_, refl, sym, _∙_, ap}
+use mathlib.Core.Bool.{true}
+use mathlib.Core.List.{List, [], _∷_, _++_, append-assoc, append-nil}
+use Prim.Native.Nat.{ℕ, zero, suc, _+_, _-_, _*_, _≤_}
+use native.Mathlib.Nat.{zero-mul, add-zero}
+use native.Mathlib.Omega.{arith}
+use lib.Dec.{T, eqb}
+use lib.ListN.{length, take, drop, replicate, length-append, length-replicate, length-drop}
+use lib.Seq.{sets, take-at, drop-at, take-add, drop-drop, length-take-le}
+use Rattle.paper.specs.Numbers.{allIn, flatten}
+use Rattle.paper.specs.Store.{Cell, groups, padded, blank}
+use Rattle.laws.proofs.Lists.{zeros-of, zeros-pass}
+use Rattle.laws.proofs.Put.{sets-right, sets-zeros}
+
+-- ---- cells laid out
+
+-- every cell has w words
+pub data Sized (w : ℕ) : List Cell → Type 0 where
+  snil : Sized w []
+  scons : {c : Cell} {cs : List Cell} → length c ≡ w → Sized w cs → Sized w (c ∷ cs)
+
+pub flatten-length : {w : ℕ} {cs : List Cell} → Sized w cs → length (flatten cs) ≡ length cs * w
+unfolding flatten
+flatten-length {w} snil = sym (zero-mul w)
+flatten-length {w} (scons {c} {cs} e r) = length-append c (flatten cs) ∙ omega (arith, flatten-length r)
+
+pub padded-length : {w : ℕ} {cs : List Cell} (n : ℕ) → Sized w cs → length cs * w ≤ n → length (padded n cs) ≡ n
+unfolding padded
+padded-length {w} {cs} n r h = simp (length-append, length-replicate, flatten-length r) (omega arith)
+
+-- read group by group, they are the groups
+groups-flatten : {w : ℕ} {cs : List Cell} (l : List ℕ) → Sized w cs → groups w (length cs) (flatten cs ++ l) ≡ cs
+unfolding flatten groups
+groups-flatten l snil = refl
+groups-flatten {w} l (scons {c} {cs} e r) = rw (append-assoc, take-at c (flatten cs ++ l) w e, drop-at c (flatten cs ++ l) w e, groups-flatten l r)
+
+pub groups-padded : {w : ℕ} {cs : List Cell} (n : ℕ) (l : List ℕ) → Sized w cs → groups w (length cs) (padded n cs ++ l) ≡ cs
+unfolding padded
+groups-padded {w} {cs} n l r = rw append-assoc (groups-flatten (replicate (n - length (flatten cs)) 0 ++ l) r)
+
+-- past the cells there are zeros
+padded-zeros : {w : ℕ} {cs : List Cell} (n : ℕ) (l : List ℕ) → Sized w cs
+    → take (n - length cs * w) (drop (length cs * w) (padded n cs ++ l)) ≡ replicate (n - length cs * w) 0
+unfolding padded
+padded-zeros {w} {cs} n l r =
+    let F : List ℕ = flatten cs in
+    let e : length F ≡ length cs * w = flatten-length r in
+    let Z : List ℕ = replicate (n - length F) 0 in
+    ap (take (n - length cs * w)) (ap (drop (length cs * w)) (append-assoc F Z l) ∙ drop-at F (Z ++ l) (length cs * w) e)
+    ∙ take-at Z l (n - length cs * w) (length-replicate (n - length F) 0 ∙ ap (λ (m : ℕ). n - m) e)
+    ∙ ap (λ (m : ℕ). replicate (n - m) 0) e
+
+pub padded-blank : {w : ℕ} {cs : List Cell} (ws : List ℕ) (a n : ℕ) (l : List ℕ) → Sized w cs → drop a ws ≡ padded n cs ++ l
+    → blank ws (a + length cs * w) (n - length cs * w) ≡ true
+unfolding blank
+padded-blank {w} {cs} ws a n l r e =
+    let g : ℕ = length cs * w in
+    ap (λ (x : List ℕ). allIn (eqb 0) (take (n - g) x)) (sym (drop-drop g a ws) ∙ ap (drop g) e) ∙ ap (allIn (eqb 0)) (padded-zeros n l r) ∙ zeros-pass (n - g)
+
+pub sized-snoc : {w : ℕ} {cs : List Cell} (c : Cell) → Sized w cs → length c ≡ w → Sized w (cs ++ (c ∷ []))
+sized-snoc c snil e = scons e snil
+sized-snoc c (scons d r) e = scons d (sized-snoc c r e)
+
+flatten-snoc : (cs : List Cell) (c : Cell) → flatten (cs ++ (c ∷ [])) ≡ flatten cs ++ c
+unfolding flatten
+flatten-snoc [] c = append-nil c
+flatten-snoc (b ∷ cs) c = ap {B = List ℕ} (λ r. b ++ r) (flatten-snoc cs c) ∙ sym (append-assoc b (flatten cs) c)
+
+-- a group more, stored behind the others
+pub padded-snoc : (w n : ℕ) (cs : List Cell) (c : Cell) → Sized w cs → length c ≡ w → suc (length cs) * w ≤ n
+    → padded n (cs ++ (c ∷ [])) ≡ sets (padded n cs) (length cs * w) c
+unfolding padded
+padded-snoc w n cs c r e h =
+    let F : List ℕ = flatten cs in
+    let m : ℕ = n - length F in
+    let left : n - length (F ++ c) ≡ m - length c = simp length-append (omega arith) in
+    ap (λ (x : List ℕ). x ++ replicate (n - length x) 0) (flatten-snoc cs c)
+    ∙ append-assoc F c (replicate (n - length (F ++ c)) 0)
+    ∙ ap (λ (k : ℕ). F ++ (c ++ replicate k 0)) left
+    ∙ ap (λ (x : List ℕ). F ++ x) (sym (sets-zeros c m (omega (arith, flatten-length r))))
+    ∙ sym (sets-right c F (replicate m 0) 0)
+    ∙ ap (λ (i : ℕ). sets (F ++ replicate m 0) i c) (add-zero (length F) ∙ flatten-length r)
+
+-- ---- cells cut
+
+pub groups-sized : (w n : ℕ) (l : List ℕ) → n * w ≤ length l → Sized w (groups w n l)
+unfolding groups
+groups-sized w zero l h = snil
+groups-sized w (suc n) l h =
+    scons (length-take-le w l (omega arith)) (groups-sized w n (drop w l) (rw length-drop (omega arith)))
+
+flatten-groups : (w n : ℕ) (l : List ℕ) → flatten (groups w n l) ≡ take (n * w) l
+unfolding flatten groups
+flatten-groups w zero l = ap (λ (m : ℕ). take m l) (sym (zero-mul w))
+flatten-groups w (suc n) l =
+    let e : w + n * w ≡ suc n * w = omega arith in
+    ap (λ (x : List ℕ). take w l ++ x) (flatten-groups w n (drop w l)) ∙ sym (take-add w (n * w) l) ∙ ap (λ (m : ℕ). take m l) e
+
+pub blank-zeros : (ws : List ℕ) (a n : ℕ) → a + n ≤ length ws → T (blank ws a n) → take n (drop a ws) ≡ replicate n 0
+unfolding blank
+blank-zeros ws a n h t =
+    let e : length (take n (drop a ws)) ≡ n = length-take-le n (drop a ws) (rw length-drop (omega arith)) in
+    zeros-of (take n (drop a ws)) t ∙ ap (λ (m : ℕ). replicate m 0) e
+
+-- n groups of w words at place a, and zeros up to m words
+pub padded-groups : (ws : List ℕ) (a w n m : ℕ) → n * w ≤ m → a + m ≤ length ws → T (blank ws (a + n * w) (m - n * w))
+    → padded m (groups w n (drop a ws)) ≡ take m (drop a ws)
+unfolding padded
+padded-groups ws a w n m fit long t =
+    let l : List ℕ = drop a ws in
+    let g : ℕ = n * w in
+    let hl : g ≤ length l = rw length-drop (omega arith) in
+    let hF : length (take g l) ≡ g = length-take-le g l hl in
+    let hm : g + (m - g) ≡ m = omega arith in
+    ap (λ (x : List ℕ). x ++ replicate (m - length x) 0) (flatten-groups w n l)
+    ∙ ap (λ (x : ℕ). take g l ++ replicate (m - x) 0) hF
+    ∙ ap (λ (x : List ℕ). take g l ++ x) (sym (blank-zeros ws (a + g) (m - g) (omega arith) t) ∙ ap (take (m - g)) (sym (drop-drop g a ws)))
+    ∙ sym (take-add g (m - g) l) ∙ ap (λ (x : ℕ). take x l) hm

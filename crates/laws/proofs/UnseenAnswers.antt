@@ -1,0 +1,131 @@
+-- A call that only reads a store answers the same with other words behind those used. By the order of its tests: what it looks at after a test
+-- is looked at only where that test passed, and there it is the same. Assumes nothing.
+use mathlib.Core.Path.{_≡_, refl, ap, ap₂, _∙_}
+use mathlib.Core.Bool.{Bool, true, false, cond, not, _||_}
+use mathlib.Core.List.{List, [], _∷_, _++_}
+use Prim.Native.Nat.{ℕ, _-_, _<_, _≤_, _^_}
+use borrow.Author.Tests.{leb-false}
+use lib.Dec.{T, eqb, leb, ltb}
+use lib.ListN.{length}
+use Rattle.paper.specs.Numbers.{bitFor}
+use Rattle.paper.specs.Rooms.{Point, depthOk, inside}
+use Rattle.paper.specs.Outline.{longest, outlineOf}
+use Rattle.paper.specs.Store.{Cell, used, capacityOf, scenesHeld, keptCount, headerOk, sceneOk, storeOk}
+use Rattle.paper.specs.Meaning.{rootRoom}
+use Rattle.paper.specs.Questions.{voxelSolid, voxelWay, cellFull, cellWay, boxSolid, boxWay}
+use Rattle.paper.specs.Pack.{packedFile}
+use Rattle.paper.specs.Answers.{Outcome}
+use Rattle.paper.specs.Order.{when, firstOf, settled}
+use Rattle.paper.specs.Calls.{over, cleared, noScene, ofScene, axisOutside, voxelOutside, voxelDamaged, voxelOutcome, cellOutside, cellDamaged, cellOutcome, boxOutside, boxDamaged, boxOutcome}
+use Rattle.paper.specs.Calls.{keptOutcome, outShort, outlineBytes, outlineShort, outlineOutcome, packScratch, packBytes, packShort, packOutcome}
+use Rattle.laws.proofs.Undamaged.{depth-low, store-header}
+use Rattle.laws.proofs.UnseenWords.{capacity-unseen, held-unseen, count-unseen, header-unseen, kept-unseen, depth-unseen, root-unseen, scene-unseen, undamaged-unseen}
+
+-- ---- the answers, by what their tests give
+
+-- voxel, cell, box: header, no scene, scene, outside, walk, value
+abbrev question : Bool → Bool → Bool → Bool → Bool → ℕ → Outcome
+question h e s o w v = settled (firstOf (when (not h) 2 ∷ when e 9 ∷ when (not s) 2 ∷ when o 10 ∷ when w 2 ∷ [])) (v ∷ []) [] []
+
+question-same : (h e s s′ o o′ w w′ : Bool) (v v′ : ℕ) → (T h → e ≡ false → (s ≡ s′) × (o ≡ o′) × (w ≡ w′) × (v ≡ v′))
+    → question h e s o w v ≡ question h e s′ o′ w′ v′
+unfolding firstOf settled
+question-same false e s s′ o o′ w w′ v v′ q = refl
+question-same true true s s′ o o′ w w′ v v′ q = refl
+question-same true false s s′ o o′ w w′ v v′ q = let p : (s ≡ s′) × (o ≡ o′) × (w ≡ w′) × (v ≡ v′) = q tt refl in λ i. question true false (p .0 i) (p .1 i) (p .2 i) (p .3 i)
+
+-- kept: header, height, count
+abbrev countOf : Bool → Bool → ℕ → Outcome
+countOf h d v = settled (firstOf (when (not h) 2 ∷ when (not d) 10 ∷ [])) (v ∷ []) [] []
+
+countOf-same : (h d : Bool) (v v′ : ℕ) → (T d → v ≡ v′) → countOf h d v ≡ countOf h d v′
+unfolding firstOf settled
+countOf-same false d v v′ q = refl
+countOf-same true false v v′ q = refl
+countOf-same true true v v′ q = ap (countOf true true) (q tt)
+
+-- outline out: store, no scene, the bytes
+abbrev outlineFor : Bool → Bool → List ℕ → List ℕ → Outcome
+outlineFor s e B out =
+    settled (firstOf (when (not s) 2 ∷ when e 9 ∷ when (outShort B out || ltb longest (length B)) 12 ∷ [])) (length B ∷ []) (over B out ∷ []) (out ∷ [])
+
+outlineFor-same : (s e : Bool) (B B′ out : List ℕ) → (T s → e ≡ false → B ≡ B′) → outlineFor s e B out ≡ outlineFor s e B′ out
+unfolding firstOf settled
+outlineFor-same false e B B′ out q = refl
+outlineFor-same true true B B′ out q = refl
+outlineFor-same true false B B′ out q = ap (λ (b : List ℕ). outlineFor true false b out) (q tt refl)
+
+-- pack: store, no scene, the scratch it takes, the bytes
+abbrev packNumber : Bool → Bool → ℕ → List ℕ → List ℕ → List ℕ → ℕ
+packNumber s e m B scratch out = firstOf (when (not s) 2 ∷ when e 9 ∷ when (ltb (length scratch) m) 11 ∷ when (outShort B out) 12 ∷ [])
+
+abbrev packFor : Bool → Bool → ℕ → List ℕ → List ℕ → List ℕ → Outcome
+packFor s e m B scratch out =
+    settled (packNumber s e m B scratch out) (length B ∷ []) (cleared m scratch ∷ over B out ∷ [])
+    (cond (eqb (packNumber s e m B scratch out) 12) (cleared m scratch) scratch ∷ out ∷ [])
+
+packFor-same : (s e : Bool) (m : ℕ) (B B′ scratch out : List ℕ) → (T s → e ≡ false → B ≡ B′) → packFor s e m B scratch out ≡ packFor s e m B′ scratch out
+unfolding firstOf settled
+packFor-same false e m B B′ scratch out q = refl
+packFor-same true true m B B′ scratch out q = refl
+packFor-same true false m B B′ scratch out q = ap (λ (b : List ℕ). packFor true false m b scratch out) (q tt refl)
+
+-- ---- the calls, on a store f long enough with words r behind it
+
+module _ (f r : List ℕ) (whole : used (capacityOf f) ≤ length f) where
+  no-scene-unseen : (n : ℕ) → noScene (f ++ r) n ≡ noScene f n
+  no-scene-unseen n = ap (λ (m : ℕ). leb m n) (held-unseen f r whole)
+
+  -- whatever the kept cells and a scene's two words give
+  scene-part : {A : Type 0} (F : List (List Cell) → ℕ → ℕ → A) (n : ℕ) → T (headerOk f) → noScene f n ≡ false → ofScene F (f ++ r) n ≡ ofScene F f n
+  scene-part F n h e =
+      let l : n < scenesHeld f = leb-false (scenesHeld f) n e in
+      λ i. F (kept-unseen f r whole h i) (depth-unseen f r whole h n l i) (root-unseen f r whole h n l i)
+
+  question-unseen : (n : ℕ) (O W : List (List Cell) → ℕ → ℕ → Bool) (N : List (List Cell) → ℕ → ℕ → ℕ)
+      → question (headerOk (f ++ r)) (noScene (f ++ r) n) (sceneOk (f ++ r) n) (ofScene O (f ++ r) n) (ofScene W (f ++ r) n) (ofScene N (f ++ r) n)
+      ≡ question (headerOk f) (noScene f n) (sceneOk f n) (ofScene O f n) (ofScene W f n) (ofScene N f n)
+  question-unseen n O W N =
+      ap₂ (λ (h e : Bool). question h e (sceneOk (f ++ r) n) (ofScene O (f ++ r) n) (ofScene W (f ++ r) n) (ofScene N (f ++ r) n))
+      (header-unseen f r whole) (no-scene-unseen n)
+      ∙ question-same (headerOk f) (noScene f n) (sceneOk (f ++ r) n) (sceneOk f n) (ofScene O (f ++ r) n) (ofScene O f n) (ofScene W (f ++ r) n) (ofScene W f n)
+      (ofScene N (f ++ r) n) (ofScene N f n)
+      (λ h e. (scene-unseen f r whole h n (leb-false (scenesHeld f) n e), scene-part O n h e, scene-part W n h e, scene-part N n h e))
+
+  pub voxel-unseen : (n : ℕ) (v : Point) → voxelOutcome (f ++ r) n v ≡ voxelOutcome f n v
+  unfolding voxelOutcome voxelOutside voxelDamaged
+  voxel-unseen n v = question-unseen n (λ K D p. not (inside (2 ^ D) v)) (λ K D p. voxelWay K D p v) (λ K D p. bitFor (voxelSolid K D p v))
+
+  pub cell-unseen : (n h : ℕ) (c : Point) → cellOutcome (f ++ r) n h c ≡ cellOutcome f n h c
+  unfolding cellOutcome cellOutside cellDamaged
+  cell-unseen n h c =
+      question-unseen n (λ K D p. not (leb h D) || not (inside (2 ^ (D - h)) c)) (λ K D p. cellWay K D p h c) (λ K D p. bitFor (cellFull K D p h c))
+
+  pub box-unseen : (n : ℕ) (low high : Point) → boxOutcome (f ++ r) n low high ≡ boxOutcome f n low high
+  unfolding boxOutcome boxOutside boxDamaged
+  box-unseen n low high =
+      question-unseen n
+      (λ K D p. axisOutside (2 ^ D) (low .x) (high .x) || axisOutside (2 ^ D) (low .y) (high .y) || axisOutside (2 ^ D) (low .z) (high .z))
+      (λ K D p. boxWay K D p low high) (λ K D p. boxSolid K D p low high)
+
+  pub kept-answer-unseen : (h : ℕ) → keptOutcome (f ++ r) h ≡ keptOutcome f h
+  unfolding keptOutcome
+  kept-answer-unseen h =
+      ap (λ (b : Bool). countOf b (depthOk h) (keptCount (f ++ r) (h - 2))) (header-unseen f r whole)
+      ∙ countOf-same (headerOk f) (depthOk h) (keptCount (f ++ r) (h - 2)) (keptCount f (h - 2)) (λ d. count-unseen f r whole (h - 2) (depth-low h d))
+
+  pub outline-unseen : (n : ℕ) (out : List ℕ) → outlineOutcome (f ++ r) n out ≡ outlineOutcome f n out
+  unfolding outlineOutcome outlineShort outlineBytes
+  outline-unseen n out =
+      let B : List (List Cell) → ℕ → ℕ → List ℕ = λ K D p. outlineOf D (rootRoom K D p) in
+      ap₂ (λ (s e : Bool). outlineFor s e (ofScene B (f ++ r) n) out) (undamaged-unseen f r whole) (no-scene-unseen n)
+      ∙ outlineFor-same (storeOk f) (noScene f n) (ofScene B (f ++ r) n) (ofScene B f n) out (λ t. scene-part B n (store-header f t))
+
+  pub pack-unseen : (n : ℕ) (scratch out : List ℕ) → packOutcome (f ++ r) n scratch out ≡ packOutcome f n scratch out
+  unfolding packOutcome packShort packBytes
+  pack-unseen n scratch out =
+      let B : List ℕ = ofScene packedFile (f ++ r) n in
+      let m : ℕ = packScratch (capacityOf f) in
+      ap (λ (c : ℕ). packFor (storeOk (f ++ r)) (noScene (f ++ r) n) (packScratch c) B scratch out) (capacity-unseen f r whole)
+      ∙ ap₂ (λ (s e : Bool). packFor s e m B scratch out) (undamaged-unseen f r whole) (no-scene-unseen n)
+      ∙ packFor-same (storeOk f) (noScene f n) m B (ofScene packedFile f n) scratch out (λ t. scene-part packedFile n (store-header f t))
