@@ -82,7 +82,7 @@ empty-list C k = go (decLt k heights)
     go (yes h) = getD-replicate heights k [] [] h
     go (no n) = List·getD-eq-default (replicate {A = List Cell} heights []) [] {n = k} (rw length-replicate (omega arith))
 
-no-cell : (C k q : ℕ) → q < length (cellsAt (emptyStore C .kept) k) → ⊥
+pub no-cell : (C k q : ℕ) → q < length (cellsAt (emptyStore C .kept) k) → ⊥
 no-cell C k q h = not-suc-le-zero (subst (λ (cs : List Cell). q < length cs) (empty-list C k) h)
 
 pub empty-sound : (C : ℕ) → Sound C (emptyStore C .kept)

@@ -43,3 +43,17 @@ pub mod UnseenWords
 pub mod UnseenAnswers
 pub mod UnseenWrites
 pub mod Unseen
+-- any list of calls on a new store
+pub mod TreesRead
+pub mod MirrorClaim
+pub mod Filled
+pub mod Filling
+pub mod Refusals
+pub mod Running
+pub mod Walks
+pub mod Holding
+pub mod NoDamage
+pub mod Differing
+pub mod CellWalk
+pub mod RoomAnswers
+pub mod RunClaims

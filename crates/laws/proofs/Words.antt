@@ -119,6 +119,10 @@ lists-snoc {C} {j} (lcons r q t) (suc m) c e l =
 abbrev pub storeWith : ℕ → List Cell → List (List Cell) → Store
 storeWith C S Ks = record { capacity = C; scenes = S; kept = Ks }
 
+-- its words, and l behind them
+abbrev pub stored : ℕ → List Cell → List (List Cell) → List ℕ → List ℕ
+stored C S Ks l = wordsOf (storeWith C S Ks) ++ l
+
 -- a store that its words can hold
 pub record Fine (C : ℕ) (S : List Cell) (Ks : List (List Cell)) : Type 0 where
   pub lists : length Ks ≡ heights
@@ -241,7 +245,7 @@ module _ (C : ℕ) (S : List Cell) (Ks : List (List Cell)) (f : Fine C S Ks) whe
 
   module _ (l : List ℕ) where
     abbrev ws : List ℕ
-    ws = wordsOf (storeWith C S Ks) ++ l
+    ws = stored C S Ks l
 
     parts : ws ≡ headerWords (storeWith C S Ks) ++ (padded (2 * mostScenes) S ++ (listWords C 0 Ks ++ l))
     unfolding wordsOf

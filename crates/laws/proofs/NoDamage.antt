@@ -1,0 +1,62 @@
+-- No call answers 2 on a store that only the calls wrote: its header, its scenes and the whole of it pass the tests, and no walk meets a bad
+-- pointer. Call by call, by the tests of its order. Assumes nothing.
+use mathlib.Core.Path.{_≡_, sym, _∙_, ap}
+use mathlib.Core.Bool.{Bool, false, not}
+use mathlib.Core.List.{List, []}
+use Prim.Native.Nat.{ℕ}
+use Rattle.paper.specs.Rooms.{Point}
+use Rattle.paper.specs.Store.{keptOf, sceneDepth, sceneRoot, headerOk, storeOk}
+use Rattle.paper.specs.Order.{firstOf, settled}
+use Rattle.paper.specs.Detail.{detailOrder, detailOutcome}
+use Rattle.paper.specs.Calls.{newOrder, newOutcome, addOutcome, noScene, questionOrder, voxelOutside, voxelDamaged, voxelOutcome, cellOutside, cellDamaged, cellOutcome, boxOutside, boxDamaged, boxOutcome, keptOutcome, outlineOutcome, packOutcome, checkOrder, checkOutcome, packedVoxelOrder, packedVoxelOutcome, openOrder, openOutcome, askOrder, askOutcome}
+use Rattle.paper.specs.Runs.{Call, new, add, voxel, cell, box, kept, outline, pack, check, packedVoxel, opening, ask, detail, Held, outcomeOf}
+use Rattle.laws.proofs.Tests.{T-true}
+use Rattle.laws.proofs.Refusals.{settled-number, never-2, sound-never-2, question-never-2}
+use Rattle.laws.proofs.Walks.{voxel-clear, cell-clear, box-clear}
+use Rattle.laws.proofs.Holding.{Holds, header-ok, scene-ok, there-below}
+
+module _ {ws : List ℕ} {held : Held} (s : Holds ws held) where
+  sound-header : not (headerOk ws) ≡ false
+  sound-header = ap not (T-true {b = headerOk ws} (header-ok s))
+
+  sound-store : not (storeOk ws) ≡ false
+  sound-store = ap not (T-true {b = storeOk ws} (s .ok))
+
+  -- ---- the walks
+
+  pub voxel-undamaged : (n : ℕ) (v : Point) → noScene ws n ≡ false → voxelDamaged ws n v ≡ false
+  unfolding voxelDamaged
+  voxel-undamaged n v e = voxel-clear (keptOf ws) (s .invs) (sceneDepth ws n) (sceneRoot ws n) (s .means n (there-below s n e) .okp) v
+
+  pub cell-undamaged : (n h : ℕ) (c : Point) → noScene ws n ≡ false → cellDamaged ws n h c ≡ false
+  unfolding cellDamaged
+  cell-undamaged n h c e = cell-clear (keptOf ws) (s .invs) (sceneDepth ws n) (sceneRoot ws n) (s .means n (there-below s n e) .okp) h c
+
+  pub box-undamaged : (n : ℕ) (low high : Point) → noScene ws n ≡ false → boxDamaged ws n low high ≡ false
+  unfolding boxDamaged
+  box-undamaged n low high e = box-clear (keptOf ws) (s .invs) (sceneDepth ws n) (sceneRoot ws n) (s .means n (there-below s n e) .okp) low high
+
+  -- ---- the calls
+
+  question-sound : (n : ℕ) (outside walk : Bool) (vs : List ℕ) → (noScene ws n ≡ false → walk ≡ false)
+      → settled (firstOf (questionOrder ws n outside walk)) vs [] [] .number ≡ 2 → ⊥
+  question-sound n outside walk vs clear e =
+      question-never-2 ws n outside walk (header-ok s) (λ q. (scene-ok s n (there-below s n q), clear q))
+      (sym (settled-number (firstOf (questionOrder ws n outside walk)) vs [] []) ∙ e)
+
+  -- (a) no call answers 2
+  pub never-damaged : (c : Call) → outcomeOf ws c .number ≡ 2 → ⊥
+  unfolding newOutcome addOutcome voxelOutcome cellOutcome boxOutcome keptOutcome outlineOutcome packOutcome checkOutcome packedVoxelOutcome openOutcome askOutcome detailOutcome
+  never-damaged (new C) = never-2 (newOrder C ws) _ _ _ tt
+  never-damaged (add file) = sound-never-2 _ _ _ _ _ sound-store tt
+  never-damaged (voxel n v) = question-sound n (voxelOutside ws n v) (voxelDamaged ws n v) _ (voxel-undamaged n v)
+  never-damaged (cell n h c) = question-sound n (cellOutside ws n h c) (cellDamaged ws n h c) _ (cell-undamaged n h c)
+  never-damaged (box n low high) = question-sound n (boxOutside ws n low high) (boxDamaged ws n low high) _ (box-undamaged n low high)
+  never-damaged (kept h) = sound-never-2 _ _ _ _ _ sound-header tt
+  never-damaged (outline n out) = sound-never-2 _ _ _ _ _ sound-store tt
+  never-damaged (pack n scratch out) = sound-never-2 _ _ _ _ _ sound-store tt
+  never-damaged (check file scratch) = never-2 (checkOrder file scratch) _ _ _ tt
+  never-damaged (packedVoxel file v) = never-2 (packedVoxelOrder file v) _ _ _ tt
+  never-damaged (opening file) = never-2 (openOrder file) _ _ _ tt
+  never-damaged (ask file D starts v) = never-2 (askOrder file D starts v) _ _ _ tt
+  never-damaged (detail D w) = never-2 (detailOrder D w) _ _ _ tt

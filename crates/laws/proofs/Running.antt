@@ -1,0 +1,205 @@
+-- Every state that calls lead to from a new store has the words of a store as calls make it. A new store has, a file added keeps it, no other call
+-- writes the store; so by induction on the list of calls. Assumes nothing.
+use mathlib.Core.Path.{_≡_, refl, sym, _∙_, ap, ap₂, subst}
+use mathlib.Core.Bool.{Bool, true, false, false≢true, cond, not, _&&_}
+use mathlib.Core.List.{List, [], _∷_, _++_}
+use Prim.Native.Nat.{ℕ, zero, suc, _+_, _-_, _*_, _<_}
+use native.Mathlib.Nat.{suc-ne-zero}
+use native.Mathlib.Decide.{ℕ-discrete}
+use native.Mathlib.Omega.{arith}
+use borrow.Author.Tests.{not-false, leb-false, ne-eqb}
+use lib.Dec.{T, leb}
+use lib.ListN.{length, drop, getD, set, replicate, replicate-append-replicate}
+use lib.Seq.{drop-at}
+use Rattle.paper.specs.Numbers.{flatten}
+use Rattle.paper.specs.Outline.{fileDepth, outlineTree}
+use Rattle.paper.specs.Store.{Cell, Store, mostScenes, heights, used, cellWords, capacityOk, scenesHeld, padded, listWords, wordsOf, emptyStore}
+use Rattle.paper.specs.Match.{Adding, full, added, addTree}
+use Rattle.paper.specs.Answers.{Outcome, told, outcome}
+use Rattle.paper.specs.Order.{firstOf}
+use Rattle.paper.specs.Calls.{over, badSize, newOrder, newWords, newOutcome, nextScene, adding, isFull, cellsFull, addOrder, withScene, addWords, addOutcome}
+use Rattle.paper.specs.Runs.{Call, new, add, voxel, cell, box, kept, outline, pack, check, packedVoxel, opening, ask, detail, Bytes, Given, sceneOf, Held, nothing, holding, State, accepted, step, run, start, AllGiven, Reached}
+use Rattle.laws.proofs.Tests.{true-T, and-left}
+use Rattle.laws.proofs.Words.{Fine, storeWith, stored, gap, gap-place, wordsOf-length, storeOf-wordsOf, capacity-read, kept-read, scenes-read}
+use Rattle.laws.proofs.Filled.{Filled, filled-fine}
+use Rattle.laws.proofs.Filling.{empty-filled, AddsFile, file-adds, S⁺, held⁺, add-filled}
+use Rattle.laws.proofs.Refusals.{settled-accepted, settled-refused, settled-number, Passed, add-passed}
+
+-- the words are those of a store as calls make it, and others behind them
+pub record Running (s : State) : Type 0 where
+  pub capacity : ℕ
+  pub scenes : List Cell
+  pub lists : List (List Cell)
+  pub rest : List ℕ
+  pub words : s .words ≡ stored capacity scenes lists rest
+  pub filled : Filled capacity scenes lists (s .held)
+
+-- ---- new store
+
+no-words : (n : ℕ) → padded n [] ≡ replicate n 0
+unfolding padded flatten
+no-words n = let e : n - 0 ≡ n = omega arith in ap (λ (m : ℕ). replicate m 0) e
+
+no-lists : (C j n : ℕ) → listWords C j (replicate n []) ≡ replicate (gap C j n) 0
+unfolding listWords gap
+no-lists C j zero = refl
+no-lists C j (suc n) =
+    ap₂ (λ (a b : List ℕ). a ++ b) (no-words (cellWords j * C)) (no-lists C (suc j) n) ∙ replicate-append-replicate (cellWords j * C) (gap C (suc j) n) 0
+
+-- 'a new store zeroes its words, then sets word 0'
+empty-words : (C : ℕ) → wordsOf (storeWith C [] (emptyStore C .kept)) ≡ C ∷ replicate (159 + 114 * C) 0
+unfolding wordsOf emptyStore
+empty-words C =
+    let n : ℕ = gap C 0 heights in
+    let e : 31 + (128 + n) ≡ 159 + 114 * C = omega (arith, gap-place C heights) in
+    ap₂ (λ (a b : List ℕ). C ∷ (replicate 31 0 ++ (a ++ b))) (no-words 128) (no-lists C 0 heights)
+    ∙ ap (λ (a : List ℕ). C ∷ (replicate 31 0 ++ a)) (replicate-append-replicate 128 n 0)
+    ∙ ap (λ (a : List ℕ). C ∷ a) (replicate-append-replicate 31 (128 + n) 0 ∙ ap (λ (m : ℕ). replicate m 0) e)
+
+pub new-words : (C : ℕ) (ws : List ℕ) → newWords C ws ≡ stored C [] (emptyStore C .kept) (drop (used C) ws)
+unfolding newWords
+new-words C ws =
+    let r : List ℕ = drop (used C) ws in
+    let e : used C ≡ suc (159 + 114 * C) = omega arith in
+    ap (λ (n : ℕ). set (replicate n 0 ++ r) 0 C) e ∙ ap (λ (l : List ℕ). l ++ r) (sym (empty-words C))
+
+-- the state after an outcome of new store
+abbrev newState : Held → Outcome → State
+newState held o = record { words = getD (o .lent) 0 []; held = cond (accepted o) nothing held }
+
+size-fits : (a b : Bool) → not (a && b) ≡ false → T a
+size-fits a b e = and-left a b (true-T (not-false (a && b) e))
+
+new-accepted : (C : ℕ) (ws : List ℕ) (held : Held) → badSize C ws ≡ false → Running (newState held (newOutcome C ws))
+unfolding newOutcome firstOf
+new-accepted C ws held e =
+    subst (λ (o : Outcome). Running (newState held o)) (sym (settled-accepted (firstOf (newOrder C ws)) [] (newWords C ws ∷ []) (ws ∷ []) (ap (λ (b : Bool). cond b 1 0) e)))
+    (record {
+      capacity = C;
+      scenes = [];
+      lists = emptyStore C .kept;
+      rest = drop (used C) ws;
+      words = new-words C ws;
+      filled = empty-filled C (unfold badSize in size-fits (capacityOk C) (leb (used C) (length ws)) e);
+    })
+
+new-refused : (C : ℕ) (s : State) → Running s → badSize C (s .words) ≡ true → Running (newState (s .held) (newOutcome C (s .words)))
+unfolding newOutcome firstOf
+new-refused C s r e =
+    let n : firstOf (newOrder C (s .words)) ≡ 1 = ap (λ (b : Bool). cond b 1 0) e in
+    subst (λ (o : Outcome). Running (newState (s .held) o))
+    (sym (settled-refused (firstOf (newOrder C (s .words))) [] (newWords C (s .words) ∷ []) (s .words ∷ []) (λ z. suc-ne-zero 0 (sym n ∙ z)) ∙ ap (λ (m : ℕ). outcome (told m []) (s .words ∷ [])) n)) r
+
+new-running : (C : ℕ) (s : State) → Running s → Running (step s (new C))
+new-running C s r = go (badSize C (s .words)) refl
+  where
+    go : (b : Bool) → badSize C (s .words) ≡ b → Running (newState (s .held) (newOutcome C (s .words)))
+    go true e = new-refused C s r e
+    go false e = new-accepted C (s .words) (s .held) e
+
+no-size : (b : Bool) → _≡_ {A = ℕ} (cond b 1 0) 0 → b ≡ false
+no-size true e = absurd (suc-ne-zero 0 e)
+no-size false e = refl
+
+nothing-either : (b : Bool) → cond b nothing nothing ≡ nothing
+nothing-either true = refl
+nothing-either false = refl
+
+pub start-running : (C : ℕ) (ws : List ℕ) → newOutcome C ws .number ≡ 0 → Running (start C ws)
+unfolding newOutcome firstOf
+start-running C ws e =
+    subst (λ (h : Held). Running (record { words = getD (newOutcome C ws .lent) 0 []; held = h })) (nothing-either (accepted (newOutcome C ws)))
+    (new-accepted C ws nothing (no-size (badSize C ws) (sym (settled-number (firstOf (newOrder C ws)) [] (newWords C ws ∷ []) (ws ∷ [])) ∙ e)))
+
+-- ---- add
+
+module _ {C : ℕ} {S : List Cell} {K : List (List Cell)} {held : Held} (f : Filled C S K held) (l : List ℕ) where
+  -- adding to the words is adding to the lists
+  pub adding-is : (file : List ℕ) → adding (stored C S K l) file ≡ addTree C (outlineTree file) (fileDepth file - 2) K
+  unfolding adding
+  adding-is file = ap₂ (λ (c : ℕ) (Ks : List (List Cell)). addTree c (outlineTree file) (fileDepth file - 2) Ks) (capacity-read C S K (filled-fine f) l) (kept-read C S K (filled-fine f) l)
+
+  -- the words afterwards
+  add-words : (file : List ℕ) (p : ℕ) (K′ : List (List Cell)) → adding (stored C S K l) file ≡ added p K′ → Fine C (S ++ ((fileDepth file ∷ p ∷ []) ∷ [])) K′
+      → addWords (stored C S K l) file ≡ stored C (S ++ ((fileDepth file ∷ p ∷ []) ∷ [])) K′ l
+  unfolding addWords
+  add-words file p K′ e fine =
+      let W : List ℕ = wordsOf (storeWith C (S ++ ((fileDepth file ∷ p ∷ []) ∷ [])) K′) in
+      ap₂ (λ (st : Store) (x : Adding ℕ). over (wordsOf (withScene st (fileDepth file) x)) (stored C S K l)) (storeOf-wordsOf C S K (filled-fine f) l) e
+      ∙ ap (λ (r : List ℕ). W ++ r) (drop-at (wordsOf (storeWith C S K)) l (length W)
+      (wordsOf-length C S K (filled-fine f) ∙ sym (wordsOf-length C (S ++ ((fileDepth file ∷ p ∷ []) ∷ [])) K′ fine)))
+
+  -- the file is held under the number of scenes before
+  add-held : (file : List ℕ) → Bytes file → Passed (stored C S K l) file
+      → Running (record { words = addWords (stored C S K l) file; held = holding (nextScene (stored C S K l)) (sceneOf file) held })
+  unfolding cellsFull
+  add-held file b p = go (addTree C (outlineTree file) (fileDepth file - 2) K) refl (file-adds C K (f .capacity) (f .lists) (f .sound) (f .invs) file b (p .accepted))
+    where
+      few : length S < mostScenes
+      few = subst (λ (n : ℕ). n < mostScenes) (scenes-read C S K (filled-fine f) l) (leb-false mostScenes (scenesHeld (stored C S K l)) (p .scenes))
+
+      go : (x : Adding ℕ) → addTree C (outlineTree file) (fileDepth file - 2) K ≡ x → AddsFile C K file x
+          → Running (record { words = addWords (stored C S K l) file; held = holding (nextScene (stored C S K l)) (sceneOf file) held })
+      go full e d = absurd (false≢true (sym (p .cells) ∙ ap isFull (adding-is file ∙ e)))
+      go (added q K′) e d =
+          let filled : Filled C (S⁺ f file b (p .accepted) q K′ d few) K′ (held⁺ f file b (p .accepted) q K′ d few) = add-filled f file b (p .accepted) q K′ d few in
+          record {
+            capacity = C;
+            scenes = S ++ ((fileDepth file ∷ q ∷ []) ∷ []);
+            lists = K′;
+            rest = l;
+            words = add-words file q K′ (adding-is file ∙ e) (filled-fine filled);
+            filled = subst (λ (n : ℕ). Filled C (S ++ ((fileDepth file ∷ q ∷ []) ∷ [])) K′ (holding n (sceneOf file) held)) (sym (scenes-read C S K (filled-fine f) l)) filled;
+          }
+
+-- the state after an outcome of add
+abbrev addState : Held → List ℕ → Outcome → State
+addState held file o = record { words = getD (o .lent) 0 []; held = cond (accepted o) (holding (getD (o .values) 0 0) (sceneOf file) held) held }
+
+-- an accepted file
+pub add-accepted : (s : State) (file : List ℕ) → Running s → Bytes file → Passed (s .words) file
+    → Running (record { words = addWords (s .words) file; held = holding (nextScene (s .words)) (sceneOf file) (s .held) })
+add-accepted s file r b p =
+    subst (λ (ws : List ℕ). Running (record { words = addWords ws file; held = holding (nextScene ws) (sceneOf file) (s .held) })) (sym (r .words))
+    (add-held (r .filled) (r .rest) file b (subst (λ (ws : List ℕ). Passed ws file) (r .words) p))
+
+add-running : (s : State) (file : List ℕ) → Running s → Bytes file → Running (step s (add file))
+unfolding addOutcome
+add-running s file r b = go (ℕ-discrete n 0)
+  where
+    n : ℕ
+    n = firstOf (addOrder (s .words) file)
+
+    go : Dec (n ≡ 0) → Running (addState (s .held) file (addOutcome (s .words) file))
+    go (yes e) =
+        subst (λ (o : Outcome). Running (addState (s .held) file o)) (sym (settled-accepted n (nextScene (s .words) ∷ []) (addWords (s .words) file ∷ []) (s .words ∷ []) e))
+        (add-accepted s file r b (add-passed (s .words) file e))
+    go (no ne) =
+        subst (λ (o : Outcome). Running (addState (s .held) file o)) (sym (settled-refused n (nextScene (s .words) ∷ []) (addWords (s .words) file ∷ []) (s .words ∷ []) ne))
+        (rw (ne-eqb n 0 ne) r)
+
+-- ---- every call, and every list of calls
+
+-- only new store and add write the store or change what is held
+pub step-running : (s : State) (c : Call) → Given c → Running s → Running (step s c)
+step-running s (new C) g r = new-running C s r
+step-running s (add file) g r = add-running s file r g
+step-running s (voxel n v) g r = r
+step-running s (cell n h c) g r = r
+step-running s (box n low high) g r = r
+step-running s (kept h) g r = r
+step-running s (outline n out) g r = r
+step-running s (pack n scratch out) g r = r
+step-running s (check file scratch) g r = r
+step-running s (packedVoxel file v) g r = r
+step-running s (opening file) g r = r
+step-running s (ask file D starts v) g r = r
+step-running s (detail D w) g r = r
+
+pub run-running : (cs : List Call) (s : State) → AllGiven cs → Running s → Running (run s cs)
+unfolding run
+run-running [] s g r = r
+run-running (c ∷ cs) s g r = run-running cs (step s c) (g .1) (step-running s c (g .0) r)
+
+pub reached-running : (s : State) → Reached s → Running s
+reached-running s r = subst Running (r .led) (run-running (r .calls) (start (r .capacity) (r .before)) (r .given) (start-running (r .capacity) (r .before) (r .began)))

@@ -1,0 +1,114 @@
+-- On lists as they should be no walk meets a bad pointer, whatever the voxel: every pointer of a kept cell is none or names a kept cell, so what is
+-- entered is kept. And a box count goes by the voxels. By induction on the height, and on the sums. Assumes nothing.
+use mathlib.Core.Path.{_≡_, refl, _∙_, ap, ap₂}
+use mathlib.Core.Bool.{Bool, true, false, cond}
+use mathlib.Core.List.{List}
+use mathlib.Core.Logic.{inl, inr}
+use Prim.Native.Nat.{ℕ, zero, suc, _+_, _-_, _<_, _^_}
+use native.Mathlib.Nat.{le-refl}
+use native.Mathlib.Decide.{decLt}
+use native.Mathlib.Omega.{arith}
+use borrow.Author.Tests.{eqb-false}
+use lib.Dec.{eqb, leb, ltb}
+use lib.ListN.{length, getD, List·getD-eq-default}
+use Rattle.paper.specs.Numbers.{sum, bitFor}
+use Rattle.paper.specs.Rooms.{Point, point, Room, Same, inBox, sum3, boxCount}
+use Rattle.paper.specs.Store.{Cell, cellsAt, cellAt, cellNo, badPointer, anyBad}
+use Rattle.paper.specs.Questions.{taken, below, inBelow, wayDamaged, takenBad, fromRoot, voxelWay, cellWay, boxWay}
+use Rattle.laws.proofs.Invariant.{Names, OkPointer, names-lt, ok-not-bad}
+use Rattle.laws.proofs.Adding.{Invs}
+use Rattle.laws.proofs.Filled.{none-bad}
+
+-- ---- cells as a walk enters them
+
+-- whatever pointer is taken from the cell, it is none or names a kept cell
+abbrev Sure : List (List Cell) → ℕ → Cell → Type 0
+Sure K zero c = Unit {0}
+Sure K (suc k) c = (i : ℕ) → OkPointer (length (cellsAt K k)) (getD c i 0)
+
+named : {n p : ℕ} → OkPointer n p → eqb p 0 ≡ false → Names n p
+named {n} {p} (inl e) h = absurd (eqb-false p 0 h e)
+named (inr m) h = m
+
+-- no bad pointer here, and no damage behind a pointer that is not none
+quiet : (stop bad none rest : Bool) → bad ≡ false → (none ≡ false → rest ≡ false) → cond stop false (cond bad true (cond none false rest)) ≡ false
+quiet true bad none rest b r = refl
+quiet false true none rest b r = b
+quiet false false true rest b r = refl
+quiet false false false rest b r = r refl
+
+module _ (K : List (List Cell)) (I : Invs K) where
+  kept-sure : (k q : ℕ) → q < length (cellsAt K k) → Sure K k (cellAt K k q)
+  kept-sure zero q h = tt
+  kept-sure (suc k) q h = λ i. go i (decLt i 8)
+    where
+      go : (i : ℕ) → Dec (i < 8) → OkPointer (length (cellsAt K k)) (getD (cellAt K (suc k) q) i 0)
+      go i (yes l) = I (suc k) .ok q h i l
+      go i (no n) = inl (List·getD-eq-default (cellAt K (suc k) q) 0 {n = i} (omega (arith, I (suc k) .shape q h .0)))
+
+  way-clear : (stop k : ℕ) (c : Cell) (v : Point) → Sure K k c → wayDamaged K stop k c v ≡ false
+  unfolding wayDamaged
+  way-clear stop zero c v s = refl
+  way-clear stop (suc k) c v s =
+      let p : ℕ = taken k c v in
+      quiet (leb (suc k) stop) (anyBad (length (cellsAt K k)) c) (eqb p 0) (wayDamaged K stop k (below K k p) (inBelow k p v))
+      (none-bad (length (cellsAt K k)) c (λ i h. s i))
+      (λ e. way-clear stop k (below K k p) (inBelow k p v) (kept-sure k (cellNo p) (names-lt (named (s _) e))))
+
+  taken-clear : (k : ℕ) (c : Cell) (v : Point) → Sure K k c → takenBad K k c v ≡ false
+  unfolding takenBad
+  taken-clear zero c v s = refl
+  taken-clear (suc k) c v s =
+      let p : ℕ = taken k c v in
+      quiet false (badPointer (length (cellsAt K k)) p) (eqb p 0) (takenBad K k (below K k p) (inBelow k p v))
+      (ok-not-bad (length (cellsAt K k)) p (s _))
+      (λ e. taken-clear k (below K k p) (inBelow k p v) (kept-sure k (cellNo p) (names-lt (named (s _) e))))
+
+  -- from a root that is none or names a kept cell
+  module _ (D p : ℕ) (ok : OkPointer (length (cellsAt K (D - 2))) p) where
+    root-clear : (way : ℕ → Cell → Point → Bool) → ((c : Cell) (v : Point) → Sure K (D - 2) c → way (D - 2) c v ≡ false) → (v : Point) → fromRoot way K D p v ≡ false
+    root-clear way clear v =
+        quiet false false (eqb p 0) (way (D - 2) (below K (D - 2) p) _) refl
+        (λ e. clear (below K (D - 2) p) _ (kept-sure (D - 2) (cellNo p) (names-lt (named ok e))))
+
+    pub voxel-clear : (v : Point) → voxelWay K D p v ≡ false
+    voxel-clear v = root-clear (wayDamaged K 0) (way-clear 0 (D - 2)) v
+
+    pub cell-clear : (h : ℕ) (c : Point) → cellWay K D p h c ≡ false
+    cell-clear h c = root-clear (wayDamaged K (h - 2)) (way-clear (h - 2) (D - 2)) _
+
+    taken-root-clear : (v : Point) → fromRoot (takenBad K) K D p v ≡ false
+    taken-root-clear v = root-clear (takenBad K) (taken-clear (D - 2)) v
+
+-- ---- box counts
+
+pub sum-same : (n : ℕ) (f g : ℕ → ℕ) → ((i : ℕ) → i < n → f i ≡ g i) → sum n f ≡ sum n g
+unfolding sum
+sum-same zero f g h = refl
+sum-same (suc n) f g h = ap₂ (λ (a b : ℕ). a + b) (sum-same n f g (λ i l. h i (omega arith))) (h n (le-refl (suc n)))
+
+pub sum-zero : (n : ℕ) → sum n (λ i. 0) ≡ 0
+unfolding sum
+sum-zero zero = refl
+sum-zero (suc n) = omega (arith, sum-zero n)
+
+pub boxCount-same : (S : ℕ) (r r′ : Room) (low high : Point) → Same S r r′ → boxCount S r low high ≡ boxCount S r′ low high
+unfolding boxCount sum3
+boxCount-same S r r′ low high e =
+    sum-same S _ _ (λ c hc. sum-same S _ _ (λ b hb. sum-same S _ _ (λ a ha.
+    ap (λ (x : Bool). cond (inBox low high (point a b c)) (bitFor x) 0) (e (point a b c) (record { inX = ha; inY = hb; inZ = hc })))))
+
+cond-same : {A : Type 0} (b : Bool) (x : A) → cond b x x ≡ x
+cond-same true x = refl
+cond-same false x = refl
+
+pub boxCount-none : (S : ℕ) (low high : Point) → boxCount S (λ v. false) low high ≡ 0
+unfolding boxCount sum3
+boxCount-none S low high =
+    sum-same S _ (λ c. 0) (λ c hc. sum-same S _ (λ b. 0) (λ b hb. sum-same S _ (λ a. 0) (λ a ha. cond-same (inBox low high (point a b c)) 0) ∙ sum-zero S) ∙ sum-zero S) ∙ sum-zero S
+
+module _ (K : List (List Cell)) (I : Invs K) (D p : ℕ) (ok : OkPointer (length (cellsAt K (D - 2))) p) where
+  pub box-clear : (low high : Point) → boxWay K D p low high ≡ false
+  unfolding boxWay
+  box-clear low high =
+      ap (ltb 0) (boxCount-same (2 ^ D) (fromRoot (takenBad K) K D p) (λ v. false) low high (λ v l. taken-root-clear K I D p ok v) ∙ boxCount-none (2 ^ D) low high)
