@@ -1,0 +1,37 @@
+-- Words that are all zero, one word after the other: a run of none is blank, and a run's first word decides or leaves the rest.
+-- By what the list has from that word on. Assumes nothing.
+use mathlib.Core.Path.{_≡_, sym}
+use mathlib.Core.Bool.{true, false}
+use mathlib.Core.List.{List}
+use Prim.Native.Nat.{ℕ, suc, _+_, _-_, _≤_, _<_}
+use native.Mathlib.Numerals.{add-one}
+use native.Mathlib.Omega.{arith}
+use lib.ListN.{length, getD}
+use lib.Seq.{drop-cons}
+use borrow.Author.Tests.{ne-eqb}
+use Rattle.paper.specs.Numbers.{allIn}
+use Rattle.paper.specs.Store.{blank}
+
+zero-first : (ws : List ℕ) (a n : ℕ) → a < length ws → getD ws a 0 ≡ 0 → blank ws a (suc n) ≡ blank ws (suc a) n
+unfolding blank allIn
+zero-first ws a n h e = rw (drop-cons ws a 0 h, e)
+
+other-first : (ws : List ℕ) (a n : ℕ) → a < length ws → (getD ws a 0 ≡ 0 → ⊥) → blank ws a (suc n) ≡ false
+unfolding blank allIn
+other-first ws a n h z = rw (drop-cons ws a 0 h, ne-eqb 0 (getD ws a 0) (λ q. z (sym q)))
+
+-- the words from i up to e, which lies in the list
+
+pub blank-none : (ws : List ℕ) (i e : ℕ) → e ≤ i → blank ws i (e - i) ≡ true
+unfolding blank allIn
+blank-none ws i e h = let z : e - i ≡ 0 = omega arith in rw z
+
+module _ (ws : List ℕ) (i e : ℕ) (l : i < e) (h : e ≤ length ws) where
+  one-more : e - i ≡ suc (e - (i + 1))
+  one-more = omega arith
+
+  pub blank-next : getD ws i 0 ≡ 0 → blank ws i (e - i) ≡ blank ws (i + 1) (e - (i + 1))
+  blank-next z = rw one-more (rw (add-one i) (zero-first ws i (e - suc i) (omega arith) z))
+
+  pub blank-fails : (getD ws i 0 ≡ 0 → ⊥) → blank ws i (e - i) ≡ false
+  blank-fails z = rw one-more (other-first ws i (e - (i + 1)) (omega arith) z)

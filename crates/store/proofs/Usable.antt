@@ -1,0 +1,115 @@
+-- The ways through the tests of a cell, of a scene, of the cells of a list and of the whole store, in the code's words.
+-- Each by the value of the tests passed, at which the definition computes; a list by what it has from a cell on. Assumes nothing.
+use mathlib.Core.Path.{_≡_, refl, sym, ap, ap₂, _∙_}
+use mathlib.Core.Bool.{Bool, true, false, cond, not, _&&_}
+use mathlib.Core.List.{List, []}
+use Prim.Native.Nat.{ℕ, zero, suc, _+_, _-_, _≤_, _<_}
+use native.Mathlib.Numerals.{add-one, sub-one}
+use native.Mathlib.Omega.{arith}
+use lib.Dec.{leb, eqb, leb→le}
+use lib.ListN.{length, drop, getD, drop-of-length-le}
+use lib.Seq.{drop-cons}
+use borrow.Author.Tests.{lt-ltb, le-ltb}
+use Rattle.laws.proofs.Tests.{true-T, and-left, and-right}
+use Rattle.paper.specs.Numbers.{allBelow, allIn}
+use Rattle.paper.specs.Rooms.{least, deepest, depthOk}
+use Rattle.paper.specs.Store.{Cell, cellsAt, leafNo, badPointer, anyBad, heights, keptCount, scenesHeld, keptOf, sceneDepth, sceneRoot, headerOk, sceneOk, leafUsable, cellUsable, listUsable, scenesBlank, listBlank, storeOk}
+
+-- ---- a cell
+
+pub cell-empty : (n : ℕ) (c : Cell) → allBelow 8 (λ i. eqb (getD c i 0) 0) ≡ true → cellUsable n c ≡ false
+unfolding cellUsable
+cell-empty n c e = ap (λ (b : Bool). not b && not (anyBad n c)) e
+
+pub cell-filled : (n : ℕ) (c : Cell) → allBelow 8 (λ i. eqb (getD c i 0) 0) ≡ false → cellUsable n c ≡ not (anyBad n c)
+unfolding cellUsable
+cell-filled n c e = ap (λ (b : Bool). not b && not (anyBad n c)) e
+
+pub leaf-empty : (c : Cell) → leafNo c ≡ 0 → leafUsable c ≡ false
+unfolding leafUsable
+leaf-empty c e = le-ltb 0 (leafNo c) (omega arith)
+
+pub leaf-filled : (c : Cell) → (leafNo c ≡ 0 → ⊥) → leafUsable c ≡ true
+unfolding leafUsable
+leaf-filled c z = lt-ltb 0 (leafNo c) (omega arith)
+
+-- ---- a scene
+
+pub depth-low : (D : ℕ) → depthOk D ≡ true → least ≤ D
+depth-low D e = leb→le least D (and-left (leb least D) (leb D deepest) (true-T e))
+
+pub depth-high : (D : ℕ) → depthOk D ≡ true → D ≤ deepest
+depth-high D e = leb→le D deepest (and-right (leb least D) (leb D deepest) (true-T e))
+
+module _ (ws : List ℕ) (n D : ℕ) (e : D ≡ sceneDepth ws n) where
+  abbrev by-depth : ℕ → Bool → Bool
+  by-depth d b = b && not (badPointer (keptCount ws (d - 2)) (sceneRoot ws n))
+
+  pub scene-shallow : depthOk D ≡ false → sceneOk ws n ≡ false
+  unfolding sceneOk
+  scene-shallow f = sym (ap (λ (d : ℕ). by-depth d (depthOk d)) e) ∙ ap (by-depth D) f
+
+  pub scene-rooted : depthOk D ≡ true → sceneOk ws n ≡ not (badPointer (keptCount ws (D - 2)) (sceneRoot ws n))
+  unfolding sceneOk
+  scene-rooted t = sym (ap (λ (d : ℕ). by-depth d (depthOk d)) e) ∙ ap (by-depth D) t
+
+-- ---- a loop over a list's cells, with an answer A that is still that of the cells from n on
+
+first : (p : Cell → Bool) (l : List Cell) (n : ℕ) → n < length l → allIn p (drop n l) ≡ cond (p (getD l n [])) (allIn p (drop (n + 1) l)) false
+unfolding allIn
+first p l n h = rw (add-one n, drop-cons l n [] h)
+
+module _ (p : Cell → Bool) (l : List Cell) (n : ℕ) {A : Bool} where
+  pub in-still : A ≡ allIn p (drop n l) → n < length l → p (getD l n []) ≡ true → A ≡ allIn p (drop (n + 1) l)
+  in-still a h e = a ∙ first p l n h ∙ ap (λ (b : Bool). cond b (allIn p (drop (n + 1) l)) false) e
+
+  pub in-stop : A ≡ allIn p (drop n l) → n < length l → p (getD l n []) ≡ false → A ≡ false
+  in-stop a h e = a ∙ first p l n h ∙ ap (λ (b : Bool). cond b (allIn p (drop (n + 1) l)) false) e
+
+  pub in-end : A ≡ allIn p (drop n l) → length l ≤ n → A ≡ true
+  unfolding allIn
+  in-end a h = a ∙ ap (allIn p) (drop-of-length-le l h)
+
+pub list-leaves : (K : List (List Cell)) → listUsable K 0 ≡ allIn leafUsable (cellsAt K 0)
+unfolding listUsable
+list-leaves K = refl
+
+pub list-cells : (K : List (List Cell)) (k m : ℕ) → 1 ≤ k → m ≡ length (cellsAt K (k - 1)) → listUsable K k ≡ allIn (cellUsable m) (cellsAt K k)
+unfolding listUsable
+list-cells K zero m o e = absurd (omega arith)
+list-cells K (suc k) m o e =
+    let f : length (cellsAt K k) ≡ m = rw (sub-one (suc k)) at (sym e) in
+    ap (λ (i : ℕ). allIn (cellUsable i) (cellsAt K (suc k))) f
+
+-- ---- the whole store
+
+module _ (ws : List ℕ) where
+  abbrev scenes : Bool
+  scenes = allBelow (scenesHeld ws) (sceneOk ws)
+
+  abbrev usable : Bool
+  usable = allBelow heights (listUsable (keptOf ws))
+
+  abbrev parts : Bool → Bool → Bool → Bool → Bool
+  parts h s b u = h && s && b && u && allBelow heights (listBlank ws)
+
+  in-parts : storeOk ws ≡ parts (headerOk ws) scenes (scenesBlank ws) usable
+  unfolding storeOk
+  in-parts = refl
+
+  pub store-header : headerOk ws ≡ false → storeOk ws ≡ false
+  store-header e = in-parts ∙ ap (λ (h : Bool). parts h scenes (scenesBlank ws) usable) e
+
+  pub store-scenes : headerOk ws ≡ true → scenes ≡ false → storeOk ws ≡ false
+  store-scenes e f = in-parts ∙ ap₂ (λ (h s : Bool). parts h s (scenesBlank ws) usable) e f
+
+  pub store-stained : headerOk ws ≡ true → scenes ≡ true → scenesBlank ws ≡ false → storeOk ws ≡ false
+  store-stained e f g = in-parts ∙ ap₂ (λ (h s : Bool). parts h s (scenesBlank ws) usable) e f ∙ ap (λ (b : Bool). parts true true b usable) g
+
+  pub store-unusable : headerOk ws ≡ true → scenes ≡ true → scenesBlank ws ≡ true → usable ≡ false → storeOk ws ≡ false
+  store-unusable e f g u =
+      in-parts ∙ ap₂ (λ (h s : Bool). parts h s (scenesBlank ws) usable) e f ∙ ap₂ (λ (b v : Bool). parts true true b v) g u
+
+  pub store-rest : headerOk ws ≡ true → scenes ≡ true → scenesBlank ws ≡ true → usable ≡ true → storeOk ws ≡ allBelow heights (listBlank ws)
+  store-rest e f g u =
+      in-parts ∙ ap₂ (λ (h s : Bool). parts h s (scenesBlank ws) usable) e f ∙ ap₂ (λ (b v : Bool). parts true true b v) g u

@@ -1,0 +1,25 @@
+-- `store::scenes::scene_depth` meets its contract: the words before the first list are there, as a header in order has it.
+-- By the room that such a header gives. Assumes nothing.
+use mathlib.Core.Path.{ap}
+use Prim.Native.Nat.{ℕ}
+use lib.ListN.{getD}
+use native.Mathlib.Omega.{arith}
+use Rattle.store.proofs.HeaderFacts.{header-front}
+use borrow.Author.Needs.{needs}
+use Rattle.store.proofs.scenes.scene_depth.Statement.{statement}
+use Rattle.store.proofs.scenes.scene_depth.Tie as tie
+
+shared-slice-read-result : tie.Need-shared-slice-read-result
+shared-slice-read-result c = omega (arith, header-front _ (c .before .before .before .pre .0))
+
+returns : tie.Need-returns
+returns c = ap (λ (i : ℕ). getD (c .before .before .before .args .store .now) i 0) (c .before .scene-place .ensures)
+
+pub scene-depth-spec : {M : Type 1} → statement M
+scene-depth-spec =
+    tie.close
+    (tie.spec
+    (λ c κs. search needs)
+    (λ c. search needs)
+    shared-slice-read-result
+    returns)

@@ -1,0 +1,75 @@
+// The words from 160 on: C leaves of two words, high first, then for heights 3 to 16 in turn C cells of 8 pointers.
+ghost use mathlib.Core.Path.{_≡_};
+ghost use Prim.Native.Nat.{_+_, _^_, _≤_, _<_};
+ghost use lib.Dec.{T};
+ghost use lib.ListN.{length, take, drop};
+ghost use Rattle.paper.specs.Store.{mostCapacity, heights, keptCount, cellPlace, keptOf, cellAt, leafNo, headerOk};
+use crate::header::FIRST_LIST;
+use crate::header::capacity;
+
+// The words of a leaf, and of any other cell.
+pub const LEAF_WORDS: usize = 2;
+
+pub const CELL_WORDS: usize = 8;
+
+// A leaf's high word counts so many times: 2^32.
+const HIGH_WORD: u64 = 4294967296;
+
+// Where cell n of list k starts, in a store of capacity c.
+pub fn cell_place(c: u32, k: u32, n: u32) -> usize
+    requires { ⌜ c ≤ mostCapacity ⌝ }
+    requires { ⌜ k < heights ⌝ }
+    requires { ⌜ n ≤ c ⌝ }
+    ensures { λ r. ⌜ r ≡ cellPlace c k n ⌝ }
+{
+    let number = n as usize;
+    if k == 0 {
+        return FIRST_LIST + LEAF_WORDS * number;
+    }
+    let units = c as usize;
+    FIRST_LIST + LEAF_WORDS * units + CELL_WORDS * units * ((k - 1) as usize) + CELL_WORDS * number
+}
+
+// A word as a 64-bit number.
+fn wide(word: u32) -> u64
+    ensures { λ r. ⌜ (r ≡ word) × (r < 2 ^ 32) ⌝ }
+{
+    word as u64
+}
+
+// Leaf n: its two words as one number.
+pub fn leaf_at(store: &[u32], n: u32) -> u64
+    requires { ⌜ T (headerOk (now store)) ⌝ }
+    requires { ⌜ n < keptCount (now store) 0 ⌝ }
+    ensures { λ r. ⌜ r ≡ leafNo (cellAt (keptOf (now (store .entry))) 0 n) ⌝ }
+{
+    let at = cell_place(capacity(store), 0, n);
+    wide(store[at]) * HIGH_WORD + wide(store[at + 1])
+}
+
+// Eight words from `at` on, as one value.
+fn eight(store: &[u32], at: usize) -> [u32; 8]
+    requires { ⌜ at + 8 ≤ length (now store) ⌝ }
+    ensures { λ r. ⌜ r ≡ take 8 (drop at (now (store .entry))) ⌝ }
+{
+    [
+        store[at],
+        store[at + 1],
+        store[at + 2],
+        store[at + 3],
+        store[at + 4],
+        store[at + 5],
+        store[at + 6],
+        store[at + 7],
+    ]
+}
+
+// Cell n of list k, k not 0: its eight pointers.
+pub fn cell_at(store: &[u32], k: u32, n: u32) -> [u32; 8]
+    requires { ⌜ T (headerOk (now store)) ⌝ }
+    requires { ⌜ (1 ≤ k) × (k < heights) ⌝ }
+    requires { ⌜ n < keptCount (now store) k ⌝ }
+    ensures { λ r. ⌜ r ≡ cellAt (keptOf (now (store .entry))) k n ⌝ }
+{
+    eight(store, cell_place(capacity(store), k, n))
+}

@@ -1,0 +1,119 @@
+// The whole store's tests: every scene held, every cell kept, and the unused words.
+ghost use mathlib.Core.Path.{_≡_};
+ghost use mathlib.Core.Bool.{not};
+ghost use Prim.Native.Nat.{_≤_, _<_};
+ghost use lib.Dec.{T};
+ghost use Rattle.paper.specs.Numbers.{allBelow};
+ghost use Rattle.paper.specs.Store.{heights, keptOf, headerOk, listUsable, listBlank, storeOk};
+use crate::cells::CELL_WORDS;
+use crate::cells::LEAF_WORDS;
+use crate::cells::cell_at;
+use crate::cells::cell_place;
+use crate::cells::leaf_at;
+use crate::header::HEIGHTS;
+use crate::header::capacity;
+use crate::header::header_bad;
+use crate::header::kept_count;
+use crate::header::not_blank;
+use crate::pointers::cell_bad;
+use crate::scenes::scenes_bad;
+use crate::scenes::scenes_not_blank;
+
+// Whether a kept leaf is empty.
+fn leaves_bad(store: &[u32]) -> bool
+    requires { ⌜ T (headerOk (now store)) ⌝ }
+    ensures { λ r. ⌜ r ≡ not (listUsable (keptOf (now (store .entry))) 0) ⌝ }
+{
+    let count = kept_count(store, 0);
+    let mut n = 0u32;
+    while n < count {
+        if leaf_at(store, n) == 0 {
+            return true;
+        }
+        n += 1;
+    }
+    false
+}
+
+// Whether a cell kept in list k, k not 0, is empty or has a bad pointer.
+fn cells_bad(store: &[u32], k: u32) -> bool
+    requires { ⌜ T (headerOk (now store)) ⌝ }
+    requires { ⌜ (1 ≤ k) × (k < heights) ⌝ }
+    ensures { λ r. ⌜ r ≡ not (listUsable (keptOf (now (store .entry))) k) ⌝ }
+{
+    let below = kept_count(store, k - 1);
+    let count = kept_count(store, k);
+    let mut n = 0u32;
+    while n < count {
+        if cell_bad(below, cell_at(store, k, n)) {
+            return true;
+        }
+        n += 1;
+    }
+    false
+}
+
+// Whether a list keeps an empty cell or one with a bad pointer.
+fn lists_bad(store: &[u32]) -> bool
+    requires { ⌜ T (headerOk (now store)) ⌝ }
+    ensures { λ r. ⌜ r ≡ not (allBelow heights (listUsable (keptOf (now (store .entry))))) ⌝ }
+{
+    let mut k = HEIGHTS;
+    while k != 1 {
+        k -= 1;
+        if cells_bad(store, k) {
+            return true;
+        }
+    }
+    leaves_bad(store)
+}
+
+// Whether a word of list k past its kept cells is not zero.
+fn list_not_blank(store: &[u32], k: u32) -> bool
+    requires { ⌜ T (headerOk (now store)) ⌝ }
+    requires { ⌜ k < heights ⌝ }
+    ensures { λ r. ⌜ r ≡ not (listBlank (now (store .entry)) k) ⌝ }
+{
+    let c = capacity(store);
+    let n = kept_count(store, k);
+    let at = cell_place(c, k, n);
+    let spare = (c - n) as usize;
+    if k == 0 {
+        return not_blank(store, at, LEAF_WORDS * spare);
+    }
+    not_blank(store, at, CELL_WORDS * spare)
+}
+
+// Whether an unused word of some list is not zero.
+fn lists_not_blank(store: &[u32]) -> bool
+    requires { ⌜ T (headerOk (now store)) ⌝ }
+    ensures { λ r. ⌜ r ≡ not (allBelow heights (listBlank (now (store .entry)))) ⌝ }
+{
+    let mut k = HEIGHTS;
+    while k != 0 {
+        k -= 1;
+        if list_not_blank(store, k) {
+            return true;
+        }
+    }
+    false
+}
+
+// Whether the store is damaged anywhere: header, scenes, cells, unused words.
+pub fn store_bad(store: &[u32]) -> bool
+    ensures { λ r. ⌜ r ≡ not (storeOk (now (store .entry))) ⌝ }
+{
+    if header_bad(store) {
+        return true;
+    }
+    if scenes_bad(store) {
+        return true;
+    }
+    if scenes_not_blank(store) {
+        return true;
+    }
+    if lists_bad(store) {
+        return true;
+    }
+    lists_not_blank(store)
+}

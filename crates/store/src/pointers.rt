@@ -1,0 +1,80 @@
+// Pointers: 0 for none; otherwise the top three bits are a mirror and the low 29 bits the kept cell's number plus 1.
+ghost use mathlib.Core.Path.{_≡_};
+ghost use mathlib.Core.Bool.{not};
+ghost use lib.Dec.{eqb};
+ghost use lib.ListN.{getD};
+ghost use Rattle.paper.specs.Numbers.{allBelow};
+ghost use Rattle.paper.specs.Store.{tagOf, cellNo, badPointer, anyBad, cellUsable};
+
+// The lowest bit of the mirror: 2^29.
+const TAG_STEP: u32 = 536870912;
+
+// A cell's children.
+const CHILDREN: usize = 8;
+
+// The mirror of a pointer.
+pub fn tag(p: u32) -> u32
+    ensures { λ r. ⌜ r ≡ tagOf p ⌝ }
+{
+    p / TAG_STEP
+}
+
+// The number of the cell that a pointer names; 0 where it names none.
+pub fn cell_number(p: u32) -> u32
+    ensures { λ r. ⌜ r ≡ cellNo p ⌝ }
+{
+    let low = p % TAG_STEP;
+    if low == 0 { 0 } else { low - 1 }
+}
+
+// Whether a pointer is not 0 and names none of `count` kept cells.
+pub fn bad_pointer(count: u32, p: u32) -> bool
+    ensures { λ r. ⌜ r ≡ badPointer count p ⌝ }
+{
+    if p == 0 {
+        return false;
+    }
+    let low = p % TAG_STEP;
+    if low < 1 {
+        return true;
+    }
+    count < low
+}
+
+// Whether one of a cell's eight pointers is bad.
+pub fn any_bad(count: u32, cell: [u32; 8]) -> bool
+    ensures { λ r. ⌜ r ≡ anyBad count cell ⌝ }
+{
+    let mut i = CHILDREN;
+    while i != 0 {
+        i -= 1;
+        if bad_pointer(count, cell[i]) {
+            return true;
+        }
+    }
+    false
+}
+
+// Whether none of a cell's eight children is there.
+pub fn all_absent(cell: [u32; 8]) -> bool
+    ensures { λ r. ⌜ r ≡ allBelow 8 (λ i. eqb (getD cell i 0) 0) ⌝ }
+{
+    let mut i = CHILDREN;
+    while i != 0 {
+        i -= 1;
+        if cell[i] != 0 {
+            return false;
+        }
+    }
+    true
+}
+
+// Whether a cell is empty or has a bad pointer.
+pub fn cell_bad(count: u32, cell: [u32; 8]) -> bool
+    ensures { λ r. ⌜ r ≡ not (cellUsable count cell) ⌝ }
+{
+    if all_absent(cell) {
+        return true;
+    }
+    any_bad(count, cell)
+}

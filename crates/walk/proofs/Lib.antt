@@ -1,0 +1,11 @@
+pub mod Seen
+pub mod Ends
+pub mod Asked
+pub mod Roots
+pub mod Cells
+pub mod Two
+pub mod Steps
+pub mod Outside
+pub mod Settled
+pub mod Entries
+pub mod Voxels

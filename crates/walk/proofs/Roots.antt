@@ -1,0 +1,102 @@
+-- A walk from a scene's root: what is read off its end is what paper's questions find, and the leaf that it ends at is kept. By the laws of walks,
+-- at the root's list, where a voxel inside needs no reducing. Assumes nothing.
+use mathlib.Core.Path.{_≡_, refl, sym, ap, _∙_, subst}
+use mathlib.Core.Bool.{Bool, true, false, cond, not, _&&_}
+use mathlib.Core.List.{List, []}
+use mathlib.Core.Logic.{inl, inr}
+use Prim.Native.Nat.{ℕ, zero, suc, _+_, _-_, _*_, _/_, _%_, _^_, _<_, _≤_}
+use native.Mathlib.Nat.{mod-eq-of-lt}
+use native.Mathlib.Omega.{arith}
+use lib.Bits.{bitXor}
+use lib.Dec.{T, eqb, leb, leb·suc-zero, eqb→eq}
+use lib.ListN.{length, getD}
+use Rattle.paper.specs.Numbers.{bitFor}
+use Rattle.paper.specs.Rooms.{Point, point, Inside, depthOk, mirror, inChild}
+use Rattle.paper.specs.Outline.{edge}
+use Rattle.paper.specs.Store.{Cell, cellsAt, cellAt, tagOf, lowOf, cellNo, badPointer, anyBad}
+use Rattle.paper.specs.Meaning.{cellVoxel, rootRoom}
+use Rattle.paper.specs.Questions.{below, wayDamaged, fromRoot, voxelSolid, voxelWay}
+use Rattle.laws.proofs.Eight.{xor8-lt}
+use Rattle.laws.proofs.Tests.{none-at}
+use Rattle.laws.proofs.Outlines.{depth-two}
+use Rattle.laws.proofs.Invariant.{OkPointer, names-lt, not-bad-ok}
+use Rattle.walk.specs.Walk.{octant, seenAt, takenFrom, reachOf, voxelEnd, AtKept}
+use Rattle.walk.specs.declared.ways.Reach.{Reach}
+use Rattle.walk.specs.declared.ways.Reach.the-variants.{Absent, At, Damaged}
+use Rattle.walk.proofs.Ends.{tag-lt, tag-joins, orDamage, isDamaged, way-damaged, voxel-end}
+
+-- ---- at the root
+
+inside-whole : (S : ℕ) (v : Point) → Inside S v → inChild S v ≡ v
+inside-whole S v h = λ i. point (mod-eq-of-lt (h .inX) i) (mod-eq-of-lt (h .inY) i) (mod-eq-of-lt (h .inZ) i)
+
+root-edge : (D : ℕ) → T (depthOk D) → edge (D - 2) ≡ 2 ^ D
+root-edge D h = ap (λ (n : ℕ). 2 ^ n) (depth-two D h)
+
+pub root-seen : (D t : ℕ) (v : Point) → T (depthOk D) → Inside (2 ^ D) v → mirror t (2 ^ D) v ≡ seenAt (D - 2) t v
+root-seen D t v d h =
+    ap (mirror t (2 ^ D)) (sym (inside-whole (2 ^ D) v h)) ∙ ap (λ (S : ℕ). mirror t S (inChild S v)) (sym (root-edge D d))
+
+-- damage on the way from the root
+pub root-damaged : (K : List (List Cell)) (stop D p : ℕ) (v : Point) → T (depthOk D) → Inside (2 ^ D) v → T (not (eqb p 0))
+    → fromRoot (wayDamaged K stop) K D p v ≡ isDamaged (reachOf K stop (D - 2) (cellNo p) (tagOf p) v)
+root-damaged K stop D p v d h n =
+    named (eqb p 0) n
+    ∙ ap (wayDamaged K stop (D - 2) (below K (D - 2) p)) (root-seen D (tagOf p) v d h)
+    ∙ way-damaged K stop (D - 2) (cellNo p) (tagOf p) v (tag-lt p)
+  where
+    named : (b : Bool) → T (not b) → cond b false (wayDamaged K stop (D - 2) (below K (D - 2) p) (mirror (tagOf p) (2 ^ D) v)) ≡ wayDamaged K stop (D - 2) (below K (D - 2) p) (mirror (tagOf p) (2 ^ D) v)
+    named true t = absurd t
+    named false t = refl
+
+-- the end of a voxel question
+pub voxel-root : (K : List (List Cell)) (D p : ℕ) (v : Point) → T (depthOk D) → Inside (2 ^ D) v → T (not (eqb p 0))
+    → voxelEnd K v (reachOf K 0 (D - 2) (cellNo p) (tagOf p) v) ≡ orDamage (voxelWay K D p v) (bitFor (voxelSolid K D p v))
+unfolding rootRoom
+voxel-root K D p v d h n =
+    let c : Cell = below K (D - 2) p in
+    let at : Point → ℕ = λ w. orDamage (wayDamaged K 0 (D - 2) c w) (bitFor (cellVoxel K (D - 2) c w)) in
+    voxel-end K (D - 2) (cellNo p) (tagOf p) v (tag-lt p) ∙ ap at (sym (root-seen D (tagOf p) v d h)) ∙ named (eqb p 0) n
+  where
+    named : (b : Bool) → T (not b) → orDamage (wayDamaged K 0 (D - 2) (below K (D - 2) p) (mirror (tagOf p) (2 ^ D) v)) (bitFor (cellVoxel K (D - 2) (below K (D - 2) p) (mirror (tagOf p) (2 ^ D) v)))
+        ≡ orDamage (cond b false (wayDamaged K 0 (D - 2) (below K (D - 2) p) (mirror (tagOf p) (2 ^ D) v))) (bitFor (cond b false (cellVoxel K (D - 2) (below K (D - 2) p) (mirror (tagOf p) (2 ^ D) v))))
+    named true t = absurd t
+    named false t = refl
+
+-- ---- the leaf at which it ends is kept
+
+-- a pointer that is neither bad nor none names a kept cell
+pub taken-kept : (K : List (List Cell)) (k m : ℕ) (c : Cell) (v : Point) → m < 8 → anyBad (length (cellsAt K k)) c ≡ false → (takenFrom k c m v ≡ 0 → ⊥)
+    → cellNo (takenFrom k c m v) < length (cellsAt K k)
+taken-kept K k m c v h e z =
+    let i : ℕ = bitXor (octant k v) m in
+    let l : octant k v < 8 = omega arith in
+    let p : ℕ = takenFrom k c m v in
+    go (not-bad-ok (length (cellsAt K k)) p (none-at 8 (λ j. badPointer (length (cellsAt K k)) (getD c j 0)) e i (xor8-lt (octant k v) m l h)))
+  where
+    go : OkPointer (length (cellsAt K k)) (takenFrom k c m v) → cellNo (takenFrom k c m v) < length (cellsAt K k)
+    go (inl q) = absurd (z q)
+    go (inr q) = names-lt q
+
+no-confusion : true ≡ false → ⊥
+no-confusion e = subst T e tt
+
+-- the three tests of a step
+reach-step : (K : List (List Cell)) (a b c : Bool) (n m k : ℕ) (r : Reach) → a ≡ false → (b ≡ false → T (not c) → AtKept K r)
+    → AtKept K (cond a (At n m) (cond b Damaged (cond c (Absent k) r)))
+reach-step K true b c n m k r e f = absurd (no-confusion e)
+reach-step K false true c n m k r e f = tt
+reach-step K false false true n m k r e f = tt
+reach-step K false false false n m k r e f = f refl tt
+
+z-not : (p : ℕ) → T (not (eqb p 0)) → p ≡ 0 → ⊥
+z-not p z q = subst (λ (x : ℕ). T (not (eqb x 0))) q z
+
+pub reach-kept : (K : List (List Cell)) (k n m : ℕ) (v : Point) → n < length (cellsAt K k) → m < 8 → AtKept K (reachOf K 0 k n m v)
+unfolding reachOf
+reach-kept K zero n m v l h = (l, h)
+reach-kept K (suc k) n m v l h =
+    let c : Cell = cellAt K (suc k) n in
+    let p : ℕ = takenFrom k c m v in
+    reach-step K (leb (suc k) 0) (anyBad (length (cellsAt K k)) c) (eqb p 0) n m k (reachOf K 0 k (cellNo p) (bitXor (tagOf p) m) v) (leb·suc-zero k)
+    (λ e z. reach-kept K k (cellNo p) (bitXor (tagOf p) m) v (taken-kept K k m c v h e (λ q. z-not p z q)) (tag-joins p m h))

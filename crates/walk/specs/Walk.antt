@@ -1,0 +1,71 @@
+-- A walk as code does it: coordinates are never reduced, and numbers are mirrored instead of cells. The eight pointers are looked at as stored;
+-- the number of the child is mirrored by the mirror in force, and its tag joins that mirror. Definitions only.
+use mathlib.Core.Bool.{Bool, true, false, cond}
+use mathlib.Core.List.{List, [], _∷_}
+use Prim.Native.Nat.{ℕ, zero, suc, _+_, _*_, _/_, _%_, _^_, _<_}
+use lib.Bits.{bitXor}
+use lib.Dec.{eqb, leb}
+use lib.ListN.{length, getD}
+use Rattle.paper.specs.Rooms.{Point, inside, mirror, inChild}
+use Rattle.paper.specs.Questions.{voxelWay, voxelSolid}
+use Rattle.paper.specs.Outline.{edge}
+use Rattle.paper.specs.Store.{Cell, cellsAt, cellAt, tagOf, cellNo, leafNo, anyBad}
+use Rattle.paper.specs.Leaf.{leafVoxel}
+use Rattle.paper.specs.Numbers.{bitFor}
+use Rattle.paper.specs.Answers.{Told, told}
+use Rattle.walk.specs.declared.ways.Reach.{Reach}
+use Rattle.walk.specs.declared.ways.Reach.the-variants.{Absent, At, Damaged}
+
+-- which child of a cell of list k + 1 holds v, as the room shows them
+abbrev pub octant : ℕ → Point → ℕ
+octant k v = v .x / edge k % 2 + 2 * (v .y / edge k % 2) + 4 * (v .z / edge k % 2)
+
+-- v in the cell of list k that holds it, seen under mirror m
+abbrev pub seenAt : ℕ → ℕ → Point → Point
+seenAt k m v = mirror m (edge k) (inChild (edge k) v)
+
+-- the pointer taken from cell c of list k + 1 seen under m
+abbrev pub takenFrom : ℕ → Cell → ℕ → Point → ℕ
+takenFrom k c m v = getD c (bitXor (octant k v) m) 0
+
+-- from cell n of list k, seen under m, down to list `stop` on the way to v: where it ends
+unfoldable pub reachOf : List (List Cell) → ℕ → ℕ → ℕ → ℕ → Point → Reach
+reachOf K stop zero n m v = At n m
+reachOf K stop (suc k) n m v =
+    let c : Cell = cellAt K (suc k) n in
+    let p : ℕ = takenFrom k c m v in
+    let r : Reach = reachOf K stop k (cellNo p) (bitXor (tagOf p) m) v in
+    cond (leb (suc k) stop) (At n m) (cond (anyBad (length (cellsAt K k)) c) Damaged (cond (eqb p 0) (Absent k) r))
+
+-- ---- what is read off where it ends
+
+-- the voxel of leaf n seen under m
+abbrev pub leafSeen : List (List Cell) → ℕ → ℕ → Point → Bool
+leafSeen K n m v = leafVoxel (leafNo (cellAt K 0 n)) (seenAt 0 m v)
+
+-- a voxel question: 2 for damage, 1 for solid, 0 for empty
+abbrev pub voxelEnd : List (List Cell) → Point → Reach → ℕ
+voxelEnd K v (Absent k) = 0
+voxelEnd K v (At n m) = bitFor (leafSeen K n m v)
+voxelEnd K v Damaged = 2
+
+-- a cell question that stops at its list: 2 for damage, 1 for non-empty, 0 for empty
+abbrev pub cellEnd : Reach → ℕ
+cellEnd (Absent k) = 0
+cellEnd (At n m) = 1
+cellEnd Damaged = 2
+
+-- such a number as an answer
+abbrev pub toldBy : ℕ → Told
+toldBy n = cond (eqb n 2) (told 2 (0 ∷ [])) (told 0 (n ∷ []))
+
+-- where a walk ends at a leaf, that leaf is kept, and its mirror is one
+abbrev pub AtKept : List (List Cell) → Reach → Type 0
+AtKept K (Absent k) = Unit {0}
+AtKept K (At n m) = (n < length (cellsAt K 0)) × (m < 8)
+AtKept K Damaged = Unit {0}
+
+-- a voxel question past the scene's tests: refused by 10, then by 2, or 1 for solid and 0 for empty
+abbrev pub voxelTold : List (List Cell) → ℕ → ℕ → Point → Told
+voxelTold K D p v =
+    cond (inside (2 ^ D) v) (cond (voxelWay K D p v) (told 2 (0 ∷ [])) (told 0 (bitFor (voxelSolid K D p v) ∷ []))) (told 10 (0 ∷ []))

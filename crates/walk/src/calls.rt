@@ -1,0 +1,100 @@
+// Voxel and cell, each with its whole outcome as `paper` defines it: refused by 2 (header), 9, 2 (the scene's two words),
+// 10, 2 (walk), in this order.
+ghost use mathlib.Core.Path.{_≡_};
+ghost use mathlib.Core.Bool.{false, not};
+ghost use mathlib.Core.List.{[]};
+ghost use Prim.Native.Nat.{_^_, _-_, _≤_};
+ghost use lib.Dec.{T};
+ghost use Rattle.paper.specs.Rooms.{deepest, depthOk, inside, point};
+ghost use Rattle.paper.specs.Store.{badPointer, headerOk, keptCount, keptOf};
+ghost use Rattle.paper.specs.Answers.{outcome, seen};
+ghost use Rattle.paper.specs.Calls.{voxelOutcome};
+ghost use Rattle.walk.specs.Walk.{AtKept, toldBy, voxelEnd, voxelTold};
+use crate::leaves::leaf_solid;
+use crate::scene::Entry;
+use crate::scene::enter;
+use crate::ways::Reach;
+use crate::ways::walk_to;
+use paper::Refusal;
+use paper::Seen;
+use store::cell_number;
+use store::leaf_at;
+use store::tag;
+
+// List k has the cells of height k + 2.
+const LEAF_HEIGHT: u32 = 2;
+
+// Whether a point lies outside a cube of edge 2^height.
+fn outside(height: u32, x: u32, y: u32, z: u32) -> bool
+    requires { ⌜ height ≤ deepest ⌝ }
+    ensures { λ r. ⌜ r ≡ not (inside (2 ^ height) (point x y z)) ⌝ }
+{
+    let edge = 1u32 << height;
+    if edge <= x {
+        return true;
+    }
+    if edge <= y {
+        return true;
+    }
+    edge <= z
+}
+
+// The voxel at which a walk ended.
+fn voxel_at(store: &[u32], end: Reach, x: u32, y: u32, z: u32) -> Seen
+    requires { ⌜ T (headerOk (now store)) ⌝ }
+    requires { ⌜ AtKept (keptOf (now store)) end ⌝ }
+    ensures { λ r. ⌜ seen r ≡ toldBy (voxelEnd (keptOf (now (store .entry))) (point x y z) end) ⌝ }
+{
+    match end {
+        Reach::Damaged => Seen::Refused(Refusal::DamagedStore),
+        Reach::Absent(_) => Seen::Empty,
+        Reach::At(number, mirror) => {
+            if leaf_solid(leaf_at(store, number), mirror, x, y, z) {
+                Seen::Solid
+            } else {
+                Seen::Empty
+            }
+        }
+    }
+}
+
+// The voxel of a scene of this depth and root pointer.
+fn voxel_from(store: &[u32], depth: u32, root: u32, x: u32, y: u32, z: u32) -> Seen
+    requires { ⌜ T (headerOk (now store)) ⌝ }
+    requires { ⌜ T (depthOk depth) ⌝ }
+    requires { ⌜ badPointer (keptCount (now store) (depth - 2)) root ≡ false ⌝ }
+    ensures { λ r. ⌜ seen r ≡ voxelTold (keptOf (now (store .entry))) depth root (point x y z) ⌝ }
+{
+    if outside(depth, x, y, z) {
+        return Seen::Refused(Refusal::Outside);
+    }
+    if root == 0 {
+        return Seen::Empty;
+    }
+    voxel_at(
+        store,
+        walk_to(
+            store,
+            0,
+            depth - LEAF_HEIGHT,
+            cell_number(root),
+            tag(root),
+            x,
+            y,
+            z,
+        ),
+        x,
+        y,
+        z,
+    )
+}
+
+// Voxel: solid or empty.
+pub fn voxel(store: &[u32], scene: u32, x: u32, y: u32, z: u32) -> Seen
+    ensures { λ r. ⌜ outcome (seen r) [] ≡ voxelOutcome (now (store .entry)) scene (point x y z) ⌝ }
+{
+    match enter(store, scene) {
+        Entry::Refused(refusal) => Seen::Refused(refusal),
+        Entry::Root(depth, root) => voxel_from(store, depth, root, x, y, z),
+    }
+}

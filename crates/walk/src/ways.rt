@@ -1,0 +1,64 @@
+// The walk from a cell down to a list. Coordinates are never reduced; the number of a child is mirrored by the mirror in
+// force, and its tag joins that mirror.
+ghost use mathlib.Core.Path.{_≡_};
+ghost use Prim.Native.Nat.{_<_};
+ghost use lib.Dec.{T};
+ghost use Rattle.paper.specs.Rooms.{point};
+ghost use Rattle.paper.specs.Store.{heights, keptCount, keptOf, headerOk};
+ghost use Rattle.walk.specs.Walk.{octant as octant-of, reachOf};
+use store::any_bad;
+use store::cell_at;
+use store::cell_number;
+use store::kept_count;
+use store::tag;
+
+// Where a walk from a cell down to a list ends.
+pub enum Reach {
+    // The child of this list is absent.
+    Absent(u32),
+    // This cell of the list asked for, seen under this mirror.
+    At(u32, u32),
+    // A cell on the way has a bad pointer.
+    Damaged,
+}
+
+// Which child of a cell of list k + 1 holds a voxel, as the room shows them.
+fn octant(k: u32, x: u32, y: u32, z: u32) -> u32
+    requires { ⌜ k < heights ⌝ }
+    ensures { λ r. ⌜ (r ≡ octant-of k (point x y z)) × (r < 8) ⌝ }
+{
+    let s = k + 2;
+    (x >> s) % 2 + 2 * ((y >> s) % 2) + 4 * ((z >> s) % 2)
+}
+
+// From a cell of list k, seen under a mirror, down to list `stop` on the way to a voxel.
+pub fn walk_to(
+    store: &[u32],
+    stop: u32,
+    k: u32,
+    number: u32,
+    mirror: u32,
+    x: u32,
+    y: u32,
+    z: u32,
+) -> Reach
+    requires { ⌜ T (headerOk (now store)) ⌝ }
+    requires { ⌜ k < heights ⌝ }
+    requires { ⌜ number < keptCount (now store) k ⌝ }
+    requires { ⌜ mirror < 8 ⌝ }
+    ensures { λ r. ⌜ r ≡ reachOf (keptOf (now (store .entry))) stop k number mirror (point x y z) ⌝ }
+{
+    if k <= stop {
+        return Reach::At(number, mirror);
+    }
+    let cell = cell_at(store, k, number);
+    if any_bad(kept_count(store, k - 1), cell) {
+        return Reach::Damaged;
+    }
+    let i = (octant(k - 1, x, y, z) ^ mirror) as usize;
+    let p = cell[i];
+    if p == 0 {
+        return Reach::Absent(k - 1);
+    }
+    walk_to(store, stop, k - 1, cell_number(p), tag(p) ^ mirror, x, y, z)
+}
