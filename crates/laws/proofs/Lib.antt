@@ -57,3 +57,17 @@ pub mod Differing
 pub mod CellWalk
 pub mod RoomAnswers
 pub mod RunClaims
+-- packed files
+pub mod OpenClaim
+pub mod PackedLists
+pub mod PackedWalk
+pub mod ProperClaim
+pub mod RecordReading
+pub mod RecordCells
+pub mod Layouts
+pub mod LayoutBytes
+pub mod PackedOrder
+pub mod PackedReached
+pub mod PackedGraph
+pub mod Packing
+pub mod PackClaim

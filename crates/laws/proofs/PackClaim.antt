@@ -1,0 +1,104 @@
+-- Claim C6, packing, on every store that only the calls wrote: what pack writes for an accepted scene is written whole, is proper, means that scene's
+-- room, is accepted by check, and answers the packed voxel as the room does. From what the words hold and the laws of packing. Assumes nothing.
+use mathlib.Core.Path.{_≡_, sym, _∙_, subst, ap}
+use mathlib.Core.Bool.{Bool, true}
+use mathlib.Core.List.{List, [], _∷_}
+use Prim.Native.Nat.{ℕ, _-_, _^_, _<_, _≤_}
+use native.Mathlib.Omega.{arith}
+use borrow.Author.Tests.{le-ltb}
+use lib.Dec.{T, leb, leb→le}
+use lib.ListN.{length}
+use Rattle.paper.specs.Numbers.{bitFor}
+use Rattle.paper.specs.Rooms.{Room, Inside, Same, depthOk}
+use Rattle.paper.specs.Outline.{fileDepth, fileRoom}
+use Rattle.paper.specs.Store.{Cell, mostCapacity, capacityOf, scenesHeld, keptOf, sceneDepth, sceneRoot, storeOk}
+use Rattle.paper.specs.Packed.{proper, packedRoom, packedPath}
+use Rattle.paper.specs.Pack.{packedFile}
+use Rattle.paper.specs.Answers.{told, outcome}
+use Rattle.paper.specs.Order.{firstOf}
+use Rattle.paper.specs.Calls.{over, cleared, scratchFor, packBytes, packShort, packOrder, packOutcome}
+use Rattle.paper.specs.Runs.{Bytes, Scene, sceneOf, State}
+use Rattle.paper.specs.Claims.{Packs, C6}
+use Rattle.laws.proofs.Tests.{T-true, and-right}
+use Rattle.laws.proofs.Undamaged.{undamaged}
+use Rattle.laws.proofs.Refusals.{settled-accepted}
+use Rattle.laws.proofs.Holding.{Means, Holds, HeldAt, root-room, held-at, below-there, reached-holds}
+use Rattle.laws.proofs.ProperClaim.{check-accepts, proper-voxel}
+use Rattle.laws.proofs.PackedReached.{Packable}
+use Rattle.laws.proofs.Packing.{pack-proper, pack-depth, pack-room, pack-bytes}
+
+module _ (s : State) (h : Holds (s .words) (s .held)) where
+  abbrev ws : List ℕ
+  ws = s .words
+
+  abbrev K : List (List Cell)
+  K = keptOf ws
+
+  packable : Packable K
+  packable =
+      let C : ℕ = capacityOf ws in
+      let most : C ≤ mostCapacity = leb→le C mostCapacity (and-right (leb 1 C) (leb C mostCapacity) (undamaged ws (h .ok) .capacity)) in
+      record { invs = h .invs; few = λ j. omega (arith, h .sound .few j) }
+
+  module _ (n : ℕ) where
+    abbrev D : ℕ
+    D = sceneDepth ws n
+
+    abbrev p : ℕ
+    p = sceneRoot ws n
+
+    abbrev packed : List ℕ
+    packed = packBytes ws n
+
+    pack-written : n < scenesHeld ws → (scratch out : List ℕ) → scratchFor ws ≤ length scratch → length packed ≤ length out
+        → packOutcome ws n scratch out ≡ outcome (told 0 (length packed ∷ [])) (cleared (scratchFor ws) scratch ∷ over packed out ∷ [])
+    unfolding packOutcome packShort firstOf
+    pack-written l scratch out hs ho =
+        let none : firstOf (packOrder ws n scratch out) ≡ 0 =
+        rw (
+          T-true {b = storeOk ws} (h .ok),
+          below-there h n l,
+          le-ltb (length scratch) (scratchFor ws) hs,
+          le-ltb (length out) (length packed) ho,
+        ) in
+        settled-accepted (firstOf (packOrder ws n scratch out)) _ _ _ none
+
+    module _ (file : List ℕ) (m : Means K D p file) where
+      deep : T (depthOk D)
+      deep = subst (λ (d : ℕ). T (depthOk d)) (sym (m .depth)) (m .accepted .deep)
+
+      packed-proper : proper packed ≡ true
+      unfolding packBytes
+      packed-proper = T-true {b = proper (packedFile K D p)} (pack-proper K packable D p deep (m .okp) (m .low))
+
+      packed-bytes : Bytes packed
+      unfolding packBytes
+      packed-bytes = pack-bytes K packable D p deep (m .okp)
+
+      packed-depth : fileDepth packed ≡ fileDepth file
+      unfolding packBytes
+      packed-depth = pack-depth K packable D p deep ∙ m .depth
+
+      packed-means : Same (2 ^ fileDepth file) (packedRoom packed) (fileRoom file)
+      unfolding packBytes
+      packed-means v l =
+          pack-room K packable D p deep (m .okp) v ∙ ap (λ (r : Room). r v) (sym (root-room K D p deep))
+          ∙ m .room v (subst (λ (d : ℕ). Inside (2 ^ d) v) (sym (m .depth)) l)
+
+      pub scene-packs : n < scenesHeld ws → Packs s n (sceneOf file) packed
+      scene-packs l = record {
+        written = pack-written l;
+        isProper = packed-proper;
+        depth = packed-depth;
+        means = packed-means;
+        checks = λ scratch hs. check-accepts packed scratch packed-proper hs ∙ ap (λ (d : ℕ). outcome (told 0 (d ∷ [])) (cleared (length packed) scratch ∷ [])) packed-depth;
+        voxels = λ v i.
+            proper-voxel packed v packed-bytes packed-proper (subst (λ (d : ℕ). Inside (2 ^ d) v) (sym packed-depth) i)
+            ∙ ap (λ (b : Bool). outcome (told 0 (bitFor b ∷ packedPath packed v ∷ [])) []) (packed-means v i);
+      }
+
+pub claim6 : C6
+claim6 s r n sc e =
+    let h : Holds (s .words) (s .held) = reached-holds s r in
+    let a : HeldAt (s .words) n sc (h .file n) = held-at h n sc e in
+    subst (λ (c : Scene). Packs s n c (packBytes (s .words) n)) (sym (a .is)) (scene-packs s h n (h .file n) (a .means) (a .below))

@@ -1,0 +1,246 @@
+-- Which cells packing lays out: those that a reached cell names are reached, each once, by popularity; and a pointer renumbered names the same cell
+-- under the same tag. By induction from the root down, with the laws of the order. Assumes nothing.
+use mathlib.Core.Path.{_≡_, refl, sym, _∙_, subst, ap, ap₂}
+use mathlib.Core.Bool.{Bool, true, false, cond}
+use mathlib.Core.List.{List, [], _∷_, map}
+use mathlib.Core.Logic.{_⊎_, inl, inr}
+use Prim.Native.Nat.{ℕ, zero, suc, _+_, _-_, _^_, _<_, _≤_}
+use native.Mathlib.Nat.{le-of-suc-le-suc, not-suc-le-zero, eq-or-lt-of-le}
+use native.Mathlib.Decide.{decLt, ℕ-discrete}
+use native.Mathlib.Omega.{arith}
+use borrow.Author.Tests.{eq-eqb, ne-eqb}
+use lib.Dec.{T, eqb}
+use lib.ListN.{length, getD, length-map, List·getD-eq-default}
+use Rattle.paper.specs.Numbers.{isIn, indexIn}
+use Rattle.paper.specs.Store.{Cell, mostCapacity, cellNo, tagOf, pointer, cellsAt, cellAt}
+use Rattle.paper.specs.Packed.{names, popularity}
+use Rattle.paper.specs.Pack.{ordered, next, reached, renumber}
+use Rattle.laws.proofs.Lists.{map-at, At, isIn-at, Once, index-getD}
+use Rattle.laws.proofs.Matching.{tag-lt}
+use Rattle.laws.proofs.Invariant.{Names, OkPointer, Inv}
+use Rattle.laws.proofs.Adding.{pointer-cell, pointer-tag}
+use Rattle.laws.proofs.PackedOrder.{Every, Pairs, every-at, Before, Counted, ordered-counted, ordered-pairs, ordered-all, ordered-once, ordered-length}
+
+-- ---- which cells are named
+
+names-at : (c : Cell) (i : ℕ) → (getD c i 0 ≡ 0 → ⊥) → names (cellNo (getD c i 0)) c ≡ true
+unfolding names
+names-at [] i n = absurd (n refl)
+names-at (p ∷ c) zero n = rw (ne-eqb p 0 n, eq-eqb (cellNo p) (cellNo p) refl)
+names-at (p ∷ c) (suc i) n = go (eqb p 0) (eqb (cellNo p) (cellNo (getD c i 0))) (names-at c i n)
+  where
+    q : ℕ
+    q = cellNo (getD c i 0)
+
+    go : (a b : Bool) → names q c ≡ true → cond a (names q c) (cond b true (names q c)) ≡ true
+    go true b e = e
+    go false true e = refl
+    go false false e = e
+
+popularity-pos : (cs : List Cell) (i q : ℕ) → i < length cs → names q (getD cs i []) ≡ true → 1 ≤ popularity cs q
+unfolding popularity
+popularity-pos [] i q h e = absurd (not-suc-le-zero h)
+popularity-pos (c ∷ cs) zero q h e = rw e (omega arith)
+popularity-pos (c ∷ cs) (suc i) q h e = omega (arith, popularity-pos cs i q (le-of-suc-le-suc h) e)
+
+popularity-le : (cs : List Cell) (q : ℕ) → popularity cs q ≤ length cs
+unfolding popularity
+popularity-le [] q = omega arith
+popularity-le (c ∷ cs) q = go (names q c) (popularity-le cs q)
+  where
+    go : (b : Bool) → popularity cs q ≤ length cs → cond b 1 0 + popularity cs q ≤ suc (length cs)
+    go true h = omega arith
+    go false h = omega arith
+
+-- ---- pointers renumbered
+
+-- a pointer to one of the cells ns
+pub record Listed (ns : List ℕ) (r : ℕ) : Type 0 where
+  pub some : r ≡ 0 → ⊥
+  pub at : At (cellNo r) ns
+
+-- none, or one of them
+abbrev pub InList : List ℕ → ℕ → Type 0
+InList ns r = (r ≡ 0) ⊎ Listed ns r
+
+module _ (ns : List ℕ) where
+  pub none-renumbered : (r : ℕ) → r ≡ 0 → renumber ns r ≡ 0
+  unfolding renumber
+  none-renumbered r e = rw (eq-eqb r 0 e)
+
+  pub listed-is : (r : ℕ) → Listed ns r → renumber ns r ≡ pointer (tagOf r) (indexIn (cellNo r) ns)
+  unfolding renumber
+  listed-is r h = rw (ne-eqb r 0 (h .some))
+
+  pub listed-some : (r : ℕ) → Listed ns r → renumber ns r ≡ 0 → ⊥
+  listed-some r h e = let q : pointer (tagOf r) (indexIn (cellNo r) ns) ≡ 0 = sym (listed-is r h) ∙ e in omega arith
+
+-- its number fits, so a pointer renumbered names the same cell under the same tag
+module _ (ns : List ℕ) (few : length ns ≤ mostCapacity) where
+  pub listed-small : (r : ℕ) → Listed ns r → suc (indexIn (cellNo r) ns) < 2 ^ 29
+  listed-small r h = omega (arith, h .at .inside)
+
+  pub listed-cell : (r : ℕ) → Listed ns r → cellNo (renumber ns r) ≡ indexIn (cellNo r) ns
+  listed-cell r h = ap cellNo (listed-is ns r h) ∙ pointer-cell (tagOf r) (indexIn (cellNo r) ns) (listed-small r h)
+
+  pub listed-tag : (r : ℕ) → Listed ns r → tagOf (renumber ns r) ≡ tagOf r
+  listed-tag r h = ap tagOf (listed-is ns r h) ∙ pointer-tag (tagOf r) (indexIn (cellNo r) ns) (tag-lt r) (listed-small r h)
+
+  -- and as many cells name number q as named the cell that has it
+  module _ (once : Once ns) (q : ℕ) (hq : q < length ns) where
+    same-number : (r : ℕ) → Listed ns r → eqb (indexIn (cellNo r) ns) q ≡ eqb (cellNo r) (getD ns q 0)
+    same-number r h = go (ℕ-discrete (indexIn (cellNo r) ns) q)
+      where
+        go : Dec (indexIn (cellNo r) ns ≡ q) → eqb (indexIn (cellNo r) ns) q ≡ eqb (cellNo r) (getD ns q 0)
+        go (yes e) = rw (eq-eqb (indexIn (cellNo r) ns) q e, eq-eqb (cellNo r) (getD ns q 0) (sym (h .at .is) ∙ ap (λ (i : ℕ). getD ns i 0) e))
+        go (no n) = rw (ne-eqb (indexIn (cellNo r) ns) q n, ne-eqb (cellNo r) (getD ns q 0) (λ e. n (ap (λ (x : ℕ). indexIn x ns) e ∙ index-getD ns once q hq)))
+
+    names-same : (c : Cell) → ((i : ℕ) → InList ns (getD c i 0)) → names q (map (renumber ns) c) ≡ names (getD ns q 0) c
+    unfolding names
+    names-same [] h = refl
+    names-same (r ∷ c) h = go (h 0) (names-same c (λ i. h (suc i)))
+      where
+        go : InList ns r → names q (map (renumber ns) c) ≡ names (getD ns q 0) c
+            → cond (eqb (renumber ns r) 0) (names q (map (renumber ns) c)) (cond (eqb (cellNo (renumber ns r)) q) true (names q (map (renumber ns) c)))
+            ≡ cond (eqb r 0) (names (getD ns q 0) c) (cond (eqb (cellNo r) (getD ns q 0)) true (names (getD ns q 0) c))
+        go (inl e) ih = rw (none-renumbered ns r e, eq-eqb r 0 e) ih
+        go (inr w) ih = rw (ne-eqb (renumber ns r) 0 (listed-some ns r w), ne-eqb r 0 (w .some), listed-cell r w, same-number r w, ih)
+
+    pub popularity-same : (g : ℕ → Cell) (ms : List ℕ) → ((n : ℕ) → n < length ms → (i : ℕ) → InList ns (getD (g (getD ms n 0)) i 0))
+        → popularity (map (λ m. map (renumber ns) (g m)) ms) q ≡ popularity (map g ms) (getD ns q 0)
+    unfolding popularity
+    popularity-same g [] h = refl
+    popularity-same g (m ∷ ms) h =
+        ap₂ (λ (b : Bool) (n : ℕ). cond b 1 0 + n) (names-same (g m) (h 0 (omega arith))) (popularity-same g ms (λ n l. h (suc n) (omega arith)))
+
+-- ---- which numbers are reached
+
+reached-top : (K : List (List Cell)) (k : ℕ) (ns : List ℕ) → reached K k ns k ≡ ns
+unfolding reached
+reached-top K zero ns = refl
+reached-top K (suc k) ns = rw (eq-eqb (suc k) (suc k) refl)
+
+reached-below : (K : List (List Cell)) (k : ℕ) (ns : List ℕ) (j : ℕ) → j ≤ k → reached K (suc k) ns j ≡ reached K k (next K k ns) j
+unfolding reached
+reached-below K k ns j h = rw (ne-eqb j (suc k) (λ e. omega arith))
+
+reached-next : (K : List (List Cell)) (k : ℕ) (ns : List ℕ) (j : ℕ) → j < k → reached K k ns j ≡ next K j (reached K k ns (suc j))
+reached-next K zero ns j h = absurd (not-suc-le-zero h)
+reached-next K (suc k) ns j h =
+    reached-below K k ns j (le-of-suc-le-suc h)
+    ∙ elim (eq-or-lt-of-le (le-of-suc-le-suc h)) [
+      | inl e ↦
+          ap (reached K k (next K k ns)) e ∙ reached-top K k (next K k ns)
+          ∙ ap (next K k) (sym (reached-top K (suc k) ns)) ∙ ap (λ (i : ℕ). next K i (reached K (suc k) ns (suc i))) (sym e)
+      | inr l ↦ reached-next K k (next K k ns) j l ∙ ap (next K j) (sym (reached-below K k ns (suc j) l))
+    ]
+
+-- ---- lists that can be packed: as they should be, none longer than a store can hold
+
+pub record Packable (K : List (List Cell)) : Type 0 where
+  pub invs : (j : ℕ) → Inv K j
+  pub few : (j : ℕ) → length (cellsAt K j) ≤ mostCapacity
+
+-- numbers below m, none twice
+pub record Chosen (m : ℕ) (ns : List ℕ) : Type 0 where
+  pub below : (i : ℕ) → i < length ns → getD ns i 0 < m
+  pub once : Once ns
+  pub len : length ns ≤ m
+
+chosen-one : (q m : ℕ) → q < m → Chosen m (q ∷ [])
+chosen-one q m h = record { below = first; once = λ i j hi hj e. omega arith; len = omega arith }
+  where
+    first : (i : ℕ) → i < 1 → getD (q ∷ []) i 0 < m
+    first zero l = h
+    first (suc i) l = absurd (omega arith)
+
+chosen-ordered : (f : ℕ → ℕ) (c m : ℕ) → Chosen m (ordered f c m)
+chosen-ordered f c m = record {
+  below = λ i h. every-at (Counted f c m) (ordered f c m) (ordered-counted f c m) i h .below;
+  once = ordered-once f c m;
+  len = ordered-length f c m;
+}
+
+pub before-le : (f : ℕ → ℕ) (x y : ℕ) → Before f x y → f y ≤ f x
+before-le f x y (inl h) = omega arith
+before-le f x y (inr h) = omega arith
+
+-- the store's numbers in list j of the graph under root p of list k, in their order
+abbrev pub numbers : List (List Cell) → ℕ → ℕ → ℕ → List ℕ
+numbers K k p = reached K k (cellNo p ∷ [])
+
+-- cell n of that list, as the store has it
+abbrev pub keptAt : List (List Cell) → ℕ → ℕ → ℕ → ℕ → Cell
+keptAt K k p j n = cellAt K j (getD (numbers K k p j) n 0)
+
+-- how many of the graph's cells one height up name a number
+abbrev pub uses : List (List Cell) → ℕ → ℕ → ℕ → ℕ → ℕ
+uses K k p j = popularity (map (cellAt K (suc j)) (numbers K k p (suc j)))
+
+pub N-top : (K : List (List Cell)) (k p : ℕ) → numbers K k p k ≡ cellNo p ∷ []
+N-top K k p = reached-top K k (cellNo p ∷ [])
+
+module _ (K : List (List Cell)) (s : Packable K) (k p : ℕ) (hp : Names (length (cellsAt K k)) p) where
+  abbrev N : ℕ → List ℕ
+  N = numbers K k p
+
+  abbrev used : ℕ → ℕ → ℕ
+  used = uses K k p
+
+  N-next : (j : ℕ) → j < k → N j ≡ ordered (used j) (length (N (suc j))) (length (cellsAt K j))
+  unfolding next
+  N-next j h = reached-next K k (cellNo p ∷ []) j h
+
+  pub N-chosen : (j : ℕ) → j ≤ k → Chosen (length (cellsAt K j)) (N j)
+  N-chosen j h = go (eq-or-lt-of-le h)
+    where
+      top : Chosen (length (cellsAt K k)) (N k)
+      top = subst (Chosen (length (cellsAt K k))) (sym (reached-top K k (cellNo p ∷ []))) (chosen-one (cellNo p) (length (cellsAt K k)) (omega arith))
+
+      go : (j ≡ k) ⊎ (j < k) → Chosen (length (cellsAt K j)) (N j)
+      go (inl e) = subst (λ (i : ℕ). Chosen (length (cellsAt K i)) (N i)) (sym e) top
+      go (inr l) = subst (Chosen (length (cellsAt K j))) (sym (N-next j l)) (chosen-ordered (used j) (length (N (suc j))) (length (cellsAt K j)))
+
+  pub N-few : (j : ℕ) → j ≤ k → length (N j) ≤ mostCapacity
+  N-few j h = omega (arith, N-chosen j h .len, s .few j)
+
+  pub N-used : (j : ℕ) → j < k → Every (Counted (used j) (length (N (suc j))) (length (cellsAt K j))) (N j)
+  N-used j h =
+      subst (Every (Counted (used j) (length (N (suc j))) (length (cellsAt K j)))) (sym (N-next j h)) (ordered-counted (used j) (length (N (suc j))) (length (cellsAt K j)))
+
+  pub N-falls : (j : ℕ) → j < k → Pairs (Before (used j)) (N j)
+  N-falls j h = subst (Pairs (Before (used j))) (sym (N-next j h)) (ordered-pairs (used j) (length (N (suc j))) (length (cellsAt K j)))
+
+  -- every cell that a reached one names is reached
+  ok-pointer : (j q : ℕ) → q < length (cellsAt K (suc j)) → (i : ℕ) → OkPointer (length (cellsAt K j)) (getD (cellAt K (suc j) q) i 0)
+  ok-pointer j q h i = go (decLt i 8)
+    where
+      go : Dec (i < 8) → OkPointer (length (cellsAt K j)) (getD (cellAt K (suc j) q) i 0)
+      go (yes l) = s .invs (suc j) .ok q h i l
+      go (no n) = inl (List·getD-eq-default (cellAt K (suc j) q) 0 (omega (arith, s .invs (suc j) .shape q h .0)))
+
+  abbrev kept : ℕ → ℕ → Cell
+  kept = keptAt K k p
+
+  pub all-listed : (j : ℕ) → j < k → (n : ℕ) → n < length (N (suc j)) → (i : ℕ) → InList (N j) (getD (kept (suc j) n) i 0)
+  all-listed j h n m i = go (ok-pointer j (getD (N (suc j)) n 0) (N-chosen (suc j) h .below n m) i)
+    where
+      r : ℕ
+      r = getD (kept (suc j) n) i 0
+
+      go : OkPointer (length (cellsAt K j)) r → InList (N j) r
+      go (inl e) = inl e
+      go (inr w) =
+          let some : r ≡ 0 → ⊥ = λ e. omega arith in
+          let cs : List Cell = map (cellAt K (suc j)) (N (suc j)) in
+          let is : getD cs n [] ≡ kept (suc j) n = map-at (cellAt K (suc j)) (N (suc j)) n 0 [] m in
+          let count : Counted (used j) (length (N (suc j))) (length (cellsAt K j)) (cellNo r) =
+          record {
+            below = omega arith;
+            some = popularity-pos cs n (cellNo r) (omega (arith, length-map (N (suc j)) (cellAt K (suc j)))) (ap (names (cellNo r)) is ∙ names-at (kept (suc j) n) i some);
+            most = omega (arith, popularity-le cs (cellNo r), length-map (N (suc j)) (cellAt K (suc j)));
+          } in
+          inr (record {
+            some = some;
+            at = isIn-at (cellNo r) (N j) (subst (λ (l : List ℕ). T (isIn (cellNo r) l)) (sym (N-next j h)) (ordered-all (used j) (length (N (suc j))) (length (cellsAt K j)) (cellNo r) count));
+          })

@@ -1,0 +1,145 @@
+-- Claim C7, proper files: check answers 0 exactly on proper files; on one the packed voxel refuses no point inside, gives the voxel of the file's
+-- room, and counts the records of its path. By the tests of the two orders, and by the walk on sound lists. Assumes nothing.
+use mathlib.Core.Path.{_≡_, refl, sym, _∙_, subst, ap, ap₂}
+use mathlib.Core.Bool.{Bool, true, false, false≢true, cond, not, _&&_}
+use mathlib.Core.List.{List, [], _∷_}
+use Prim.Native.Nat.{ℕ, _-_, _^_, _≤_}
+use native.Mathlib.Nat.{suc-ne-zero}
+use borrow.Author.Tests.{lt-ltb, le-ltb, ltb-false}
+use lib.Dec.{T, ltb}
+use lib.ListN.{length}
+use Rattle.paper.specs.Numbers.{bitFor}
+use Rattle.paper.specs.Rooms.{Point, Inside, depthOk, mirror}
+use Rattle.paper.specs.Outline.{fileDepth, frontOk, lengthOk}
+use Rattle.paper.specs.Store.{Cell, cellAt}
+use Rattle.paper.specs.Meaning.{cellVoxel}
+use Rattle.paper.specs.Packed.{packedFront, packedHead, rootTag, isEmpty, topOf, graphOf, sizesOk, listsOk, graphOk, rootOk, headOk, packedRules, proper, packedRoom, packedPath, ended, solid, records, packedWay, wayIn}
+use Rattle.paper.specs.Answers.{told, outcome}
+use Rattle.paper.specs.Order.{when, firstOf}
+use Rattle.paper.specs.Calls.{cleared, checkOrder, checkOutcome, packedOutside, packedBroken, packedVoxelOrder, packedValues, packedVoxelOutcome}
+use Rattle.paper.specs.Runs.{Bytes}
+use Rattle.paper.specs.Claims.{C7}
+use Rattle.laws.proofs.Tests.{T-true, true-T, and-left, and-right}
+use Rattle.laws.proofs.Outlines.{depth-two}
+use Rattle.laws.proofs.Refusals.{settled-accepted, settled-number}
+use Rattle.laws.proofs.PackedWalk.{pathLength, Right, lists-of, root-right}
+
+-- ---- check
+
+abbrev five : Bool → Bool → Bool → Bool → Bool → ℕ
+five s a b c d = firstOf (when s 11 ∷ when (not a) 3 ∷ when (not b) 4 ∷ when (not c) 5 ∷ when (not d) 6 ∷ [])
+
+five-pass : (s a b c d : Bool) → five s a b c d ≡ 0 → (a && b && c && d ≡ true) × (s ≡ false)
+unfolding firstOf
+five-pass true a b c d e = absurd (suc-ne-zero 10 e)
+five-pass false false b c d e = absurd (suc-ne-zero 2 e)
+five-pass false true false c d e = absurd (suc-ne-zero 3 e)
+five-pass false true true false d e = absurd (suc-ne-zero 4 e)
+five-pass false true true true false e = absurd (suc-ne-zero 5 e)
+five-pass false true true true true e = (refl, refl)
+
+pass-five : (s a b c d : Bool) → a && b && c && d ≡ true → s ≡ false → five s a b c d ≡ 0
+unfolding firstOf
+pass-five true a b c d e f = absurd (false≢true (sym f))
+pass-five false false b c d e f = absurd (false≢true e)
+pass-five false true false c d e f = absurd (false≢true e)
+pass-five false true true false d e f = absurd (false≢true e)
+pass-five false true true true false e f = absurd (false≢true e)
+pass-five false true true true true e f = refl
+
+module _ (file scratch : List ℕ) where
+  check-passed : firstOf (checkOrder file scratch) ≡ 0 → (proper file ≡ true) × (length file ≤ length scratch)
+  unfolding proper
+  check-passed e =
+      let p = five-pass (ltb (length scratch) (length file)) (frontOk packedFront file) (lengthOk packedHead file) (depthOk (fileDepth file)) (packedRules file) e in
+      (p .0, ltb-false (length scratch) (length file) (p .1))
+
+  passed-check : proper file ≡ true → length file ≤ length scratch → firstOf (checkOrder file scratch) ≡ 0
+  unfolding proper
+  passed-check e h =
+      pass-five (ltb (length scratch) (length file)) (frontOk packedFront file) (lengthOk packedHead file) (depthOk (fileDepth file)) (packedRules file) e
+      (le-ltb (length scratch) (length file) h)
+
+  check-number : checkOutcome file scratch .number ≡ firstOf (checkOrder file scratch)
+  unfolding checkOutcome
+  check-number = settled-number (firstOf (checkOrder file scratch)) _ _ _
+
+  -- on a proper file, with scratch enough to look
+  pub check-accepts : proper file ≡ true → length file ≤ length scratch → checkOutcome file scratch ≡ outcome (told 0 (fileDepth file ∷ [])) (cleared (length file) scratch ∷ [])
+  unfolding checkOutcome
+  check-accepts e h = settled-accepted (firstOf (checkOrder file scratch)) _ _ _ (passed-check e h)
+
+-- ---- packed voxel
+
+-- what a proper file passes
+pub record Proper (bs : List ℕ) : Type 0 where
+  pub front : T (frontOk packedFront bs)
+  pub long : T (lengthOk packedHead bs)
+  pub deep : T (depthOk (fileDepth bs))
+  pub head : T (headOk bs)
+  pub rules : T (cond (isEmpty bs) true (listsOk bs && graphOk (topOf bs) (rootTag bs) (graphOf bs)))
+
+pub proper-passes : (bs : List ℕ) → T (proper bs) → Proper bs
+unfolding proper packedRules
+proper-passes bs t = record {
+  front = search (and-left, and-right);
+  long = search (and-left, and-right);
+  deep = search (and-left, and-right);
+  head = search (and-left, and-right);
+  rules = search (and-left, and-right);
+}
+
+head-sizes : (bs : List ℕ) → T (headOk bs) → T (cond (isEmpty bs) true (sizesOk bs))
+unfolding headOk
+head-sizes bs t = and-right (rootOk bs) (cond (isEmpty bs) true (sizesOk bs)) t
+
+-- the walk from the root of a proper file
+pub proper-way : (bs : List ℕ) → Bytes bs → Proper bs → (v : Point) → Right (wayIn bs v) (packedRoom bs v) (packedPath bs v)
+unfolding wayIn packedRoom packedPath
+proper-way bs by p v = rw (T-true {b = headOk bs} (p .head)) (go (isEmpty bs) (p .rules) (head-sizes bs (p .head)))
+  where
+    u : Point
+    u = mirror (rootTag bs) (2 ^ fileDepth bs) v
+
+    k : ℕ
+    k = topOf bs
+
+    top : Cell
+    top = cellAt (graphOf bs) k 0
+
+    go : (b : Bool) → T (cond b true (listsOk bs && graphOk k (rootTag bs) (graphOf bs))) → T (cond b true (sizesOk bs))
+        → Right (cond b (ended false []) (packedWay bs k 0 (rootTag bs) v)) (cond b false (cellVoxel (graphOf bs) k top u)) (cond b 0 (pathLength (graphOf bs) k top u))
+    go true s z = record { path = []; is = refl; long = refl }
+    go false s z =
+        subst (λ (h : ℕ). Right (packedWay bs k 0 (rootTag bs) v) (cellVoxel (graphOf bs) k top (mirror (rootTag bs) (2 ^ h) v)) (pathLength (graphOf bs) k top (mirror (rootTag bs) (2 ^ h) v)))
+        (depth-two (fileDepth bs) (p .deep))
+        (root-right bs by (p .long) (lists-of bs z (and-left (listsOk bs) (graphOk k (rootTag bs) (graphOf bs)) s)) (rootTag bs) v)
+
+-- at every point inside
+pub proper-voxel : (bs : List ℕ) (v : Point) → Bytes bs → proper bs ≡ true → Inside (2 ^ fileDepth bs) v
+    → packedVoxelOutcome bs v ≡ outcome (told 0 (bitFor (packedRoom bs v) ∷ packedPath bs v ∷ [])) []
+unfolding packedVoxelOutcome packedOutside packedBroken firstOf
+proper-voxel bs v by e l =
+    let p : Proper bs = proper-passes bs (true-T e) in
+    let w : Right (wayIn bs v) (packedRoom bs v) (packedPath bs v) = proper-way bs by p v in
+    let none : firstOf (packedVoxelOrder bs v) ≡ 0 =
+    rw (
+      T-true {b = frontOk packedFront bs} (p .front),
+      T-true {b = lengthOk packedHead bs} (p .long),
+      T-true {b = depthOk (fileDepth bs)} (p .deep),
+      lt-ltb (v .x) (2 ^ fileDepth bs) (l .inX),
+      lt-ltb (v .y) (2 ^ fileDepth bs) (l .inY),
+      lt-ltb (v .z) (2 ^ fileDepth bs) (l .inZ),
+      w .is,
+    ) in
+    settled-accepted (firstOf (packedVoxelOrder bs v)) (packedValues bs v) [] [] none
+    ∙ ap₂ (λ (b : Bool) (n : ℕ). outcome (told 0 (bitFor b ∷ n ∷ [])) []) (ap solid (w .is)) (ap records (w .is) ∙ w .long)
+
+pub claim7 : C7
+claim7 = record {
+  checked = λ file scratch by. (
+    λ e. check-passed file scratch (sym (check-number file scratch) ∙ e),
+    λ p. check-number file scratch ∙ passed-check file scratch (p .0) (p .1),
+  );
+  asked = proper-voxel;
+}

@@ -1,0 +1,315 @@
+-- Pointers, records and lists as bytes: what is written is read back. By induction along a cell's pointers and along a list's cells: a list's bytes
+-- are split into what stands before a place, the record there, and the rest. Assumes nothing.
+use mathlib.Core.Path.{_≡_, refl, sym, _∙_, subst, ap}
+use mathlib.Core.Bool.{Bool, true, false, cond}
+use mathlib.Core.List.{List, [], _∷_, _++_, map, append-assoc, append-nil}
+use mathlib.Core.Logic.{_⊎_, inl, inr}
+use Prim.Native.Nat.{ℕ, zero, suc, _+_, _-_, _*_, _/_, _%_, _^_, _<_, _≤_}
+use native.Mathlib.Nat.{le-of-suc-le-suc, not-suc-le-zero, mod-eq-of-lt, pow-succ'}
+use native.Mathlib.Omega.{arith}
+use borrow.Author.Tests.{eq-eqb, ne-eqb, lt-ltb, le-ltb, le-leb, leb-true}
+use lib.Dec.{T, eqb, leb, lit<}
+use lib.ListN.{length, getD, drop, length-append}
+use lib.Seq.{take-at, drop-at, drop-drop}
+use Rattle.paper.specs.Numbers.{be, bytes, num, flatten, allIn}
+use Rattle.paper.specs.Store.{Cell, cellNo, tagOf}
+use Rattle.paper.specs.Packed.{headerAt, halves, codesOk, Link, linkOf, noLink, readLinks, linksAt, recordOk, farthestShort, codeFor, startsFrom}
+use Rattle.paper.specs.Pack.{placeOf, code, pointerBytes, header, width, recordBytes, placesFrom, sizeOf}
+use Rattle.laws.proofs.Tests.{T-true}
+use Rattle.laws.proofs.Bytes.{bytes-length, be-bytes}
+use Rattle.laws.proofs.Invariant.{Names}
+
+pub num-bytes : (n v : ℕ) (rest : List ℕ) → v < 256 ^ n → num n (bytes n v ++ rest) ≡ v
+num-bytes n v rest h =
+    ap (be 0) (take-at (bytes n v) rest n (bytes-length n v)) ∙ be-bytes n v 0 ∙ omega (arith, mod-eq-of-lt h)
+
+-- ---- one pointer
+
+-- none, or a word that names one of n
+pub record NamesWord (n p : ℕ) : Type 0 where
+  pub names : Names n p
+  pub small : p < 2 ^ 32
+
+abbrev pub OkLink : ℕ → ℕ → Type 0
+OkLink n p = (p ≡ 0) ⊎ NamesWord n p
+
+-- what the file says of it
+unfoldable pub linkFor : List ℕ → ℕ → Link
+linkFor ps p = cond (eqb p 0) noLink (record { code = codeFor (placeOf ps p); tag = tagOf p; place = placeOf ps p })
+
+record PointerRead (ps : List ℕ) (p : ℕ) (rest : List ℕ) : Type 0 where
+  low : code ps p < 3
+  len : length (pointerBytes ps p) ≡ 2 * code ps p
+  link : linkOf (code ps p) (num (2 * code ps p) (pointerBytes ps p ++ rest)) ≡ linkFor ps p
+  after : drop (2 * code ps p) (pointerBytes ps p ++ rest) ≡ rest
+
+-- by its width
+Writes : ℕ → ℕ → ℕ → List ℕ → Type 0
+Writes c t l rest = linkOf c (num (2 * c) (bytes (2 * c) (t * 2 ^ (16 * c - 3) + l) ++ rest)) ≡ record { code = c; tag = t; place = l }
+
+short-read : (t l : ℕ) (rest : List ℕ) → t < 8 → l ≤ farthestShort → Writes 1 t l rest
+unfolding Writes
+short-read t l rest ht hl =
+    let e : num 2 (bytes 2 (t * 2 ^ 13 + l) ++ rest) ≡ t * 2 ^ 13 + l = num-bytes 2 (t * 2 ^ 13 + l) rest (omega arith) in
+    let a : (t * 2 ^ 13 + l) / 2 ^ 13 ≡ t = omega arith in
+    let b : (t * 2 ^ 13 + l) % 2 ^ 13 ≡ l = omega arith in
+    rw (e, a, b)
+
+long-read : (t l : ℕ) (rest : List ℕ) → t < 8 → l < 2 ^ 29 → Writes 2 t l rest
+unfolding Writes
+long-read t l rest ht hl =
+    let e : num 4 (bytes 4 (t * 2 ^ 29 + l) ++ rest) ≡ t * 2 ^ 29 + l = num-bytes 4 (t * 2 ^ 29 + l) rest (omega arith) in
+    let a : (t * 2 ^ 29 + l) / 2 ^ 29 ≡ t = omega arith in
+    let b : (t * 2 ^ 29 + l) % 2 ^ 29 ≡ l = omega arith in
+    rw (e, a, b)
+
+some-read : (t l : ℕ) (rest : List ℕ) → t < 8 → l < 2 ^ 29 → Writes (codeFor l) t l rest
+some-read t l rest ht hl = go (leb l farthestShort) refl
+  where
+    go : (b : Bool) → leb l farthestShort ≡ b → Writes (cond b 1 2) t l rest
+    go true e = short-read t l rest ht (leb-true l farthestShort e)
+    go false e = long-read t l rest ht hl
+
+pub code-low : (l : ℕ) → codeFor l < 3
+code-low l = go (leb l farthestShort)
+  where
+    go : (b : Bool) → cond b 1 2 < 3
+    go true = lit< tt
+    go false = lit< tt
+
+module _ (ps : List ℕ) (p : ℕ) where
+  pub no-code : p ≡ 0 → code ps p ≡ 0
+  unfolding code
+  no-code e = rw (eq-eqb p 0 e)
+
+  no-bytes : p ≡ 0 → pointerBytes ps p ≡ []
+  unfolding pointerBytes
+  no-bytes e = rw (eq-eqb p 0 e)
+
+  pub no-link : p ≡ 0 → linkFor ps p ≡ noLink
+  unfolding linkFor
+  no-link e = rw (eq-eqb p 0 e)
+
+  pub some-code : (p ≡ 0 → ⊥) → code ps p ≡ codeFor (placeOf ps p)
+  unfolding code
+  some-code n = rw (ne-eqb p 0 n)
+
+  pub some-bytes : (p ≡ 0 → ⊥) → pointerBytes ps p ≡ bytes (2 * codeFor (placeOf ps p)) (tagOf p * 2 ^ (16 * codeFor (placeOf ps p) - 3) + placeOf ps p)
+  unfolding pointerBytes
+  some-bytes n = rw (ne-eqb p 0 n)
+
+  pub some-link : (p ≡ 0 → ⊥) → linkFor ps p ≡ record { code = codeFor (placeOf ps p); tag = tagOf p; place = placeOf ps p }
+  unfolding linkFor
+  some-link n = rw (ne-eqb p 0 n)
+
+  pub code-pos : (p ≡ 0 → ⊥) → 0 < code ps p
+  code-pos n = rw (some-code n) (go (leb (placeOf ps p) farthestShort))
+    where
+      go : (b : Bool) → 0 < cond b 1 2
+      go true = lit< tt
+      go false = lit< tt
+
+  pub word-some : {n : ℕ} → NamesWord n p → p ≡ 0 → ⊥
+  word-some w e = omega arith
+
+-- what a cell above a list of n must be: eight pointers, not all none
+pub record Row (n : ℕ) (c : Cell) : Type 0 where
+  pub eight : length c ≡ 8
+  pub links : (i : ℕ) → OkLink n (getD c i 0)
+  pub one : ℕ
+  pub there : getD c one 0 ≡ 0 → ⊥
+
+-- the starts, the pointers and the tests of a list with bytes l, from place a on
+pub record ListRead (ps l : List ℕ) (a : ℕ) (cs : List Cell) : Type 0 where
+  pub starts : (n : ℕ) → sizeOf ps cs ≤ n → startsFrom l n a ≡ placesFrom ps a cs
+  pub links : map (linksAt l) (placesFrom ps a cs) ≡ map (map (linkFor ps)) cs
+  pub good : T (allIn (recordOk l) (placesFrom ps a cs))
+
+-- places rise, so each is found again under its number
+module _ (ps : List ℕ) where
+  width-pos : (c : Cell) → 1 ≤ width ps c
+  unfolding width
+  width-pos [] = lit< tt
+  width-pos (p ∷ c) = omega (arith, width-pos c)
+
+  pub places-length : (a : ℕ) (cs : List Cell) → length (placesFrom ps a cs) ≡ length cs
+  unfolding placesFrom
+  places-length a [] = refl
+  places-length a (c ∷ cs) = ap suc (places-length (a + width ps c) cs)
+
+  places-late : (a : ℕ) (cs : List Cell) (q : ℕ) → q < length cs → a + q ≤ getD (placesFrom ps a cs) q 0
+  unfolding placesFrom
+  places-late a [] q h = absurd (not-suc-le-zero h)
+  places-late a (c ∷ cs) zero h = omega arith
+  places-late a (c ∷ cs) (suc q) h = omega (arith, places-late (a + width ps c) cs q (le-of-suc-le-suc h), width-pos c)
+
+  pub places-in : (a : ℕ) (cs : List Cell) (q : ℕ) → q < length cs → getD (placesFrom ps a cs) q 0 < a + sizeOf ps cs
+  unfolding placesFrom sizeOf
+  places-in a [] q h = absurd (not-suc-le-zero h)
+  places-in a (c ∷ cs) zero h = omega (arith, width-pos c)
+  places-in a (c ∷ cs) (suc q) h = omega (arith, places-in (a + width ps c) cs q (le-of-suc-le-suc h))
+
+  pub places-once : (a : ℕ) (cs : List Cell) (i j : ℕ) → i < length cs → j < length cs → getD (placesFrom ps a cs) i 0 ≡ getD (placesFrom ps a cs) j 0 → i ≡ j
+  unfolding placesFrom
+  places-once a [] i j h g e = absurd (not-suc-le-zero h)
+  places-once a (c ∷ cs) zero zero h g e = refl
+  places-once a (c ∷ cs) zero (suc j) h g e = absurd (omega (arith, e, places-late (a + width ps c) cs j (le-of-suc-le-suc g), width-pos c))
+  places-once a (c ∷ cs) (suc i) zero h g e = absurd (omega (arith, e, places-late (a + width ps c) cs i (le-of-suc-le-suc h), width-pos c))
+  places-once a (c ∷ cs) (suc i) (suc j) h g e = ap suc (places-once (a + width ps c) cs i j (le-of-suc-le-suc h) (le-of-suc-le-suc g) e)
+
+module _ (ps : List ℕ) (low : (q : ℕ) → q < length ps → getD ps q 0 < 2 ^ 29) where
+  pointer-read : (p : ℕ) (rest : List ℕ) → OkLink (length ps) p → PointerRead ps p rest
+  unfolding Writes be
+  pointer-read p rest (inl e) = record {
+    low = rw (no-code ps p e) (lit< tt);
+    len = rw (no-code ps p e, no-bytes ps p e);
+    link = rw (no-code ps p e, no-link ps p e);
+    after = rw (no-code ps p e, no-bytes ps p e);
+  }
+  pointer-read p rest (inr w) =
+      let n : p ≡ 0 → ⊥ = word-some ps p w in
+      let b : ℕ = 2 * codeFor (placeOf ps p) in
+      let v : ℕ = tagOf p * 2 ^ (16 * codeFor (placeOf ps p) - 3) + placeOf ps p in
+      record {
+        low = rw (some-code ps p n) (code-low (placeOf ps p));
+        len = rw (some-code ps p n, some-bytes ps p n) (bytes-length b v);
+        link = rw (some-code ps p n, some-bytes ps p n, some-link ps p n) (some-read (tagOf p) (placeOf ps p) rest (omega arith) (low (cellNo p) (omega arith)));
+        after = rw (some-code ps p n, some-bytes ps p n) (drop-at (bytes b v) rest b (bytes-length b v));
+      }
+
+  -- ---- a record
+
+  read-links : (c : Cell) (rest : List ℕ) → ((i : ℕ) → OkLink (length ps) (getD c i 0))
+      → readLinks (length c) (header ps c) (flatten (map (pointerBytes ps) c) ++ rest) ≡ map (linkFor ps) c
+  unfolding readLinks header flatten
+  read-links [] rest h = refl
+  read-links (p ∷ c) rest h =
+      let more : List ℕ = flatten (map (pointerBytes ps) c) in
+      let r : PointerRead ps p (more ++ rest) = pointer-read p (more ++ rest) (h 0) in
+      let a : (code ps p + 4 * header ps c) % 4 ≡ code ps p = omega (arith, r .low) in
+      let b : (code ps p + 4 * header ps c) / 4 ≡ header ps c = omega (arith, r .low) in
+      rw (append-assoc (pointerBytes ps p) more rest, a, b, r .link, r .after, read-links c rest (λ i. h (suc i)))
+
+  halves-is : (c : Cell) → ((i : ℕ) → OkLink (length ps) (getD c i 0)) → halves (length c) (header ps c) ≡ width ps c
+  unfolding halves header width
+  halves-is [] h = refl
+  halves-is (p ∷ c) h =
+      let r : PointerRead ps p [] = pointer-read p [] (h 0) in
+      let a : (code ps p + 4 * header ps c) % 4 ≡ code ps p = omega (arith, r .low) in
+      let b : (code ps p + 4 * header ps c) / 4 ≡ header ps c = omega (arith, r .low) in
+      rw (a, b, halves-is c (λ i. h (suc i)))
+
+  codes-are : (c : Cell) → ((i : ℕ) → OkLink (length ps) (getD c i 0)) → T (codesOk (length c) (header ps c))
+  unfolding codesOk header
+  codes-are [] h = tt
+  codes-are (p ∷ c) h =
+      let r : PointerRead ps p [] = pointer-read p [] (h 0) in
+      let a : (code ps p + 4 * header ps c) % 4 ≡ code ps p = omega (arith, r .low) in
+      let b : (code ps p + 4 * header ps c) / 4 ≡ header ps c = omega (arith, r .low) in
+      rw (a, b, ne-eqb (code ps p) 3 (λ e. omega (arith, r .low))) (codes-are c (λ i. h (suc i)))
+
+  header-lt : (c : Cell) → ((i : ℕ) → OkLink (length ps) (getD c i 0)) → header ps c < 4 ^ length c
+  unfolding header
+  header-lt [] h = lit< tt
+  header-lt (p ∷ c) h = let r : PointerRead ps p [] = pointer-read p [] (h 0) in omega (arith, r .low, header-lt c (λ i. h (suc i)), pow-succ' 4 (length c))
+
+  header-pos : (c : Cell) (i : ℕ) → (getD c i 0 ≡ 0 → ⊥) → 0 < header ps c
+  unfolding header
+  header-pos [] i n = absurd (n refl)
+  header-pos (p ∷ c) zero n = omega (arith, code-pos ps p n)
+  header-pos (p ∷ c) (suc i) n = omega (arith, header-pos c i n)
+
+  links-length : (c : Cell) → ((i : ℕ) → OkLink (length ps) (getD c i 0)) → length (flatten (map (pointerBytes ps) c)) + 2 ≡ 2 * width ps c
+  unfolding flatten width
+  links-length [] h = refl
+  links-length (p ∷ c) h =
+      let r : PointerRead ps p [] = pointer-read p [] (h 0) in
+      rw (length-append (pointerBytes ps p) (flatten (map (pointerBytes ps) c))) (omega (arith, r .len, links-length c (λ i. h (suc i))))
+
+  record-length : (c : Cell) → ((i : ℕ) → OkLink (length ps) (getD c i 0)) → length (recordBytes ps c) ≡ 2 * width ps c
+  unfolding recordBytes
+  record-length c h = length-append (bytes 2 (header ps c)) (flatten (map (pointerBytes ps) c)) ∙ omega (arith, bytes-length 2 (header ps c), links-length c h)
+
+  -- ---- a list, from its record at place a on: l is all its bytes, and `before` those in front
+
+  record RecordRead (l : List ℕ) (a : ℕ) (c : Cell) : Type 0 where
+    head : halves 8 (headerAt l a) ≡ width ps c
+    links : linksAt l a ≡ map (linkFor ps) c
+    good : T (recordOk l a)
+
+  record-read : (l before rest : List ℕ) (a : ℕ) (c : Cell) → Row (length ps) c → length before ≡ 2 * a → l ≡ before ++ (recordBytes ps c ++ rest) → RecordRead l a c
+  unfolding recordOk linksAt recordBytes
+  record-read l before rest a c r n e = record {
+    head = rw headed wide;
+    links = rw (headed, pointed) (subst (λ (m : ℕ). readLinks m h (tail ++ rest) ≡ map (linkFor ps) c) (r .eight) (read-links c rest (r .links)));
+    good = rw (
+      headed,
+      wide,
+      lt-ltb 0 h (header-pos c (r .one) (r .there)),
+      T-true {b = codesOk 8 h} (subst (λ (m : ℕ). T (codesOk m h)) (r .eight) (codes-are c (r .links))),
+      le-leb (2 * (a + width ps c)) (length l) room,
+    ) tt;
+  }
+    where
+      h : ℕ
+      h = header ps c
+
+      tail : List ℕ
+      tail = flatten (map (pointerBytes ps) c)
+
+      wide : halves 8 h ≡ width ps c
+      wide = subst (λ (m : ℕ). halves m h ≡ width ps c) (r .eight) (halves-is c (r .links))
+
+      dropped : drop (2 * a) l ≡ bytes 2 h ++ (tail ++ rest)
+      dropped =
+          ap (drop (2 * a)) (e ∙ ap (λ (x : List ℕ). before ++ x) (append-assoc (bytes 2 h) tail rest))
+          ∙ drop-at before (bytes 2 h ++ (tail ++ rest)) (2 * a) n
+
+      headed : headerAt l a ≡ h
+      headed = ap (num 2) dropped ∙ num-bytes 2 h (tail ++ rest) (subst (λ (m : ℕ). h < 4 ^ m) (r .eight) (header-lt c (r .links)))
+
+      pointed : drop (2 * a + 2) l ≡ tail ++ rest
+      pointed = sym (drop-drop 2 (2 * a) l) ∙ ap (drop 2) dropped ∙ drop-at (bytes 2 h) (tail ++ rest) 2 (bytes-length 2 h)
+
+      room : 2 * (a + width ps c) ≤ length l
+      room = omega (arith, ap length e, length-append before (recordBytes ps c ++ rest), length-append (recordBytes ps c) rest, record-length c (r .links))
+
+  list-nil : (l : List ℕ) (a : ℕ) → length l ≡ 2 * a → ListRead ps l a []
+  unfolding placesFrom sizeOf allIn startsFrom
+  list-nil l a done = record { starts = λ n h. ends n; links = refl; good = tt }
+    where
+      ends : (n : ℕ) → startsFrom l n a ≡ []
+      ends zero = refl
+      ends (suc n) = rw (le-ltb (2 * a) (length l) (omega arith))
+
+  list-cons : (l : List ℕ) (a : ℕ) (c : Cell) (cs : List Cell) → RecordRead l a c → 2 * a < length l → ListRead ps l (a + width ps c) cs → ListRead ps l a (c ∷ cs)
+  unfolding placesFrom sizeOf allIn startsFrom
+  list-cons l a c cs r inside more = record {
+    starts = begin;
+    links = λ i. r .links i ∷ more .links i;
+    good = rw (T-true {b = recordOk l a} (r .good)) (more .good);
+  }
+    where
+      begin : (n : ℕ) → width ps c + sizeOf ps cs ≤ n → startsFrom l n a ≡ a ∷ placesFrom ps (a + width ps c) cs
+      begin zero h = absurd (omega (arith, width-pos ps c))
+      begin (suc n) h = rw (lt-ltb (2 * a) (length l) inside, r .head, more .starts n (omega (arith, width-pos ps c)))
+
+  pub list-read : (l before : List ℕ) (a : ℕ) (cs : List Cell) → ((q : ℕ) → q < length cs → Row (length ps) (getD cs q [])) → length before ≡ 2 * a
+      → l ≡ before ++ flatten (map (recordBytes ps) cs) → ListRead ps l a cs
+  unfolding flatten
+  list-read l before a [] rows n e = list-nil l a (ap length (e ∙ append-nil before) ∙ n)
+  list-read l before a (c ∷ cs) rows n e =
+      let row : Row (length ps) c = rows 0 (omega arith) in
+      let rest : List ℕ = flatten (map (recordBytes ps) cs) in
+      let w : length (recordBytes ps c) ≡ 2 * width ps c = record-length c (row .links) in
+      list-cons l a c cs (record-read l before rest a c row n e)
+      (omega (arith, ap length e, length-append before (recordBytes ps c ++ rest), length-append (recordBytes ps c) rest, w, width-pos ps c))
+      (list-read l (before ++ recordBytes ps c) (a + width ps c) cs (λ q h. rows (suc q) (omega arith))
+      (length-append before (recordBytes ps c) ∙ omega (arith, w)) (e ∙ sym (append-assoc before (recordBytes ps c) rest)))
+
+  pub list-length : (cs : List Cell) → ((q : ℕ) → q < length cs → Row (length ps) (getD cs q [])) → length (flatten (map (recordBytes ps) cs)) ≡ 2 * sizeOf ps cs
+  unfolding flatten sizeOf
+  list-length [] rows = refl
+  list-length (c ∷ cs) rows =
+      length-append (recordBytes ps c) (flatten (map (recordBytes ps) cs))
+      ∙ omega (arith, record-length c (rows 0 (omega arith) .links), list-length cs (λ q h. rows (suc q) (omega arith)))
