@@ -43,6 +43,9 @@ pub mod UnseenWords
 pub mod UnseenAnswers
 pub mod UnseenWrites
 pub mod Unseen
+-- sums over cubes and boxes
+pub mod Sums
+pub mod Boxes
 -- any list of calls on a new store
 pub mod TreesRead
 pub mod MirrorClaim

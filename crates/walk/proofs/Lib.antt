@@ -9,3 +9,7 @@ pub mod Outside
 pub mod Settled
 pub mod Entries
 pub mod Voxels
+pub mod Tallies
+pub mod Wholes
+pub mod LeafBoxes
+pub mod BoxWays

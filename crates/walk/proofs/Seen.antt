@@ -40,10 +40,10 @@ module _ (S : ℕ) (v : Point) (h : 0 < S) where
 two-pos : (S : ℕ) → 0 < S → 0 < 2 * S
 two-pos S h = omega arith
 
-edge-pos : (k : ℕ) → 0 < edge k
+pub edge-pos : (k : ℕ) → 0 < edge k
 edge-pos k = pow-pos (suc (suc k))
 
-edge-double : (k : ℕ) → edge (suc k) ≡ 2 * edge k
+pub edge-double : (k : ℕ) → edge (suc k) ≡ 2 * edge k
 edge-double k = pow-succ' 2 (suc (suc k))
 
 -- the child that holds it
