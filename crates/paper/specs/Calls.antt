@@ -1,4 +1,4 @@
--- The thirteen calls of document 01: for each its refusals in their order, and its whole outcome: number, values, and every slice lent for
+-- The calls of document 01 (detail is in Detail): for each its refusals in their order, and its whole outcome: number, values, and every slice lent for
 -- writing, to its last element, as the call leaves it. Definitions only. Slices lent for reading only never change.
 -- Words (ws, scratch of pack) and bytes (files, out, scratch of check) are lists of numbers.
 use mathlib.Core.Bool.{Bool, true, false, cond, not, _&&_, _||_}
@@ -255,7 +255,7 @@ packedVoxelOutcome file v = settled (firstOf (packedVoxelOrder file v)) (packedV
 abbrev pub openOrder : List ℕ → List Test
 openOrder file = packedOrder file (when (not (headOk file)) 6 ∷ [])
 
--- depth and list starts; the part that the scene holds: the file, 'a refusal holding an empty part'
+-- depth and list starts. Nothing is lent for writing; in that place stands the part that the scene holds: the file, 'a refusal holding an empty part'
 unfoldable pub openOutcome : List ℕ → Outcome
 openOutcome file = settled (firstOf (openOrder file)) (fileDepth file ∷ startsOf file) (file ∷ []) ([] ∷ [])
 

@@ -128,7 +128,8 @@ unfoldable pub placesAt : List ℕ → ℕ → List ℕ
 placesAt bs zero = count 0 (sizeAt bs 0)
 placesAt bs (suc k) = startsFrom (listAt bs (suc k)) (sizeAt bs (suc k)) 0
 
--- a pointer by the number of the record that it names; ps: where those start
+-- a pointer by the number of the record that it names; ps: where those start. Where rules 1 to 4 hold the number plus 1 is below 2^29: an inner
+-- record takes two half-words at least and its place is below 2^29, and a file has less than 2^29 leaves
 abbrev pub byNumber : List ℕ → Link → ℕ
 byNumber ps l = cond (eqb (l .code) 0) 0 (pointer (l .tag) (indexIn (l .place) ps))
 

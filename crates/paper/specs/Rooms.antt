@@ -45,7 +45,7 @@ abbrev pub cellOf : Room → ℕ → Point → Room
 cellOf r h c v = r (point (c .x * 2 ^ h + v .x) (c .y * 2 ^ h + v .y) (c .z * 2 ^ h + v .z))
 
 -- 'eight children, number i = x + 2y + 4z, each bit saying which half': the number of the child that holds v, S the children's edge;
--- where v lies in it; and the corner of child i
+-- where v lies in it; and child i of a cell
 abbrev pub childNo : ℕ → Point → ℕ
 childNo S v = v .x / S + 2 * (v .y / S) + 4 * (v .z / S)
 

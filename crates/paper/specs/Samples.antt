@@ -2,7 +2,7 @@
 -- document 01 says. Definitions only: the claim that all hold is C10.
 use mathlib.Core.Bool.{Bool, false, cond, not}
 use mathlib.Core.List.{List, [], _∷_, _++_, map}
-use Prim.Native.Nat.{ℕ, _+_, _*_}
+use Prim.Native.Nat.{ℕ, _+_, _*_, _%_}
 use lib.IntN.{pos, negsuc}
 use lib.Ieee.{Float, fin}
 use lib.ListN.{take, getD}
@@ -37,10 +37,11 @@ slice o i = getD (o .lent) i []
 
 -- ---- the stores and files
 
--- words with other numbers in them, five past the used part
+-- n words or bytes with numbers in them
 unfoldable pub noise : ℕ → List ℕ
-noise n = tabulate 0 n (λ i. 7 * i + 3)
+noise n = tabulate 0 n (λ i. (7 * i + 3) % 256)
 
+-- a new store of capacity C, five words of a slice beyond it
 unfoldable pub newStore : ℕ → List ℕ
 newStore C = slice (newOutcome C (noise (used C + 5))) 0
 

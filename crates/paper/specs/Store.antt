@@ -30,17 +30,21 @@ leafNo c = getD c 0 0 * 2 ^ 32 + getD c 1 0
 
 -- ---- pointers: '0 for none; otherwise its top three bits are a mirror and its low 29 bits the kept cell's number plus 1'
 
+-- the unit of the three mirror bits: 29 bits lie below them
+abbrev pub tagUnit : ℕ
+tagUnit = 2 ^ 29
+
 abbrev pub tagOf : ℕ → ℕ
-tagOf p = p / 2 ^ 29 % 8
+tagOf p = p / tagUnit % 8
 
 abbrev pub lowOf : ℕ → ℕ
-lowOf p = p % 2 ^ 29
+lowOf p = p % tagUnit
 
 abbrev pub cellNo : ℕ → ℕ
 cellNo p = lowOf p - 1
 
 abbrev pub pointer : ℕ → ℕ → ℕ
-pointer tag n = tag * 2 ^ 29 + (n + 1)
+pointer tag n = tag * tagUnit + (n + 1)
 
 -- 'bad: not 0 and its number is not kept', n cells being kept at the height pointed to. A tag with no number is bad.
 abbrev pub badPointer : ℕ → ℕ → Bool
@@ -62,9 +66,16 @@ mostScenes = 64
 abbrev pub heights : ℕ
 heights = 15
 
+-- where the header ends and the scenes start; where the scenes end and the lists start
+abbrev pub firstScene : ℕ
+firstScene = 32
+
+abbrev pub firstList : ℕ
+firstList = 160
+
 -- 'for capacity C it uses the first 160 + 114C words'
 abbrev pub used : ℕ → ℕ
-used C = 160 + 114 * C
+used C = firstList + 114 * C
 
 -- 'word 0: C. Word 1: scenes held. Words 2 to 16: cells kept at heights 2 to 16. Words 17 to 31: zero'
 abbrev pub capacityOf : List ℕ → ℕ
@@ -81,7 +92,7 @@ zerosPlace = 17
 
 -- 'words 32 to 159: 64 scenes of two words, depth and root pointer'
 abbrev pub scenePlace : ℕ → ℕ
-scenePlace n = 32 + 2 * n
+scenePlace n = firstScene + 2 * n
 
 -- 'then C leaves of two words, then for heights 3 to 16 in turn C cells of 8 pointers': the words of a cell of list k, where list k starts
 abbrev pub cellWords : ℕ → ℕ
@@ -89,8 +100,8 @@ cellWords zero = 2
 cellWords (suc k) = 8
 
 abbrev pub listPlace : ℕ → ℕ → ℕ
-listPlace C zero = 160
-listPlace C (suc k) = 160 + 2 * C + 8 * C * k
+listPlace C zero = firstList
+listPlace C (suc k) = firstList + 2 * C + 8 * C * k
 
 abbrev pub cellPlace : ℕ → ℕ → ℕ → ℕ
 cellPlace C k n = listPlace C k + cellWords k * n
@@ -130,7 +141,7 @@ listWords C k [] = []
 listWords C k (cs ∷ Ks) = padded (cellWords k * C) cs ++ listWords C (suc k) Ks
 
 abbrev pub headerWords : Store → List ℕ
-headerWords s = s .capacity ∷ length (s .scenes) ∷ map length (s .kept) ++ replicate (32 - zerosPlace) 0
+headerWords s = s .capacity ∷ length (s .scenes) ∷ map length (s .kept) ++ replicate (firstScene - zerosPlace) 0
 
 unfoldable pub wordsOf : Store → List ℕ
 wordsOf s = headerWords s ++ (padded (2 * mostScenes) (s .scenes) ++ listWords (s .capacity) 0 (s .kept))
@@ -152,7 +163,7 @@ capacityOk C = leb 1 C && leb C mostCapacity
 unfoldable pub headerOk : List ℕ → Bool
 headerOk ws =
     leb (used (capacityOf ws)) (length ws) && capacityOk (capacityOf ws) && leb (scenesHeld ws) mostScenes
-    && allBelow heights (λ k. leb (keptCount ws k) (capacityOf ws)) && blank ws zerosPlace (32 - zerosPlace)
+    && allBelow heights (λ k. leb (keptCount ws k) (capacityOf ws)) && blank ws zerosPlace (firstScene - zerosPlace)
 
 -- 'scene: depth not 2 to 16, or a bad root pointer'
 unfoldable pub sceneOk : List ℕ → ℕ → Bool

@@ -1,0 +1,41 @@
+// 'All numbers are big-endian': the numbers that a file's bytes write.
+ghost use mathlib.Core.Path.{_≡_};
+ghost use Prim.Native.Nat.{_+_, _≤_, _<_};
+ghost use lib.ListN.{length, drop};
+ghost use Rattle.paper.specs.Numbers.{num};
+
+// A byte as a wider number.
+pub fn wide(x: u8) -> u32
+    ensures { λ r. ⌜ (r ≡ x) × (r < 256) ⌝ }
+{
+    x as u32
+}
+
+// Four bytes as a wider number.
+fn wider(x: u32) -> u64
+    ensures { λ r. ⌜ (r ≡ x) × (r < 4294967296) ⌝ }
+{
+    x as u64
+}
+
+// The number that the four bytes from a position on write.
+pub fn be32(bytes: &[u8], at: usize) -> u32
+    requires { ⌜ at + 4 ≤ length (now bytes) ⌝ }
+    ensures { λ r. ⌜ r ≡ num 4 (drop at (now (bytes .entry))) ⌝ }
+{
+    let a = wide(bytes[at]);
+    let b = wide(bytes[at + 1]);
+    let c = wide(bytes[at + 2]);
+    let d = wide(bytes[at + 3]);
+    a * 16777216 + b * 65536 + c * 256 + d
+}
+
+// The number that the eight bytes from a position on write.
+pub fn be64(bytes: &[u8], at: usize) -> u64
+    requires { ⌜ at + 8 ≤ length (now bytes) ⌝ }
+    ensures { λ r. ⌜ r ≡ num 8 (drop at (now (bytes .entry))) ⌝ }
+{
+    let high = wider(be32(bytes, at));
+    let low = wider(be32(bytes, at + 4));
+    high * 4294967296 + low
+}

@@ -1,0 +1,5 @@
+-- Laws that belong to no one function.
+pub mod Fronts
+pub mod Records
+pub mod Agreeing
+pub mod Refusals

@@ -1,0 +1,16 @@
+-- `outline::front_bad` meets its contract: an empty file has no front byte, any other has its first.
+-- By the law of each way. Assumes nothing.
+use mathlib.Core.Path.{sym}
+use borrow.Author.Needs.{needs}
+use Rattle.outline.proofs.Fronts.{front-none, front-first}
+use Rattle.outline.proofs.front_bad.Statement.{statement}
+use Rattle.outline.proofs.front_bad.Tie as tie
+
+returns : tie.Need-returns
+returns c = sym (front-none (c .before .args .file .now) (c .before .args .front) (c .if1 .taken))
+
+returns-2 : tie.Need-returns-2
+returns-2 c = sym (front-first (c .before .before .args .file .now) (c .before .before .args .front) (c .before .if1 .left))
+
+pub front-bad-spec : {M : Type 1} → statement M
+front-bad-spec = tie.close (tie.spec returns (λ c. search needs) returns-2)

@@ -1,0 +1,161 @@
+// Document 01, 'The outline file': a file's first bytes, the records by position, and the refusals of a file by itself. A cell's record calls
+// for its children's records, and each child's again for a cell's: height and children left fall.
+ghost use mathlib.Core.Path.{_≡_};
+ghost use mathlib.Core.Bool.{not};
+ghost use Prim.Native.Nat.{_-_, _≤_};
+ghost use lib.ListN.{length};
+ghost use Rattle.paper.specs.Rooms.{least, deepest, depthOk};
+ghost use Rattle.paper.specs.Outline.{outlineHead, frontOk, lengthOk, fileDepth, outlineRules};
+ghost use Rattle.paper.specs.Order.{firstOf};
+ghost use Rattle.paper.specs.Calls.{outlineOrder};
+ghost use Rattle.outline.specs.Positions.{leafAt, childrenAt, recordAt};
+use numbers::be32;
+use numbers::be64;
+use numbers::wide;
+
+// An outline's first byte, and the bytes before the root's record.
+const FRONT: u8 = 0x11;
+
+const HEAD: usize = 6;
+
+// The height of a leaf, also the least depth; the greatest depth.
+const LEAF: u32 = 2;
+
+const DEEPEST: u32 = 16;
+
+// What reading a record answers: it breaks the rules, or the position after it.
+pub enum Reading {
+    Broken,
+    EndsAt(usize),
+}
+
+// A length field as a length.
+fn field(x: u32) -> usize
+    ensures { λ r. ⌜ r ≡ x ⌝ }
+{
+    x as usize
+}
+
+// Whether a file is empty or begins with another version byte.
+pub fn front_bad(file: &[u8], front: u8) -> bool
+    ensures { λ r. ⌜ r ≡ not (frontOk front (now (file .entry))) ⌝ }
+{
+    if file.len() == 0 {
+        return true;
+    }
+    file[0] != front
+}
+
+// Whether a file has fewer bytes than its kind begins with, or another length than its length field says.
+pub fn length_bad(file: &[u8], head: usize) -> bool
+    requires { ⌜ 5 ≤ head ⌝ }
+    ensures { λ r. ⌜ r ≡ not (lengthOk head (now (file .entry))) ⌝ }
+{
+    if file.len() < head {
+        return true;
+    }
+    field(be32(file, 1)) != file.len()
+}
+
+// A file's depth: byte 5.
+pub fn depth(file: &[u8]) -> u32
+    requires { ⌜ 6 ≤ length (now file) ⌝ }
+    ensures { λ r. ⌜ r ≡ fileDepth (now (file .entry)) ⌝ }
+{
+    wide(file[5])
+}
+
+// Whether a depth is not 2 to 16.
+pub fn depth_bad(depth: u32) -> bool
+    ensures { λ r. ⌜ r ≡ not (depthOk depth) ⌝ }
+{
+    if depth < LEAF {
+        return true;
+    }
+    DEEPEST < depth
+}
+
+// A leaf's record: eight bytes, not zero.
+fn leaf(file: &[u8], at: usize) -> Reading
+    ensures { λ r. ⌜ r ≡ leafAt (now (file .entry)) at ⌝ }
+{
+    if file.len() < 8 {
+        return Reading::Broken;
+    }
+    if file.len() - 8 < at {
+        return Reading::Broken;
+    }
+    if be64(file, at) == 0 {
+        return Reading::Broken;
+    }
+    Reading::EndsAt(at + 8)
+}
+
+// The record of a cell of this height: a leaf's, or a mask byte, not zero, and the children's records.
+pub fn record(file: &[u8], at: usize, height: u32) -> Reading
+    requires { ⌜ (least ≤ height) × (height ≤ deepest) ⌝ }
+    ensures { λ r. ⌜ r ≡ recordAt (now (file .entry)) (height - 2) at ⌝ }
+{
+    if height == LEAF {
+        return leaf(file, at);
+    }
+    if file.len() <= at {
+        return Reading::Broken;
+    }
+    let mask = file[at];
+    if mask == 0 {
+        return Reading::Broken;
+    }
+    children(file, at + 1, height - 1, 8, mask)
+}
+
+// The records of the children of this height that are left; the lowest bit of the mask is for the first of them.
+fn children(file: &[u8], at: usize, height: u32, left: u32, mask: u8) -> Reading
+    requires { ⌜ (least ≤ height) × (height ≤ deepest) × (left ≤ 8) ⌝ }
+    ensures { λ r. ⌜ r ≡ childrenAt (recordAt (now (file .entry)) (height - 2)) left mask at ⌝ }
+{
+    if left == 0 {
+        return Reading::EndsAt(at);
+    }
+    let others = mask / 2;
+    if mask % 2 == 0 {
+        return children(file, at, height, left - 1, others);
+    }
+    match record(file, at, height) {
+        Reading::Broken => Reading::Broken,
+        Reading::EndsAt(next) => children(file, next, height, left - 1, others),
+    }
+}
+
+// Whether what follows the head is neither nothing nor the root's record alone.
+pub fn rules_bad(file: &[u8]) -> bool
+    requires { ⌜ (outlineHead ≤ length (now file)) × (least ≤ fileDepth (now file)) × (fileDepth (now file) ≤ deepest) ⌝ }
+    ensures { λ r. ⌜ r ≡ not (outlineRules (now (file .entry))) ⌝ }
+{
+    if file.len() == HEAD {
+        return false;
+    }
+    match record(file, HEAD, depth(file)) {
+        Reading::Broken => true,
+        Reading::EndsAt(end) => end != file.len(),
+    }
+}
+
+// The refusal of a file by itself: 3, 4, 5, 6 in this order, or 0.
+pub fn refusal(file: &[u8]) -> u32
+    ensures { λ r. ⌜ r ≡ firstOf (outlineOrder (now (file .entry))) ⌝ }
+{
+    if front_bad(file, FRONT) {
+        return 3;
+    }
+    if length_bad(file, HEAD) {
+        return 4;
+    }
+    if depth_bad(depth(file)) {
+        return 5;
+    }
+    if rules_bad(file) {
+        return 6;
+    }
+    0
+}
