@@ -43,6 +43,9 @@ pub mod UnseenWords
 pub mod UnseenAnswers
 pub mod UnseenWrites
 pub mod Unseen
+-- a scene's record by its pointers
+pub mod StoreFacts
+pub mod Records
 -- sums over cubes and boxes
 pub mod Sums
 pub mod Boxes

@@ -2,15 +2,19 @@
 // as `paper` defines it. No call has a `requires`.
 ghost use mathlib.Core.Path.{_≡_};
 ghost use mathlib.Core.List.{[], _∷_};
-ghost use Rattle.paper.specs.Answers.{outcome, started, seen, kept as kept-told, chosen};
-ghost use Rattle.paper.specs.Calls.{newOutcome, voxelOutcome, keptOutcome};
+ghost use Rattle.paper.specs.Answers.{outcome, started, seen, counted, kept as kept-told, written, found, chosen};
+ghost use Rattle.paper.specs.Calls.{newOutcome, voxelOutcome, boxOutcome, keptOutcome, outlineOutcome, packedVoxelOutcome};
 ghost use Rattle.paper.specs.Detail.{detailOutcome};
 ghost use Rattle.paper.specs.Rooms.{point};
 use paper::Chosen;
+use paper::Counted;
+use paper::Found;
 use paper::Kept;
 use paper::Seen;
 use paper::Started;
 use paper::Wish;
+use paper::Written;
+use walk::Corner;
 
 // New store: the words of this capacity zeroed, then word 0 set.
 pub fn new_store(store: &mut [u32], capacity: u32) -> Started
@@ -26,11 +30,51 @@ pub fn voxel(store: &[u32], scene: u32, x: u32, y: u32, z: u32) -> Seen
     walk::voxel(store, scene, x, y, z)
 }
 
+// Box: how many solid voxels v have low <= v < high on each axis.
+pub fn box_count(
+    store: &[u32],
+    scene: u32,
+    lowx: u32,
+    lowy: u32,
+    lowz: u32,
+    highx: u32,
+    highy: u32,
+    highz: u32,
+) -> Counted
+    ensures { λ r. ⌜ outcome (counted r) [] ≡ boxOutcome (now (store .entry)) scene (point lowx lowy lowz) (point highx highy highz) ⌝ }
+{
+    let low = Corner {
+        x: lowx,
+        y: lowy,
+        z: lowz,
+    };
+    let high = Corner {
+        x: highx,
+        y: highy,
+        z: highz,
+    };
+    walk::box_count(store, scene, low, high)
+}
+
 // Kept: the cells kept at a height.
 pub fn kept(store: &[u32], height: u32) -> Kept
     ensures { λ r. ⌜ outcome (kept-told r) [] ≡ keptOutcome (now (store .entry)) height ⌝ }
 {
     store::kept(store, height)
+}
+
+// Outline out: the outline of a scene.
+pub fn outline_out(store: &[u32], scene: u32, out: &mut [u8]) -> Written
+    ensures { λ r. ⌜ outcome (written r) (now (out .exit) ∷ []) ≡ outlineOutcome (now (store .entry)) scene (now (out .entry)) ⌝ }
+{
+    outline_out::outline_out(store, scene, out)
+}
+
+// Packed voxel: solid or empty, with the number of records read on the way.
+pub fn packed_voxel(file: &[u8], x: u32, y: u32, z: u32) -> Found
+    ensures { λ r. ⌜ outcome (found r) [] ≡ packedVoxelOutcome (now (file .entry)) (point x y z) ⌝ }
+{
+    packed::packed_voxel(file, x, y, z)
 }
 
 // Detail: the height at which to draw a scene of this depth.

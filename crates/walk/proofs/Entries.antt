@@ -6,8 +6,8 @@ use mathlib.Core.List.{List, []}
 use Prim.Native.Nat.{ℕ, _-_, _<_, _≤_}
 use native.Mathlib.Omega.{arith}
 use borrow.Author.Tests.{le-leb, lt-leb, leb-true, leb-false}
-use lib.Dec.{T}
-use Rattle.paper.specs.Rooms.{depthOk}
+use lib.Dec.{T, leb, leb→le}
+use Rattle.paper.specs.Rooms.{depthOk, least, deepest}
 use Rattle.paper.specs.Answers.{numberOf}
 use Rattle.paper.specs.Store.{scenesHeld, keptCount, badPointer, headerOk, sceneOk, sceneDepth, sceneRoot}
 use Rattle.paper.specs.Calls.{noScene}
@@ -81,3 +81,9 @@ unfolding sceneOk
 entered-root {ws} {n} e =
     ap₂ (λ (d q : ℕ). badPointer (keptCount ws (d - 2)) q) (e .depth) (e .root)
     ∙ not-true (badPointer (keptCount ws (sceneDepth ws n - 2)) (sceneRoot ws n)) (and-right (depthOk (sceneDepth ws n)) (not (badPointer (keptCount ws (sceneDepth ws n - 2)) (sceneRoot ws n))) (e .words))
+
+pub scene-deep : (ws : List ℕ) (n : ℕ) → T (sceneOk ws n) → sceneDepth ws n ≤ deepest
+unfolding sceneOk
+scene-deep ws n t =
+    let d : T (depthOk (sceneDepth ws n)) = and-left (depthOk (sceneDepth ws n)) (not (badPointer (keptCount ws (sceneDepth ws n - 2)) (sceneRoot ws n))) t in
+    leb→le (sceneDepth ws n) deepest (and-right (leb least (sceneDepth ws n)) (leb (sceneDepth ws n) deepest) d)

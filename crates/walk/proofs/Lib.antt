@@ -13,3 +13,4 @@ pub mod Tallies
 pub mod Wholes
 pub mod LeafBoxes
 pub mod BoxWays
+pub mod BoxTests

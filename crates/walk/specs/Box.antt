@@ -1,7 +1,7 @@
 -- What a box of a cell holds, as paper means it: the cell is seen under a mirror, the box lies in its cube. The same of a pointer, and of the
 -- children of a cell, so many of them, found voxels added. Definitions only.
 use mathlib.Core.Bool.{Bool, true, false, cond, not, _&&_}
-use mathlib.Core.List.{List}
+use mathlib.Core.List.{List, [], _∷_}
 use mathlib.Core.Path.{_≡_}
 use Prim.Native.Nat.{ℕ, _+_, _^_, _<_, _≤_}
 use lib.Bits.{bitXor}
@@ -14,7 +14,8 @@ use Rattle.paper.specs.Outline.{edge}
 use Rattle.paper.specs.Store.{Cell, cellsAt, cellAt, tagOf, cellNo, badPointer}
 use Rattle.paper.specs.Meaning.{cellVoxel}
 use Rattle.paper.specs.Questions.{takenBad, boxSolid}
-use Rattle.paper.specs.Calls.{ofScene, boxDamaged}
+use Rattle.paper.specs.Calls.{boxOutside, ofScene, boxDamaged}
+use Rattle.paper.specs.Answers.{Told, told}
 use Rattle.laws.proofs.Boxes.{origin, far, clipped}
 use Rattle.walk.specs.declared.boxes.Tally.{Tally}
 use Rattle.walk.specs.declared.boxes.Tally.the-variants.{Solid, Damaged}
@@ -125,3 +126,12 @@ Without c n r = (i : ℕ) → i < 8 → getD r i 0 ≡ cond (names n (getD c i 0
 -- what paper's box question finds, past its refusals but the walk's
 unfoldable pub sceneBox : List ℕ → ℕ → Point → Point → Tally
 sceneBox ws n low high = cond (boxDamaged ws n low high) Damaged (Solid (ofScene boxSolid ws n low high))
+
+-- a tally as an answer's number and value
+abbrev pub tallyTold : Tally → Told
+tallyTold (Solid n) = told 0 (n ∷ [])
+tallyTold Damaged = told 2 (0 ∷ [])
+
+-- a box question past the scene's tests: refused by 10, then its tally
+abbrev pub boxTold : List ℕ → ℕ → Point → Point → Told
+boxTold ws n low high = cond (boxOutside ws n low high) (told 10 (0 ∷ [])) (tallyTold (sceneBox ws n low high))

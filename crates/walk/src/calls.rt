@@ -1,4 +1,4 @@
-// Voxel and cell, each with its whole outcome as `paper` defines it: refused by 2 (header), 9, 2 (the scene's two words),
+// Voxel, with its whole outcome as `paper` defines it: refused by 2 (header), 9, 2 (the scene's two words),
 // 10, 2 (walk), in this order.
 ghost use mathlib.Core.Path.{_≡_};
 ghost use mathlib.Core.Bool.{false, not};

@@ -1,4 +1,3 @@
-// Parked: the box call over scene_box and enter. The contracts stand; side_outside, box_outside and answer are unproved, box_from and box_count unwritten.
 // Box, with its whole outcome as `paper` defines it: refused by 2 (header), 9, 2 (the scene's two words), 10, 2 (walk), in
 // this order.
 ghost use mathlib.Core.Path.{_≡_};
@@ -6,11 +5,11 @@ ghost use mathlib.Core.Bool.{_||_};
 ghost use mathlib.Core.List.{[]};
 ghost use Prim.Native.Nat.{_^_, _<_, _≤_};
 ghost use lib.Dec.{T};
-ghost use Rattle.paper.specs.Rooms.{deepest, point};
+ghost use Rattle.paper.specs.Rooms.{deepest};
 ghost use Rattle.paper.specs.Store.{headerOk, mostScenes, sceneDepth, sceneOk};
 ghost use Rattle.paper.specs.Answers.{outcome, counted as counted-told};
 ghost use Rattle.paper.specs.Calls.{axisOutside, boxOutcome};
-ghost use Rattle.walk.specs.Box.{at, boxTold};
+ghost use Rattle.walk.specs.Box.{at, boxTold, tallyTold};
 use crate::boxes::Corner;
 use crate::boxes::Tally;
 use crate::boxes::scene_box;
@@ -45,9 +44,35 @@ fn box_outside(depth: u32, low: Corner, high: Corner) -> bool
 }
 
 // A tally as an answer.
-fn answer(tally: Tally) -> Counted {
+fn answer(tally: Tally) -> Counted
+    ensures { λ r. ⌜ counted-told r ≡ tallyTold tally ⌝ }
+{
     match tally {
         Tally::Damaged => Counted::Refused(Refusal::DamagedStore),
         Tally::Solid(n) => Counted::Solid(n),
+    }
+}
+
+// The box of a scene that can be asked.
+fn box_from(store: &[u32], scene: u32, depth: u32, low: Corner, high: Corner) -> Counted
+    requires { ⌜ T (headerOk (now store)) ⌝ }
+    requires { ⌜ scene < mostScenes ⌝ }
+    requires { ⌜ T (sceneOk (now store) scene) ⌝ }
+    requires { ⌜ depth ≡ sceneDepth (now store) scene ⌝ }
+    ensures { λ r. ⌜ counted-told r ≡ boxTold (now (store .entry)) scene (at low) (at high) ⌝ }
+{
+    if box_outside(depth, low, high) {
+        return Counted::Refused(Refusal::Outside);
+    }
+    answer(scene_box(store, scene, low, high))
+}
+
+// Box: how many solid voxels v have low <= v < high on each axis.
+pub fn box_count(store: &[u32], scene: u32, low: Corner, high: Corner) -> Counted
+    ensures { λ r. ⌜ outcome (counted-told r) [] ≡ boxOutcome (now (store .entry)) scene (at low) (at high) ⌝ }
+{
+    match enter(store, scene) {
+        Entry::Refused(refusal) => Counted::Refused(refusal),
+        Entry::Root(depth, _) => box_from(store, scene, depth, low, high),
     }
 }

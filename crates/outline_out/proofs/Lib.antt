@@ -1,0 +1,6 @@
+pub mod Laying
+pub mod Turning
+pub mod Pointers
+pub mod Steps
+pub mod Scenes
+pub mod Ways

@@ -1,0 +1,123 @@
+// A scene's file: its length up to a limit, its bytes, and the call.
+ghost use mathlib.Core.Path.{_≡_};
+ghost use mathlib.Core.List.{[], _∷_};
+ghost use Prim.Native.Nat.{_^_, _≤_, _<_, min};
+ghost use lib.Dec.{T};
+ghost use lib.ListN.{length};
+ghost use Rattle.paper.specs.Outline.{outlineHead, longest};
+ghost use Rattle.paper.specs.Store.{scenesHeld, storeOk};
+ghost use Rattle.paper.specs.Answers.{outcome, written};
+ghost use Rattle.paper.specs.Calls.{outlineOutcome};
+ghost use Rattle.outline_out.specs.Laid.{reached, writing, upTo};
+ghost use Rattle.outline_out.specs.Record.{headOf, sceneFile};
+use crate::bytes::put_number;
+use crate::measure::measure;
+use crate::record::write_record;
+use paper::Refusal;
+use paper::Written;
+use store::cell_number;
+use store::scene_depth;
+use store::scene_root;
+use store::scenes_held;
+use store::store_bad;
+use store::tag;
+
+// The front byte.
+const FRONT: u8 = 0x11;
+
+// The bytes of the header: front, length and depth; where the length lies, its bytes, and where the depth lies.
+const HEAD: u64 = 6;
+
+const LENGTH_PLACE: usize = 1;
+
+const LENGTH_BYTES: usize = 4;
+
+const DEPTH_PLACE: usize = 5;
+
+// The greatest length that four bytes write.
+const LONGEST: u64 = 4294967295;
+
+// List k has the cells of height k + 2.
+const LEAF_HEIGHT: u32 = 2;
+
+// The longest file that an output of so many bytes takes.
+fn most(bytes: usize) -> u64
+    ensures { λ r. ⌜ r ≡ min bytes longest ⌝ }
+{
+    let wide = bytes as u64;
+    if LONGEST < wide {
+        return LONGEST;
+    }
+    wide
+}
+
+// The length of a scene's file, or one more than the limit where it is longer.
+fn measure_scene(store: &[u32], scene: u32, limit: u64) -> u64
+    requires { ⌜ T (storeOk (now store)) ⌝ }
+    requires { ⌜ (scene < scenesHeld (now store)) × (limit < 2 ^ 32) ⌝ }
+    ensures { λ r. ⌜ r ≡ upTo limit (length (sceneFile (now (store .entry)) scene)) ⌝ }
+{
+    if limit < HEAD {
+        return limit + 1;
+    }
+    let root = scene_root(store, scene);
+    if root == 0 {
+        return HEAD;
+    }
+    let k = scene_depth(store, scene) - LEAF_HEIGHT;
+    HEAD + measure(store, k, cell_number(root), limit - HEAD)
+}
+
+// Writes the header of a file of this length; answers the position after it.
+fn write_head(out: &mut [u8], total: u64, depth: u32) -> usize
+    requires { ⌜ outlineHead ≤ length (now out) ⌝ }
+    requires { ⌜ depth < 256 ⌝ }
+    ensures { λ r. ⌜ reached r (now (out .exit)) ≡ writing (headOf total depth) 0 (now (out .entry)) ⌝ }
+{
+    out[0] = FRONT;
+    put_number(out, LENGTH_PLACE, LENGTH_BYTES, total);
+    out[DEPTH_PLACE] = depth as u8;
+    DEPTH_PLACE + 1
+}
+
+// Writes a scene's file, which has this length; answers the position after it.
+fn write_scene(store: &[u32], scene: u32, total: u64, out: &mut [u8]) -> usize
+    requires { ⌜ T (storeOk (now store)) ⌝ }
+    requires { ⌜ scene < scenesHeld (now store) ⌝ }
+    requires { ⌜ total ≡ length (sceneFile (now store) scene) ⌝ }
+    requires { ⌜ total ≤ length (now out) ⌝ }
+    ensures { λ r. ⌜ reached r (now (out .exit)) ≡ writing (sceneFile (now (store .entry)) scene) 0 (now (out .entry)) ⌝ }
+{
+    let depth = scene_depth(store, scene);
+    let root = scene_root(store, scene);
+    let at = write_head(out, total, depth);
+    if root == 0 {
+        return at;
+    }
+    write_record(
+        store,
+        depth - LEAF_HEIGHT,
+        cell_number(root),
+        tag(root),
+        out,
+        at,
+    )
+}
+
+// Outline out: the length written; refused by 2 (the whole store), 9, then 12.
+pub fn outline_out(store: &[u32], scene: u32, out: &mut [u8]) -> Written
+    ensures { λ r. ⌜ outcome (written r) (now (out .exit) ∷ []) ≡ outlineOutcome (now (store .entry)) scene (now (out .entry)) ⌝ }
+{
+    if store_bad(store) {
+        return Written::Refused(Refusal::DamagedStore);
+    }
+    if scenes_held(store) <= scene {
+        return Written::Refused(Refusal::NoScene);
+    }
+    let limit = most(out.len());
+    let total = measure_scene(store, scene, limit);
+    if limit < total {
+        return Written::Refused(Refusal::OutputShort);
+    }
+    Written::Length(write_scene(store, scene, total, out) as u32)
+}

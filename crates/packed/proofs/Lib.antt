@@ -1,0 +1,8 @@
+-- Laws that belong to no one function.
+pub mod Reading
+pub mod Header
+pub mod Records
+pub mod Seen
+pub mod Steps
+pub mod Parts
+pub mod Ways

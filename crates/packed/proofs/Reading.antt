@@ -1,0 +1,55 @@
+-- Numbers of two and of four bytes at a place, high byte first, from their bytes; and comparisons turned round.
+-- By taking the bytes off the list one at a time. Assumes nothing.
+use mathlib.Core.Path.{_≡_, refl, sym, _∙_, ap}
+use mathlib.Core.Bool.{Bool, true, false, not}
+use mathlib.Core.List.{List, _∷_}
+use Prim.Native.Nat.{ℕ, suc, _+_, _*_, _≤_}
+use native.Mathlib.Numerals.{add-one}
+use native.Mathlib.Omega.{arith}
+use borrow.Author.Tests.{lt-ltb, le-ltb, leb-true, leb-false}
+use lib.Dec.{leb, ltb}
+use lib.ListN.{length, drop, getD}
+use lib.Seq.{drop-cons}
+use Rattle.paper.specs.Numbers.{be, num}
+
+-- ---- comparisons
+
+pub ltb-not : (a b : ℕ) → ltb a b ≡ not (leb b a)
+ltb-not a b = go (leb b a) refl
+  where
+    go : (c : Bool) → leb b a ≡ c → ltb a b ≡ not c
+    go true e = le-ltb a b (leb-true b a e)
+    go false e = lt-ltb a b (leb-false b a e)
+
+pub leb-not : (a b : ℕ) → leb a b ≡ not (ltb b a)
+leb-not a b = go (leb a b) refl
+  where
+    go : (c : Bool) → leb a b ≡ c → c ≡ not (ltb b a)
+    go true e = ap not (sym (le-ltb b a (leb-true a b e)))
+    go false e = ap not (sym (lt-ltb b a (leb-false a b e)))
+
+pub ltb-suc : (a b : ℕ) → ltb a (suc b) ≡ leb a b
+ltb-suc a b = go (leb a b) refl
+  where
+    go : (c : Bool) → leb a b ≡ c → ltb a (suc b) ≡ c
+    go true e = lt-ltb a (suc b) (omega (arith, leb-true a b e))
+    go false e = le-ltb a (suc b) (omega (arith, leb-false a b e))
+
+-- ---- big-endian
+
+pub num-two : (s : List ℕ) (at : ℕ) → at + 2 ≤ length s → num 2 (drop at s) ≡ getD s at 0 * 256 + getD s (at + 1) 0
+unfolding be
+num-two s at h =
+    let a : drop at s ≡ getD s at 0 ∷ drop (suc at) s = drop-cons s at 0 (omega arith) in
+    let b : drop (suc at) s ≡ getD s (suc at) 0 ∷ drop (suc (suc at)) s = drop-cons s (suc at) 0 (omega arith) in
+    rw (a, b, add-one at) (omega arith)
+
+pub num-four : (s : List ℕ) (at : ℕ) → at + 4 ≤ length s → num 4 (drop at s) ≡ num 2 (drop at s) * 65536 + num 2 (drop (at + 2) s)
+unfolding be
+num-four s at h =
+    let a : drop at s ≡ getD s at 0 ∷ drop (suc at) s = drop-cons s at 0 (omega arith) in
+    let e : suc (suc at) ≡ at + 2 = omega arith in
+    let b : drop (suc at) s ≡ getD s (suc at) 0 ∷ drop (at + 2) s = drop-cons s (suc at) 0 (omega arith) ∙ ap (λ (n : ℕ). getD s (suc at) 0 ∷ drop n s) e in
+    let c : drop (at + 2) s ≡ getD s (at + 2) 0 ∷ drop (suc (at + 2)) s = drop-cons s (at + 2) 0 (omega arith) in
+    let d : drop (suc (at + 2)) s ≡ getD s (suc (at + 2)) 0 ∷ drop (suc (suc (at + 2))) s = drop-cons s (suc (at + 2)) 0 (omega arith) in
+    rw (a, b, c, d) (omega arith)

@@ -1,0 +1,177 @@
+-- One record read by its header: the code of child i, the half-words before its pointer, the pointer itself, and the ways through the tests.
+-- By taking one child's two bits off the header at a time. Assumes nothing.
+use mathlib.Core.Path.{_≡_, refl, sym, _∙_, ap, ap₂, subst}
+use mathlib.Core.Bool.{Bool, true, false, not, _&&_, and-false}
+use mathlib.Core.List.{List}
+use Prim.Native.Nat.{ℕ, zero, suc, _+_, _-_, _*_, _/_, _%_, _^_, _≤_, _<_}
+use native.Mathlib.Nat.{le-of-suc-le-suc, not-suc-le-zero, pow-succ', div-div-eq-div-mul, div-one}
+use native.Mathlib.Omega.{arith}
+use borrow.Author.Tests.{lt-ltb, le-ltb, le-leb, lt-leb, eq-eqb, ne-eqb, eqb-true, eqb-false}
+use lib.Dec.{T, eqb, leb, ltb, eqb→eq, leb→le}
+use lib.ListN.{length, drop, getD, drop-of-length-le}
+use lib.Seq.{drop-drop}
+use Rattle.paper.specs.Numbers.{be, num}
+use Rattle.paper.specs.Store.{leafNo}
+use Rattle.paper.specs.Packed.{Link, linkOf, noLink, headerAt, halves, codesOk, readLinks, linksAt, recordOk, leafAt, farthestShort}
+use Rattle.laws.proofs.Tests.{and-left, and-right, all-at}
+use Rattle.packed.specs.Records.{codeAt, takenOk}
+use Rattle.packed.proofs.Reading.{ltb-not}
+
+-- ---- codes and half-words
+
+code-suc : (i h : ℕ) → codeAt (suc i) h ≡ codeAt i (h / 4)
+code-suc i h = ap (λ (n : ℕ). n % 4) (ap (λ (n : ℕ). h / n) (pow-succ' 4 i) ∙ sym (div-div-eq-div-mul h 4 (4 ^ i)))
+
+-- the two bits of child i, as code shifts to them
+pub code-shift : (i h : ℕ) → i < 8 → h / 2 ^ (2 * i) % 4 ≡ codeAt i h
+code-shift i h l = ap (λ (n : ℕ). h / n % 4) (eqb→eq (2 ^ (2 * i)) (4 ^ i) (all-at 8 (λ j. eqb (2 ^ (2 * j)) (4 ^ j)) tt i l))
+
+pub halves-none : (h : ℕ) → halves 0 h ≡ 1
+unfolding halves
+halves-none h = refl
+
+pub halves-one : (n h : ℕ) → 1 ≤ halves n h
+unfolding halves
+halves-one zero h = omega arith
+halves-one (suc n) h = omega (arith, halves-one n (h / 4))
+
+-- one child less
+pub halves-less : (n h : ℕ) → 0 < n → halves n h ≡ h % 4 + halves (n - 1) (h / 4)
+unfolding halves
+halves-less zero h l = absurd (not-suc-le-zero l)
+halves-less (suc n) h l = let e : n ≡ suc n - 1 = omega arith in ap (λ (m : ℕ). h % 4 + halves m (h / 4)) e
+
+-- the pointers up to that of child i fit before the record's end
+pub halves-room : (n h i : ℕ) → i < n → halves i h + codeAt i h ≤ halves n h
+unfolding halves
+halves-room zero h i l = absurd (not-suc-le-zero l)
+halves-room (suc n) h zero l = omega (arith, halves-one n (h / 4), div-one h)
+halves-room (suc n) h (suc i) l = omega (arith, halves-room n (h / 4) i (le-of-suc-le-suc l), code-suc i h)
+
+pub codes-none : (h : ℕ) → codesOk 0 h ≡ true
+unfolding codesOk
+codes-none h = refl
+
+pub codes-three : (n h : ℕ) → 0 < n → h % 4 ≡ 3 → codesOk n h ≡ false
+unfolding codesOk
+codes-three zero h l e = absurd (not-suc-le-zero l)
+codes-three (suc n) h l e = rw (eq-eqb (h % 4) 3 e) refl
+
+pub codes-less : (n h : ℕ) → 0 < n → (h % 4 ≡ 3 → ⊥) → codesOk n h ≡ codesOk (n - 1) (h / 4)
+unfolding codesOk
+codes-less zero h l e = absurd (not-suc-le-zero l)
+codes-less (suc n) h l e = let m : n ≡ suc n - 1 = omega arith in rw (ne-eqb (h % 4) 3 e) (ap (λ (j : ℕ). codesOk j (h / 4)) m)
+
+-- where no code is 3, that of child i is not
+pub codes-at : (n h i : ℕ) → i < n → T (codesOk n h) → codeAt i h ≡ 3 → ⊥
+codes-at zero h i l t e = not-suc-le-zero l
+codes-at (suc n) h i l t e = go (eqb (h % 4) 3) refl i l e (codes-at n (h / 4))
+  where
+    go : (b : Bool) → eqb (h % 4) 3 ≡ b → (i : ℕ) → i < suc n → codeAt i h ≡ 3 → ((i : ℕ) → i < n → T (codesOk n (h / 4)) → codeAt i (h / 4) ≡ 3 → ⊥) → ⊥
+    go true q i l e ih = subst T (codes-three (suc n) h (omega arith) (eqb-true (h % 4) 3 q)) t
+    go false q zero l e ih = eqb-false (h % 4) 3 q (ap (λ (m : ℕ). m % 4) (sym (div-one h)) ∙ e)
+    go false q (suc i) l e ih =
+        let n1 : suc n - 1 ≡ n = omega arith in
+        ih i (le-of-suc-le-suc l)
+        (subst T (codes-less (suc n) h (omega arith) (eqb-false (h % 4) 3 q) ∙ ap (λ (m : ℕ). codesOk m (h / 4)) n1) t)
+        (sym (code-suc i h) ∙ e)
+
+-- ---- the pointer of child i
+
+link-read : (n h : ℕ) (l : List ℕ) (i : ℕ) → i < n
+    → getD (readLinks n h l) i noLink ≡ linkOf (codeAt i h) (num (2 * codeAt i h) (drop (2 * (halves i h - 1)) l))
+unfolding readLinks halves
+link-read zero h l i m = absurd (not-suc-le-zero m)
+link-read (suc n) h l zero m = rw div-one refl
+link-read (suc n) h l (suc i) m =
+    let e : 2 * (h % 4) + 2 * (halves i (h / 4) - 1) ≡ 2 * (h % 4 + halves i (h / 4) - 1) = omega (arith, halves-one i (h / 4)) in
+    let d : drop (2 * (halves i (h / 4) - 1)) (drop (2 * (h % 4)) l) ≡ drop (2 * (h % 4 + halves i (h / 4) - 1)) l =
+    drop-drop (2 * (halves i (h / 4) - 1)) (2 * (h % 4)) l ∙ ap (λ (a : ℕ). drop a l) e in
+    link-read n (h / 4) (drop (2 * (h % 4)) l) i (le-of-suc-le-suc m) ∙ rw (code-suc i h, d) refl
+
+pub link-at : (l : List ℕ) (p i : ℕ) → i < 8
+    → getD (linksAt l p) i noLink ≡ linkOf (codeAt i (headerAt l p)) (num (2 * codeAt i (headerAt l p)) (drop (2 * p + 2 * halves i (headerAt l p)) l))
+unfolding linksAt
+link-at l p i m =
+    let h : ℕ = headerAt l p in
+    let e : 2 * p + 2 + 2 * (halves i h - 1) ≡ 2 * p + 2 * halves i h = omega (arith, halves-one i h) in
+    link-read 8 h (drop (2 * p + 2) l) i m
+    ∙ ap (λ (bs : List ℕ). linkOf (codeAt i h) (num (2 * codeAt i h) bs)) (drop-drop (2 * (halves i h - 1)) (2 * p + 2) l ∙ ap (λ (a : ℕ). drop a l) e)
+
+-- ---- what a good record says
+
+pub record Good (l : List ℕ) (p : ℕ) : Type 0 where
+  pub codes : T (codesOk 8 (headerAt l p))
+  pub room : 2 * (p + halves 8 (headerAt l p)) ≤ length l
+
+pub record-good : (l : List ℕ) (p : ℕ) → T (recordOk l p) → Good l p
+unfolding recordOk
+record-good l p t =
+    let h : ℕ = headerAt l p in
+    let a : Bool = ltb 0 h in
+    let b : Bool = codesOk 8 h in
+    let d : Bool = leb (2 * (p + halves 8 h)) (length l) in
+    record { codes = and-right a b (and-left (a && b) d t); room = leb→le (2 * (p + halves 8 h)) (length l) (and-right (a && b) d t) }
+
+-- ---- the ways through a record's tests
+
+module _ (l : List ℕ) (p : ℕ) where
+  pub record-outside : length l < 2 * p + 2 → true ≡ not (recordOk l p)
+  unfolding recordOk
+  record-outside m =
+      rw (lt-leb (2 * (p + halves 8 (headerAt l p))) (length l) (omega (arith, halves-one 8 (headerAt l p))), and-false (ltb 0 (headerAt l p) && codesOk 8 (headerAt l p))) refl
+
+  pub record-zero : headerAt l p ≡ 0 → true ≡ not (recordOk l p)
+  unfolding recordOk
+  record-zero e = rw e refl
+
+  pub record-code : codesOk 8 (headerAt l p) ≡ false → true ≡ not (recordOk l p)
+  unfolding recordOk
+  record-code e = rw (e, and-false (ltb 0 (headerAt l p))) refl
+
+  pub record-room : (headerAt l p ≡ 0 → ⊥) → codesOk 8 (headerAt l p) ≡ true → ltb (length l) (2 * p + 2 * halves 8 (headerAt l p)) ≡ not (recordOk l p)
+  unfolding recordOk
+  record-room n e =
+      let s : 2 * p + 2 * halves 8 (headerAt l p) ≡ 2 * (p + halves 8 (headerAt l p)) = omega arith in
+      rw (lt-ltb 0 (headerAt l p) (omega (arith, n)), e, s) (ltb-not (length l) (2 * (p + halves 8 (headerAt l p))))
+
+-- ---- a pointer by its code: the ways through `pointer_at`
+
+module _ (l : List ℕ) (p i : ℕ) (m : i < 8) where
+  -- the pointer's first byte
+  abbrev from : ℕ
+  from = 2 * p + 2 * halves i (headerAt l p)
+
+  pub pointer-none : codeAt i (headerAt l p) ≡ 0 → noLink ≡ getD (linksAt l p) i noLink
+  unfolding be
+  pointer-none e = sym (link-at l p i m ∙ rw e refl)
+
+  pub pointer-short : (v : ℕ) → codeAt i (headerAt l p) ≡ 1 → v ≡ num 2 (drop from l)
+      → record { code = 1; tag = v / 8192; place = v % 8192 } ≡ getD (linksAt l p) i noLink
+  pointer-short v e f = sym (link-at l p i m ∙ rw (e, sym f) refl)
+
+  pub pointer-long : (v : ℕ) → codeAt i (headerAt l p) ≡ 2 → v ≡ num 4 (drop from l)
+      → record { code = 2; tag = v / 536870912; place = v % 536870912 } ≡ getD (linksAt l p) i noLink
+  pointer-long v e f = sym (link-at l p i m ∙ rw (e, sym f) refl)
+
+-- ---- the pointer taken
+
+module _ (size : ℕ) (q : Link) where
+  pub taken-outside : size ≤ q .place → true ≡ not (takenOk size q)
+  taken-outside h = rw (le-ltb (q .place) size h) refl
+
+  pub taken-near : q .place < size → q .place ≤ farthestShort → not (eqb (q .code) 1) ≡ not (takenOk size q)
+  taken-near h l = rw (lt-ltb (q .place) size h, le-leb (q .place) farthestShort l) refl
+
+  pub taken-far : q .place < size → farthestShort < q .place → not (eqb (q .code) 2) ≡ not (takenOk size q)
+  taken-far h l = rw (lt-ltb (q .place) size h, lt-leb (q .place) farthestShort l) refl
+
+-- ---- a leaf
+
+pub leaf-none : (l : List ℕ) (p : ℕ) → length l ≤ 8 * p → 0 ≡ leafNo (leafAt l p)
+unfolding leafAt be
+leaf-none l p h = rw (drop-of-length-le l {i = 8 * p} h, drop-of-length-le l {i = 8 * p + 4} (omega arith)) refl
+
+pub leaf-words : (l : List ℕ) (p a b : ℕ) → a ≡ num 4 (drop (8 * p) l) → b ≡ num 4 (drop (8 * p + 4) l) → a * 4294967296 + b ≡ leafNo (leafAt l p)
+unfolding leafAt
+leaf-words l p a b e f = ap₂ (λ (m n : ℕ). m * 4294967296 + n) e f

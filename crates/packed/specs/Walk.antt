@@ -1,0 +1,79 @@
+-- The packed walk as code does it: over the inner part and the leaf part, by numbers. It reads no coordinate anew: a voxel is seen under the
+-- mirror in force, and each link's tag joins that mirror. Definitions only.
+use mathlib.Core.Path.{_≡_}
+use mathlib.Core.Bool.{Bool, true, false, cond}
+use mathlib.Core.List.{List}
+use Prim.Native.Nat.{ℕ, zero, suc, _+_, _-_, _*_, _/_, _%_, _^_, _≤_, _<_}
+use lib.Dec.{eqb}
+use lib.ListN.{length, take, drop, getD}
+use Rattle.paper.specs.Rooms.{Point, mirror, childNo, inChild}
+use Rattle.paper.specs.Leaf.{leafVoxel}
+use Rattle.paper.specs.Outline.{edge}
+use Rattle.paper.specs.Store.{leafNo}
+use Rattle.paper.specs.Packed.{Link, noLink, linksAt, leafAt, recordOk, leafOk, Way, broken, ended}
+use Rattle.packed.specs.declared.Reached.{Reached}
+use Rattle.packed.specs.declared.Reached.the-variants.{Broken, Solid, Empty}
+use Rattle.packed.specs.Records.{takenOk}
+
+-- a way as the walk answers it: broken, or solid or empty with the number of records read
+abbrev pub ends : Bool → ℕ → Reached
+ends true n = Solid n
+ends false n = Empty n
+
+abbrev pub reached : Way → Reached
+reached broken = Broken
+reached (ended b path) = ends b (length path)
+
+-- n records more
+abbrev pub plus : ℕ → Reached → Reached
+plus n Broken = Broken
+plus n (Solid m) = Solid (n + m)
+plus n (Empty m) = Empty (n + m)
+
+-- broken unless the test passes
+abbrev pub if-ok : Bool → Reached → Reached
+if-ok true r = r
+if-ok false r = Broken
+
+-- the voxel v of a room, as a cell of height k + 2 sees it under the mirror in force
+unfoldable pub seenAt : ℕ → ℕ → Point → Point
+seenAt k m v = mirror m (edge k) (inChild (edge k) v)
+
+-- the child of height k + 2 that holds v, in a cell of which no coordinate is reduced
+abbrev pub octant : ℕ → Point → ℕ
+octant k v = v .x / edge k % 2 + 2 * (v .y / edge k % 2) + 4 * (v .z / edge k % 2)
+
+-- at leaf p, w the voxel as the leaf sees it
+unfoldable pub leafEnd : List ℕ → ℕ → Point → Reached
+leafEnd l p w = if-ok (leafOk l p) (ends (leafVoxel (leafNo (leafAt l p)) w) 1)
+
+-- from the record at place p of list k, w the voxel as the record sees it; L the lists, N their sizes
+unfoldable pub wayAt : (ℕ → List ℕ) → (ℕ → ℕ) → ℕ → ℕ → Point → Reached
+wayAt L N zero p w = leafEnd (L 0) p w
+wayAt L N (suc k) p w =
+    let q : Link = getD (linksAt (L (suc k)) p) (childNo (edge k) w) noLink in
+    let on : Reached = plus 1 (wayAt L N k (q .place) (mirror (q .tag) (edge k) (inChild (edge k) w))) in
+    let to : Reached = if-ok (takenOk (N k) q) on in
+    if-ok (recordOk (L (suc k)) p) (cond (eqb (q .code) 0) (Empty 1) to)
+
+-- ---- the lists cut from the two parts; `starts` counts from the file's first byte, and `base` is where the inner part starts
+
+abbrev pub startOf : List ℕ → ℕ → ℕ
+startOf starts k = getD starts k 0
+
+abbrev pub listIn : ℕ → List ℕ → List ℕ → List ℕ → ℕ → List ℕ
+listIn base starts inner leaves zero = leaves
+listIn base starts inner leaves (suc k) =
+    take (startOf starts k - base - (startOf starts (suc k) - base)) (drop (startOf starts (suc k) - base) inner)
+
+abbrev pub sizeIn : List ℕ → List ℕ → ℕ → ℕ
+sizeIn starts leaves zero = length leaves / 8
+sizeIn starts leaves (suc k) = (startOf starts k - startOf starts (suc k)) / 2
+
+-- the parts hold the lists up to list n
+pub record Cut (base n : ℕ) (starts inner leaves : List ℕ) : Type 0 where
+  pub falling : (k : ℕ) → k < n → startOf starts (suc k) ≤ startOf starts k
+  pub above : (k : ℕ) → k ≤ n → base ≤ startOf starts k
+  pub whole : startOf starts 0 ≤ base + length inner
+  pub eights : length leaves % 8 ≡ 0
+  pub few : length leaves < 2 ^ 32

@@ -1,0 +1,489 @@
+// Packed bytes read: the header and its sizes, one record, and the walk of a packed voxel question, over the inner part and
+// the leaf part as two slices.
+ghost use mathlib.Core.Path.{_≡_};
+ghost use mathlib.Core.Bool.{false, not};
+ghost use mathlib.Core.List.{[]};
+ghost use Prim.Native.Nat.{suc, _+_, _-_, _*_, _%_, _^_, _≤_, _<_};
+ghost use lib.Dec.{T, eqb};
+ghost use lib.ListN.{length, drop, getD};
+ghost use Rattle.paper.specs.Numbers.{num};
+ghost use Rattle.paper.specs.Rooms.{point, depthOk, inside, flip};
+ghost use Rattle.paper.specs.Leaf.{leafVoxel};
+ghost use Rattle.paper.specs.Outline.{frontOk, lengthOk, fileDepth};
+ghost use Rattle.paper.specs.Store.{leafNo};
+ghost use Rattle.paper.specs.Packed.{packedFront, packedHead, topOf, sizeAt, headOk, startsOf, halves, codesOk, recordOk, linksAt, noLink, leafAt, wayIn};
+ghost use Rattle.paper.specs.Answers.{outcome, found};
+ghost use Rattle.paper.specs.Calls.{packedOutside, packedVoxelOutcome};
+ghost use Rattle.packed.specs.Header.{Tested, Sized, Opens, shareAt, lastLists};
+ghost use Rattle.packed.specs.Records.{codeAt, linkIs, takenOk};
+ghost use Rattle.packed.specs.Walk.{reached, plus, leafEnd, seenAt, octant, wayAt, startOf, listIn, sizeIn, Cut};
+use paper::Found;
+use paper::Refusal;
+
+// The front byte of a packed file, its bytes before the sizes, and byte 6 of an empty scene.
+const FRONT: u8 = 0x21;
+
+const HEAD: usize = 7;
+
+const EMPTY_MARK: u8 = 8;
+
+// A depth is 2 to 16.
+const LEAST_DEPTH: u32 = 2;
+
+const DEEPEST: u32 = 16;
+
+// The farthest place of a 2-byte pointer.
+const FARTHEST_SHORT: u32 = 8191;
+
+// A child's pointer: its code (0 none, 1 of 2 bytes, 2 of 4), its mirror, and the child's place.
+pub struct Pointer {
+    pub code: u32,
+    pub tag: u32,
+    pub place: u32,
+}
+
+// How a walk ends: broken, or solid or empty with the number of records read.
+pub enum Reached {
+    Broken,
+    Solid(u32),
+    Empty(u32),
+}
+
+// ---- numbers, high byte first
+
+fn wide(x: u8) -> u32
+    ensures { λ r. ⌜ (r ≡ x) × (r < 256) ⌝ }
+{
+    x as u32
+}
+
+fn wider(x: u32) -> u64
+    ensures { λ r. ⌜ (r ≡ x) × (r < 2 ^ 32) ⌝ }
+{
+    x as u64
+}
+
+// The number of the two bytes at a place.
+fn two(s: &[u8], at: usize) -> u32
+    requires { ⌜ at + 2 ≤ length (now s) ⌝ }
+    ensures { λ r. ⌜ (r ≡ num 2 (drop at (now (s .entry)))) × (r < 65536) ⌝ }
+{
+    let a = wide(s[at]);
+    let b = wide(s[at + 1]);
+    a * 256 + b
+}
+
+// The number of the four bytes at a place.
+fn four(s: &[u8], at: usize) -> u32
+    requires { ⌜ at + 4 ≤ length (now s) ⌝ }
+    ensures { λ r. ⌜ r ≡ num 4 (drop at (now (s .entry))) ⌝ }
+{
+    two(s, at) * 65536 + two(s, at + 2)
+}
+
+// ---- the header
+
+// Refusal 3: the file is empty or has another front byte.
+fn front_bad(file: &[u8]) -> bool
+    ensures { λ r. ⌜ r ≡ not (frontOk packedFront (now (file .entry))) ⌝ }
+{
+    if file.len() == 0 {
+        return true;
+    }
+    file[0] != FRONT
+}
+
+// Refusal 4: under 7 bytes, or the length field is not the slice's length.
+fn length_bad(file: &[u8]) -> bool
+    ensures { λ r. ⌜ r ≡ not (lengthOk packedHead (now (file .entry))) ⌝ }
+{
+    if file.len() < HEAD {
+        return true;
+    }
+    four(file, 1) as usize != file.len()
+}
+
+// Refusal 5: the depth is not 2 to 16.
+fn depth_bad(file: &[u8]) -> bool
+    requires { ⌜ packedHead ≤ length (now file) ⌝ }
+    ensures { λ r. ⌜ r ≡ not (depthOk (fileDepth (now (file .entry)))) ⌝ }
+{
+    let depth = wide(file[5]);
+    if depth < LEAST_DEPTH {
+        return true;
+    }
+    DEEPEST < depth
+}
+
+// Refusal 10: the point is outside.
+fn outside(file: &[u8], x: u32, y: u32, z: u32) -> bool
+    requires { ⌜ Tested (now file) ⌝ }
+    ensures { λ r. ⌜ r ≡ packedOutside (now (file .entry)) (point x y z) ⌝ }
+{
+    let edge = 1u32 << wide(file[5]);
+    if edge <= x {
+        return true;
+    }
+    if edge <= y {
+        return true;
+    }
+    edge <= z
+}
+
+// The size of list k: half-words, or leaves for list 0.
+fn size(file: &[u8], k: u32) -> u32
+    requires { ⌜ Sized (now file) ⌝ }
+    requires { ⌜ k ≤ topOf (now file) ⌝ }
+    ensures { λ r. ⌜ r ≡ sizeAt (now (file .entry)) k ⌝ }
+{
+    let top = wide(file[5]) - 2;
+    four(file, (7 + 4 * (top - k)) as usize)
+}
+
+// The bytes of list k.
+fn share(file: &[u8], k: u32) -> u64
+    requires { ⌜ Sized (now file) ⌝ }
+    requires { ⌜ k ≤ topOf (now file) ⌝ }
+    ensures { λ r. ⌜ (r ≡ shareAt (now (file .entry)) k) × (r < 2 ^ 35) ⌝ }
+{
+    let n = wider(size(file, k));
+    if k == 0 { 8 * n } else { 2 * n }
+}
+
+// The bytes of the n lists that end the file: whole numbers that don't wrap.
+fn last_lists(file: &[u8], n: u32) -> u64
+    requires { ⌜ Sized (now file) ⌝ }
+    requires { ⌜ n ≤ suc (topOf (now file)) ⌝ }
+    ensures { λ r. ⌜ (r ≡ lastLists (now (file .entry)) n) × (r ≤ n * 2 ^ 35) ⌝ }
+{
+    let mut sum = 0u64;
+    let mut k = 0u32;
+    while k < n {
+        sum += share(file, k);
+        k += 1;
+    }
+    sum
+}
+
+// Whether byte 6 is out of range or, unless the scene is empty, the sizes don't add up to the length.
+pub fn head_bad(file: &[u8]) -> bool
+    requires { ⌜ Tested (now file) ⌝ }
+    ensures { λ r. ⌜ r ≡ not (headOk (now (file .entry))) ⌝ }
+{
+    let mark = file[6];
+    if mark == EMPTY_MARK {
+        return file.len() != HEAD;
+    }
+    if EMPTY_MARK < mark {
+        return true;
+    }
+    let lists = wide(file[5]) - 1;
+    let front = 7 + 4 * (lists as usize);
+    if file.len() < front {
+        return true;
+    }
+    front as u64 + last_lists(file, lists) != file.len() as u64
+}
+
+// Where each list starts in the file, leaves first; 0 above the depth and for an empty scene.
+pub fn starts(file: &[u8]) -> [u32; 15]
+    requires { ⌜ Opens (now file) ⌝ }
+    ensures { λ r. ⌜ r ≡ startsOf (now (file .entry)) ⌝ }
+{
+    let mut out = [0u32; 15];
+    if file[6] == EMPTY_MARK {
+        return out;
+    }
+    let lists = wide(file[5]) - 1;
+    let mut end = file.len() as u64;
+    let mut k = 0u32;
+    while k < lists {
+        end -= share(file, k);
+        out[k as usize] = end as u32;
+        k += 1;
+    }
+    out
+}
+
+// ---- one record
+
+// The half-words of a record up to the pointer of child n: its header and the pointers before.
+fn halves(n: u32, header: u32) -> u32
+    requires { ⌜ n ≤ 8 ⌝ }
+    ensures { λ r. ⌜ (r ≡ halves n header) × (r ≤ 1 + 3 * n) ⌝ }
+{
+    let mut sum = 1u32;
+    let mut rest = header;
+    let mut left = n;
+    while 0 < left {
+        sum += rest % 4;
+        rest = rest / 4;
+        left -= 1;
+    }
+    sum
+}
+
+// Whether one of the eight codes is 3.
+fn codes_bad(header: u32) -> bool
+    ensures { λ r. ⌜ r ≡ not (codesOk 8 header) ⌝ }
+{
+    let mut rest = header;
+    let mut left = 8u32;
+    while 0 < left {
+        if rest % 4 == 3 {
+            return true;
+        }
+        rest = rest / 4;
+        left -= 1;
+    }
+    false
+}
+
+// Whether the record at a place breaks a rule: header zero, a code 3, or no room in its list.
+pub fn record_bad(list: &[u8], place: u32) -> bool
+    ensures { λ r. ⌜ r ≡ not (recordOk (now (list .entry)) place) ⌝ }
+{
+    let at = 2 * (place as usize);
+    if list.len() < at + 2 {
+        return true;
+    }
+    let header = two(list, at);
+    if header == 0 {
+        return true;
+    }
+    if codes_bad(header) {
+        return true;
+    }
+    list.len() < at + 2 * (halves(8, header) as usize)
+}
+
+// The pointer of child i of the record at a place.
+pub fn pointer_at(list: &[u8], place: u32, i: u32) -> Pointer
+    requires { ⌜ T (recordOk (now list) place) ⌝ }
+    requires { ⌜ i < 8 ⌝ }
+    ensures { λ r. ⌜ (linkIs r ≡ getD (linksAt (now (list .entry)) place) i noLink) × (r .tag < 8) ⌝ }
+{
+    let at = 2 * (place as usize);
+    let header = two(list, at);
+    let code = (header >> (2 * i)) % 4;
+    let from = at + 2 * (halves(i, header) as usize);
+    if code == 0 {
+        return Pointer {
+            code: 0,
+            tag: 0,
+            place: 0,
+        };
+    }
+    if code == 1 {
+        let short = two(list, from);
+        return Pointer {
+            code: 1,
+            tag: short / 8192,
+            place: short % 8192,
+        };
+    }
+    let long = four(list, from);
+    Pointer {
+        code: 2,
+        tag: long / 536870912,
+        place: long % 536870912,
+    }
+}
+
+// Whether a pointer leads outside a list of this size, or has the other width.
+fn taken_bad(size: u32, taken: Pointer) -> bool
+    ensures { λ r. ⌜ r ≡ not (takenOk size (linkIs taken)) ⌝ }
+{
+    if size <= taken.place {
+        return true;
+    }
+    if taken.place <= FARTHEST_SHORT {
+        return taken.code != 1;
+    }
+    taken.code != 2
+}
+
+// Leaf `place` of the leaf part, 0 where there is none.
+pub fn leaf(leaves: &[u8], place: u32) -> u64
+    requires { ⌜ length (now leaves) % 8 ≡ 0 ⌝ }
+    ensures { λ r. ⌜ r ≡ leafNo (leafAt (now (leaves .entry)) place) ⌝ }
+{
+    let at = 8 * (place as usize);
+    if leaves.len() <= at {
+        return 0;
+    }
+    wider(four(leaves, at)) * 4294967296 + wider(four(leaves, at + 4))
+}
+
+// ---- the walk
+
+// Which child of edge 2^h holds a point.
+fn octant(h: u32, x: u32, y: u32, z: u32) -> u32
+    requires { ⌜ (2 ≤ h) × (h < 32) ⌝ }
+    ensures { λ r. ⌜ (r ≡ octant (h - 2) (point x y z)) × (r < 8) ⌝ }
+{
+    (x >> h) % 2 + 2 * ((y >> h) % 2) + 4 * ((z >> h) % 2)
+}
+
+// A coordinate of a leaf, mirrored where the mark is 1.
+fn turned(mark: u32, c: u32) -> u32
+    requires { ⌜ c < 4 ⌝ }
+    ensures { λ r. ⌜ (r ≡ flip (eqb mark 1) 4 c) × (r < 4) ⌝ }
+{
+    if mark == 1 { 3 - c } else { c }
+}
+
+// Whether a point is solid in a leaf that is seen under a mirror.
+fn solid(leaf: u64, mirror: u32, x: u32, y: u32, z: u32) -> bool
+    ensures { λ r. ⌜ r ≡ leafVoxel leaf (seenAt 0 mirror (point x y z)) ⌝ }
+{
+    let a = turned(mirror % 2, x % 4);
+    let b = turned(mirror / 2 % 2, y % 4);
+    let c = turned(mirror / 4 % 2, z % 4);
+    (leaf >> (a + 4 * b + 16 * c)) % 2 == 1
+}
+
+// How the walk ends in a leaf, after `read` records.
+fn in_leaf(leaves: &[u8], place: u32, mirror: u32, x: u32, y: u32, z: u32, read: u32) -> Reached
+    requires { ⌜ length (now leaves) % 8 ≡ 0 ⌝ }
+    requires { ⌜ read < 16 ⌝ }
+    ensures { λ r. ⌜ r ≡ plus read (leafEnd (now (leaves .entry)) place (seenAt 0 mirror (point x y z))) ⌝ }
+{
+    let bits = leaf(leaves, place);
+    if bits == 0 {
+        return Reached::Broken;
+    }
+    if solid(bits, mirror, x, y, z) {
+        return Reached::Solid(read + 1);
+    }
+    Reached::Empty(read + 1)
+}
+
+// The size of list k, by the list starts and the leaf part.
+fn size_in(starts: [u32; 15], leaves: &[u8], k: u32) -> u32
+    requires { ⌜ k < 15 ⌝ }
+    requires { ⌜ length (now leaves) < 2 ^ 32 ⌝ }
+    requires { ⌜ startOf starts k ≤ startOf starts (k - 1) ⌝ }
+    ensures { λ r. ⌜ r ≡ sizeIn starts (now (leaves .entry)) k ⌝ }
+{
+    if k == 0 {
+        return (leaves.len() / 8) as u32;
+    }
+    (starts[(k - 1) as usize] - starts[k as usize]) / 2
+}
+
+// The walk on from the record at a place of list k, under the mirror in force, after `read` records.
+fn down(
+    inner: &[u8],
+    leaves: &[u8],
+    starts: [u32; 15],
+    base: u32,
+    k: u32,
+    place: u32,
+    mirror: u32,
+    x: u32,
+    y: u32,
+    z: u32,
+    read: u32,
+) -> Reached
+    requires { ⌜ Cut base k starts (now inner) (now leaves) ⌝ }
+    requires { ⌜ (k < 15) × (mirror < 8) × (read + k < 16) ⌝ }
+    ensures { λ r. ⌜ r ≡ plus read (wayAt (listIn base starts (now (inner .entry)) (now (leaves .entry))) (sizeIn starts (now (leaves .entry))) k place (seenAt k mirror (point x y z))) ⌝ }
+{
+    if k == 0 {
+        return in_leaf(leaves, place, mirror, x, y, z, read);
+    }
+    let a = (starts[k as usize] - base) as usize;
+    let b = (starts[(k - 1) as usize] - base) as usize;
+    let list = &inner[a..b];
+    if record_bad(list, place) {
+        return Reached::Broken;
+    }
+    let taken = pointer_at(list, place, octant(k + 1, x, y, z) ^ mirror);
+    if taken.code == 0 {
+        return Reached::Empty(read + 1);
+    }
+    if taken_bad(size_in(starts, leaves, k - 1), taken) {
+        return Reached::Broken;
+    }
+    down(
+        inner,
+        leaves,
+        starts,
+        base,
+        k - 1,
+        taken.place,
+        taken.tag ^ mirror,
+        x,
+        y,
+        z,
+        read + 1,
+    )
+}
+
+// The walk from the root: over the inner part and the leaf part of a file of this depth, with its root's mirror and its list
+// starts.
+pub fn walk(
+    depth: u32,
+    mirror: u32,
+    starts: [u32; 15],
+    inner: &[u8],
+    leaves: &[u8],
+    x: u32,
+    y: u32,
+    z: u32,
+) -> Reached
+    requires { ⌜ (2 ≤ depth) × (depth ≤ 16) × (mirror < 8) ⌝ }
+    requires { ⌜ Cut (startOf starts (depth - 2)) (depth - 2) starts (now inner) (now leaves) ⌝ }
+    ensures { λ r. ⌜ r ≡ wayAt (listIn (startOf starts (depth - 2)) starts (now (inner .entry)) (now (leaves .entry))) (sizeIn starts (now (leaves .entry))) (depth - 2) 0 (seenAt (depth - 2) mirror (point x y z)) ⌝ }
+{
+    let top = depth - 2;
+    let base = starts[top as usize];
+    down(inner, leaves, starts, base, top, 0, mirror, x, y, z, 0)
+}
+
+// The walk to a point inside, over the two parts cut from the file; an empty scene reads nothing.
+pub fn way_in(file: &[u8], x: u32, y: u32, z: u32) -> Reached
+    requires { ⌜ Opens (now file) ⌝ }
+    requires { ⌜ packedOutside (now file) (point x y z) ≡ false ⌝ }
+    ensures { λ r. ⌜ r ≡ reached (wayIn (now (file .entry)) (point x y z)) ⌝ }
+{
+    if file[6] == EMPTY_MARK {
+        return Reached::Empty(0);
+    }
+    let depth = wide(file[5]);
+    let mirror = wide(file[6]);
+    let begins = starts(file);
+    let a = begins[(depth - 2) as usize] as usize;
+    let b = begins[0] as usize;
+    let inner = &file[a..b];
+    let leaves = &file[b..];
+    walk(depth, mirror, begins, inner, leaves, x, y, z)
+}
+
+// Packed voxel: whether a point is solid, with the number of records read; refused by 3, 4, 5, 10, 6.
+pub fn packed_voxel(file: &[u8], x: u32, y: u32, z: u32) -> Found
+    ensures { λ r. ⌜ outcome (found r) [] ≡ packedVoxelOutcome (now (file .entry)) (point x y z) ⌝ }
+{
+    if front_bad(file) {
+        return Found::Refused(Refusal::BadVersion);
+    }
+    if length_bad(file) {
+        return Found::Refused(Refusal::BadLength);
+    }
+    if depth_bad(file) {
+        return Found::Refused(Refusal::BadDepth);
+    }
+    if outside(file, x, y, z) {
+        return Found::Refused(Refusal::Outside);
+    }
+    if head_bad(file) {
+        return Found::Refused(Refusal::BrokenRules);
+    }
+    let way = way_in(file, x, y, z);
+    match way {
+        Reached::Broken => Found::Refused(Refusal::BrokenRules),
+        Reached::Solid(n) => Found::Solid(n),
+        Reached::Empty(n) => Found::Empty(n),
+    }
+}
