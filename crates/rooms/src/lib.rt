@@ -2,14 +2,15 @@
 // as `paper` defines it. No call has a `requires`.
 ghost use mathlib.Core.Path.{_≡_};
 ghost use mathlib.Core.List.{[], _∷_};
-ghost use Rattle.paper.specs.Answers.{outcome, started, seen, counted, kept as kept-told, written, found, chosen};
-ghost use Rattle.paper.specs.Calls.{newOutcome, voxelOutcome, boxOutcome, keptOutcome, outlineOutcome, packedVoxelOutcome};
+ghost use Rattle.paper.specs.Answers.{outcome, started, seen, occupied, counted, kept as kept-told, written, found, chosen};
+ghost use Rattle.paper.specs.Calls.{newOutcome, voxelOutcome, cellOutcome, boxOutcome, keptOutcome, outlineOutcome, packedVoxelOutcome};
 ghost use Rattle.paper.specs.Detail.{detailOutcome};
 ghost use Rattle.paper.specs.Rooms.{point};
 use paper::Chosen;
 use paper::Counted;
 use paper::Found;
 use paper::Kept;
+use paper::Occupied;
 use paper::Seen;
 use paper::Started;
 use paper::Wish;
@@ -28,6 +29,13 @@ pub fn voxel(store: &[u32], scene: u32, x: u32, y: u32, z: u32) -> Seen
     ensures { λ r. ⌜ outcome (seen r) [] ≡ voxelOutcome (now (store .entry)) scene (point x y z) ⌝ }
 {
     walk::voxel(store, scene, x, y, z)
+}
+
+// Cell: non-empty or empty, x, y and z counted in cells of its height.
+pub fn cell(store: &[u32], scene: u32, height: u32, x: u32, y: u32, z: u32) -> Occupied
+    ensures { λ r. ⌜ outcome (occupied r) [] ≡ cellOutcome (now (store .entry)) scene height (point x y z) ⌝ }
+{
+    walk::cell(store, scene, height, x, y, z)
 }
 
 // Box: how many solid voxels v have low <= v < high on each axis.

@@ -19,7 +19,7 @@ use Rattle.paper.specs.Questions.{below, wayDamaged, fromRoot, corner, pointerT
 use Rattle.laws.proofs.Eight.{eight2}
 use Rattle.laws.proofs.Bits.{bitFor-is}
 use Rattle.laws.proofs.OutlineCells.{nonEmpty-same, no-voxel-empty}
-use Rattle.walk.specs.Walk.{octant, seenAt, takenFrom, reachOf, voxelEnd, cellEnd, leafSeen}
+use Rattle.walk.specs.Walk.{octant, seenAt, takenFrom, reachOf, voxelEnd, cellEnd, leafSeen, smallAt}
 use Rattle.walk.specs.declared.ways.Reach.{Reach}
 use Rattle.walk.specs.declared.ways.Reach.the-variants.{Absent, At, Damaged}
 use Rattle.walk.proofs.Ends.{tag-lt, orDamage, isDamaged, pointer-end}
@@ -94,11 +94,9 @@ reach-fours K stop (suc k) n m v w s =
 abbrev pub within : ℕ → Point → Point → Point
 within h c u = point (c .x * 2 ^ h + u .x) (c .y * 2 ^ h + u .y) (c .z * 2 ^ h + u .z)
 
--- 2 for damage, 1 for non-empty, 0 for empty
+-- the end of such a question
 abbrev pub smallEnd : List (List Cell) → ℕ → Point → Reach → ℕ
-smallEnd K h c (Absent k) = 0
-smallEnd K h c (At n m) = bitFor (nonEmpty (2 ^ h) (λ u. leafSeen K n m (within h c u)))
-smallEnd K h c Damaged = 2
+smallEnd K h c r = smallAt K h (corner h c) r
 
 same-four : (a h u : ℕ) → h < 2 → u < 2 ^ h → (a * 2 ^ h + u) / 4 ≡ a * 2 ^ h / 4
 same-four a zero u l q = ap (λ (n : ℕ). n / 4) (omega arith)

@@ -114,7 +114,7 @@ same-cell false true c r x k n m p s d e z = refl
 same-cell false false true r x k n m p s d e z = ap (λ (y : ℕ). bitFor (not (eqb y 0))) (sym (drop-test p s d ∙ z tt))
 same-cell false false false r x k n m p s d e z = e tt tt ∙ ap (λ (y : ℕ). orDamage r (bitFor (not (eqb y 0)))) (sym (drop-test p s d))
 
-none-stays : (K : List (List Cell)) (stop k : ℕ) (v : Point) → pointerTo K stop k 0 v ≡ 0
+pub none-stays : (K : List (List Cell)) (stop k : ℕ) (v : Point) → pointerTo K stop k 0 v ≡ 0
 unfolding pointerTo
 none-stays K stop zero v = refl
 none-stays K stop (suc k) v = go (leb (suc k) stop)

@@ -14,3 +14,4 @@ pub mod Wholes
 pub mod LeafBoxes
 pub mod BoxWays
 pub mod BoxTests
+pub mod CellTests

@@ -1,13 +1,13 @@
 -- A walk as code does it: coordinates are never reduced, and numbers are mirrored instead of cells. The eight pointers are looked at as stored;
 -- the number of the child is mirrored by the mirror in force, and its tag joins that mirror. Definitions only.
-use mathlib.Core.Bool.{Bool, true, false, cond}
+use mathlib.Core.Bool.{Bool, true, false, cond, not, _||_}
 use mathlib.Core.List.{List, [], _∷_}
-use Prim.Native.Nat.{ℕ, zero, suc, _+_, _*_, _/_, _%_, _^_, _<_}
+use Prim.Native.Nat.{ℕ, zero, suc, _+_, _-_, _*_, _/_, _%_, _^_, _<_}
 use lib.Bits.{bitXor}
 use lib.Dec.{eqb, leb}
 use lib.ListN.{length, getD}
-use Rattle.paper.specs.Rooms.{Point, inside, mirror, inChild}
-use Rattle.paper.specs.Questions.{voxelWay, voxelSolid}
+use Rattle.paper.specs.Rooms.{Point, point, inside, mirror, inChild, nonEmpty}
+use Rattle.paper.specs.Questions.{voxelWay, voxelSolid, cellWay, cellFull}
 use Rattle.paper.specs.Outline.{edge}
 use Rattle.paper.specs.Store.{Cell, cellsAt, cellAt, tagOf, cellNo, leafNo, anyBad}
 use Rattle.paper.specs.Leaf.{leafVoxel}
@@ -69,3 +69,17 @@ AtKept K Damaged = Unit {0}
 abbrev pub voxelTold : List (List Cell) → ℕ → ℕ → Point → Told
 voxelTold K D p v =
     cond (inside (2 ^ D) v) (cond (voxelWay K D p v) (told 2 (0 ∷ [])) (told 0 (bitFor (voxelSolid K D p v) ∷ []))) (told 10 (0 ∷ []))
+
+-- a cell of height 0 or 1 with low corner w, where the walk to its leaf ended: 2 for damage, 1 for non-empty, 0 for empty
+abbrev pub smallAt : List (List Cell) → ℕ → Point → Reach → ℕ
+smallAt K h w (Absent k) = 0
+smallAt K h w (At n m) = bitFor (nonEmpty (2 ^ h) (λ u. leafSeen K n m (point (w .x + u .x) (w .y + u .y) (w .z + u .z))))
+smallAt K h w Damaged = 2
+
+-- a cell question on a cell inside: refused by 2, or 1 for non-empty and 0 for empty
+abbrev pub cellAsked : List (List Cell) → ℕ → ℕ → ℕ → Point → Told
+cellAsked K D p h c = cond (cellWay K D p h c) (told 2 (0 ∷ [])) (told 0 (bitFor (cellFull K D p h c) ∷ []))
+
+-- a cell question past the scene's tests: refused by 10 first
+abbrev pub cellTold : List (List Cell) → ℕ → ℕ → ℕ → Point → Told
+cellTold K D p h c = cond (not (leb h D) || not (inside (2 ^ (D - h)) c)) (told 10 (0 ∷ [])) (cellAsked K D p h c)

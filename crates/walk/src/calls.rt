@@ -22,10 +22,10 @@ use store::leaf_at;
 use store::tag;
 
 // List k has the cells of height k + 2.
-const LEAF_HEIGHT: u32 = 2;
+pub const LEAF_HEIGHT: u32 = 2;
 
 // Whether a point lies outside a cube of edge 2^height.
-fn outside(height: u32, x: u32, y: u32, z: u32) -> bool
+pub fn outside(height: u32, x: u32, y: u32, z: u32) -> bool
     requires { ⌜ height ≤ deepest ⌝ }
     ensures { λ r. ⌜ r ≡ not (inside (2 ^ height) (point x y z)) ⌝ }
 {

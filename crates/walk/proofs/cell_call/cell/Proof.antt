@@ -1,0 +1,53 @@
+-- `walk::cell_call::cell` meets its contract: a refused entry settles the question; a root is asked, and what is told is its outcome. Assumes nothing.
+use mathlib.Core.Path.{_≡_, sym, ap, _∙_}
+use mathlib.Core.List.{[]}
+use denote.Ref.{now}
+use Rattle.paper.specs.Answers.{Told, outcome}
+use Rattle.paper.specs.Rooms.{point}
+use Rattle.walk.specs.declared.scene.Entry.the-variants.{Root, Refused}
+use Rattle.walk.proofs.Entries.{Entered, entry-says, entered-depth, entered-root}
+use Rattle.walk.proofs.CellTests.{cell-settled, cell-refused}
+use borrow.Author.Needs.{needs}
+use Rattle.walk.proofs.cell_call.cell.Statement.{statement}
+use Rattle.walk.proofs.cell_call.cell.Tie as tie
+
+enter-requires : tie.Need-enter-requires
+enter-requires c κs = search needs
+
+enum-known-refusal : tie.Need-enum-known-refusal
+enum-known-refusal c = search needs
+
+enum-known-depth : tie.Need-enum-known-depth
+enum-known-depth c = search needs
+
+-- the scene that was entered
+entered : (c : tie.After-depth) → (let a = c .before .before .before .before .args in Entered (now (a .store)) (a .scene) (c .depth .given .0 .0) (c .depth .given .0 .1 .0))
+entered c =
+    let a = c .before .before .before .before .args in
+    entry-says (now (a .store)) (a .scene) (Root (c .depth .given .0 .0) (c .depth .given .0 .1 .0)) (sym (c .depth .given .1) ∙ c .before .before .enter .ensures)
+
+cell-from-requires : tie.Need-cell-from-requires
+cell-from-requires c κs = let e = entered (c .before) in (e .header, (entered-depth e, entered-root e))
+
+returns : tie.Need-returns
+returns c =
+    let a = c .before .before .before .before .before .args in
+    let r = c .before .refusal .given in
+    cell-refused (now (a .store)) (a .scene) (a .height) (point (a .x) (a .y) (a .z)) (r .0 .0) (entry-says (now (a .store)) (a .scene) (Refused (r .0 .0)) (sym (r .1) ∙ c .before .before .before .enter .ensures))
+
+returns-2 : tie.Need-returns-2
+returns-2 c =
+    let a = c .before .before .before .before .before .before .args in
+    let d = c .before .before .depth .given .0 in
+    ap (λ (t : Told). outcome t []) (c .cell-from .ensures) ∙ cell-settled (now (a .store)) (a .scene) (d .0) (d .1 .0) (a .height) (point (a .x) (a .y) (a .z)) (entered (c .before .before))
+
+pub cell-spec : {M : Type 1} → statement M
+cell-spec =
+    tie.close
+    (tie.spec
+    enter-requires
+    enum-known-refusal
+    enum-known-depth
+    cell-from-requires
+    returns
+    returns-2)
