@@ -1,5 +1,5 @@
 // The public calls of the room store. Each promise is one equation: the outcome read from the answer is document 01's,
-// as `paper` defines it. No call has a `requires`.
+// as `paper` defines it. No call asks anything of its caller.
 ghost use mathlib.Core.Path.{_≡_};
 ghost use mathlib.Core.List.{[], _∷_};
 ghost use Rattle.paper.specs.Answers.{outcome, started, seen, occupied, counted, kept as kept-told, written, found, chosen};
