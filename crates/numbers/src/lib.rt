@@ -1,8 +1,9 @@
-// 'All numbers are big-endian': the numbers that a file's bytes write.
+// 'All numbers are big-endian': the numbers that a file's bytes write, and numbers laid over an output.
 ghost use mathlib.Core.Path.{_≡_};
 ghost use Prim.Native.Nat.{_+_, _≤_, _<_};
 ghost use lib.ListN.{length, drop};
-ghost use Rattle.paper.specs.Numbers.{num};
+ghost use Rattle.paper.specs.Numbers.{num, bytes};
+ghost use Rattle.numbers.specs.Laid.{laid};
 
 // A byte as a wider number.
 pub fn wide(x: u8) -> u32
@@ -38,4 +39,18 @@ pub fn be64(bytes: &[u8], at: usize) -> u64
     let high = wider(be32(bytes, at));
     let low = wider(be32(bytes, at + 4));
     high * 4294967296 + low
+}
+
+// Writes the last n bytes of a number from `at` on.
+pub fn put_number(out: &mut [u8], at: usize, n: usize, number: u64)
+    requires { ⌜ at + n ≤ length (now out) ⌝ }
+    ensures { λ _. ⌜ now (out .exit) ≡ laid (bytes n number) at (now (out .entry)) ⌝ }
+{
+    let mut left = n;
+    let mut rest = number;
+    while left != 0 {
+        left -= 1;
+        out[at + left] = (rest % 256) as u8;
+        rest /= 256;
+    }
 }

@@ -1,5 +1,3 @@
-pub mod Laying
-pub mod Turning
 pub mod Pointers
 pub mod Steps
 pub mod Scenes

@@ -15,9 +15,9 @@ use Rattle.paper.specs.Store.{Cell, mostScenes, scenesHeld, keptCount, tagOf, c
 use Rattle.laws.proofs.Bytes.{bytes-length}
 use Rattle.laws.proofs.StoreFacts.{store-header, scene-sound, tag-lt, names-kept, depth-range}
 use Rattle.store.proofs.HeaderFacts.{header}
-use Rattle.outline_out.specs.Laid.{laid, reached, writing}
+use Rattle.numbers.specs.Laid.{laid, reached, writing}
 use Rattle.outline_out.specs.Record.{recordAt, measureAt, headOf, rootAt, fileAt}
-use Rattle.outline_out.proofs.Laying.{writing-one, writing-number, writing-then, reached-length}
+use Rattle.numbers.proofs.Laying.{writing-one, writing-number, writing-then, reached-length}
 use Rattle.outline_out.proofs.Pointers.{record-length}
 
 -- ---- a scene held

@@ -5,7 +5,7 @@ ghost use mathlib.Core.Bool.{false};
 ghost use Prim.Native.Nat.{_^_, _≤_, _<_};
 ghost use lib.Dec.{T};
 ghost use Rattle.paper.specs.Store.{heights, keptCount, keptOf, anyBad, storeOk};
-ghost use Rattle.outline_out.specs.Laid.{upTo};
+ghost use Rattle.outline_out.specs.Limit.{upTo};
 ghost use Rattle.outline_out.specs.Record.{measureAt, childrenMeasure};
 use crate::record::CHILDREN;
 use crate::record::LEAF_BYTES;

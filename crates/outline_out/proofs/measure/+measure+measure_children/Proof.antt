@@ -11,7 +11,7 @@ use borrow.Fn.Kinds.{In}
 use borrow.Fn.PlainCycle.{Measures, is, falls, and}
 use Rattle.paper.specs.Store.{Cell, keptCount, keptOf, cellAt, cellNo, anyBad}
 use Rattle.laws.proofs.StoreFacts.{store-header}
-use Rattle.outline_out.specs.Laid.{upTo}
+use Rattle.outline_out.specs.Limit.{upTo}
 use Rattle.outline_out.specs.Record.{childrenMeasure, measureAt}
 use Rattle.outline_out.proofs.Steps.{kept-sound, child-kept, measure-leaf, measure-cell, measure-none, measure-absent, measure-there}
 use Rattle.outline_out.proofs.measure.measure.Reads as measure

@@ -15,9 +15,9 @@ use Rattle.paper.specs.Leaf.{mirrorLeaf}
 use Rattle.paper.specs.Store.{Cell, keptCount, keptOf, cellAt, tagOf, leafNo, anyBad}
 use Rattle.laws.proofs.Bytes.{bytes-length}
 use Rattle.laws.proofs.StoreFacts.{store-header, tag-lt}
-use Rattle.outline_out.specs.Laid.{writing}
+use Rattle.numbers.specs.Laid.{writing}
 use Rattle.outline_out.specs.Record.{pointerAt, childrenAt, recordAt}
-use Rattle.outline_out.proofs.Laying.{writing-none, writing-one, writing-then, reached-at, reached-length}
+use Rattle.numbers.proofs.Laying.{writing-none, writing-one, writing-then, reached-at, reached-length}
 use Rattle.outline_out.proofs.Steps.{kept-sound, child-kept, record-leaf, record-cell, children-none, children-absent, children-there}
 use Rattle.outline_out.proofs.record.write_children.Reads as write-children
 use Rattle.outline_out.proofs.record.write_children.Kinds as children-kinds
@@ -25,7 +25,7 @@ use Rattle.outline_out.proofs.record.+write_children+write_record.Lts-w
 use Rattle.outline_out.proofs.record.write_record.Reads as write-record
 use Rattle.outline_out.proofs.record.write_record.Kinds as record-kinds
 use Rattle.outline_out.proofs.record.+write_children+write_record.Lts-write_record as record-lts
-use Rattle.outline_out.proofs.leaf.mirror_leaf.Reads as mirror-leaf-reads
+use Rattle.leaf.proofs.mirror_leaf.Reads as mirror-leaf-reads
 use Rattle.outline_out.proofs.record.mask.Reads as mask-reads
 use Rattle.outline_out.proofs.record.turned.Reads as turned-reads
 use Rattle.outline_out.proofs.record.write_leaf.Reads as write-leaf-reads

@@ -1,7 +1,7 @@
 -- `record::write_leaf` meets its contract: eight bytes are laid, and the position is eight on.
 -- By what `put_number` ensures. Assumes nothing.
 use borrow.Author.Needs.{needs}
-use Rattle.outline_out.proofs.Laying.{writing-number}
+use Rattle.numbers.proofs.Laying.{writing-number}
 use Rattle.outline_out.proofs.record.write_leaf.Statement.{statement}
 use Rattle.outline_out.proofs.record.write_leaf.Tie as tie
 

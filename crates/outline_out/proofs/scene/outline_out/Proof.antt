@@ -17,7 +17,7 @@ use Rattle.paper.specs.declared.Written.the-variants.{Length}
 use Rattle.laws.proofs.Tests.{true-T}
 use Rattle.laws.proofs.StoreFacts.{store-header}
 use Rattle.outline_out.specs.Record.{sceneFile}
-use Rattle.outline_out.proofs.Laying.{laid-first, reached-at, reached-list}
+use Rattle.numbers.proofs.Laying.{laid-first, reached-at, reached-list}
 use Rattle.outline_out.proofs.Pointers.{file-by-pointers}
 use Rattle.outline_out.proofs.Ways.{damaged, no-scene, too-short, in-order}
 use Rattle.outline_out.proofs.scene.outline_out.Statement.{statement}

@@ -4,7 +4,7 @@ use native.Mathlib.Omega.{arith}
 use lib.ListN.{set, length-set}
 use borrow.Author.Needs.{needs}
 use Rattle.outline_out.specs.Record.{headOf}
-use Rattle.outline_out.proofs.Laying.{reached-length}
+use Rattle.numbers.proofs.Laying.{reached-length}
 use Rattle.outline_out.proofs.Scenes.{head-length, head-written}
 use Rattle.outline_out.proofs.scene.write_head.Statement.{statement}
 use Rattle.outline_out.proofs.scene.write_head.Tie as tie

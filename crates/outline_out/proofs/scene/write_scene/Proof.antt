@@ -8,9 +8,9 @@ use lib.ListN.{length, length-append}
 use borrow.Author.Needs.{needs}
 use Rattle.paper.specs.Store.{Cell, keptCount, keptOf, sceneDepth, sceneRoot}
 use Rattle.laws.proofs.StoreFacts.{store-header, tag-lt}
-use Rattle.outline_out.specs.Laid.{reached, writing}
+use Rattle.numbers.specs.Laid.{reached, writing}
 use Rattle.outline_out.specs.Record.{headOf, recordAt, fileAt}
-use Rattle.outline_out.proofs.Laying.{writing-then, reached-at, reached-length}
+use Rattle.numbers.proofs.Laying.{writing-then, reached-at, reached-length}
 use Rattle.outline_out.proofs.Scenes.{Held, held, root-kept, head-length, none-file, there-file, file-least, root-record}
 use Rattle.outline_out.proofs.scene.write_scene.Statement.{statement}
 use Rattle.outline_out.proofs.scene.write_scene.Tie as tie

@@ -1,4 +1,4 @@
-// A leaf's mirror image.
+// A leaf as a number: its mirror image. The one function that mirrors a leaf; its contract is by voxels.
 ghost use mathlib.Core.Path.{_≡_};
 ghost use Rattle.paper.specs.Leaf.{mirrorLeaf};
 

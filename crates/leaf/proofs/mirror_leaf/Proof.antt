@@ -1,4 +1,4 @@
--- `leaf::mirror_leaf` meets its contract. The invariant: the bits from k on of the image are gathered.
+-- `mirror_leaf` meets its contract. The invariant: the bits from k on of the image are gathered.
 -- Each turn gathers one below them, the leaf's at k with the marked axes' bits changed. Assumes nothing.
 use mathlib.Core.Path.{_≡_, sym, ap, _∙_}
 use Prim.Native.Nat.{ℕ, _+_, _-_, _*_, _^_, _≤_, _<_}
@@ -8,9 +8,9 @@ use lib.Bits.{bitXor}
 use borrow.Author.Needs.{needs}
 use Rattle.paper.specs.Numbers.{bit, gather}
 use Rattle.laws.proofs.Bits.{bit-lt}
-use Rattle.outline_out.proofs.Turning.{turnOf, turn-lt, mirror-by-bits, gather-none, gather-down, gather-room}
-use Rattle.outline_out.proofs.leaf.mirror_leaf.Statement.{statement}
-use Rattle.outline_out.proofs.leaf.mirror_leaf.Tie as tie
+use Rattle.leaf.proofs.Turning.{turnOf, turn-lt, mirror-by-bits, gather-none, gather-down, gather-room}
+use Rattle.leaf.proofs.mirror_leaf.Statement.{statement}
+use Rattle.leaf.proofs.mirror_leaf.Tie as tie
 
 abbrev Inv-loop : tie.InvT-loop
 Inv-loop leaf mirror turn k₀ image₀ k image = (k ≤ 64) × (image ≡ gather k (64 - k) (λ j. bit leaf (bitXor j turn)))

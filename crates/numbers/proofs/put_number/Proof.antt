@@ -1,4 +1,4 @@
--- `bytes::put_number` meets its contract. The invariant: the bytes behind `left` are laid, and `rest` is the number without them.
+-- `put_number` meets its contract. The invariant: the bytes behind `left` are laid, and `rest` is the number without them.
 -- Each turn lays one more in front. Assumes nothing.
 use mathlib.Core.Path.{_≡_, sym, ap, ap₂, _∙_}
 use Prim.Native.Nat.{ℕ, _+_, _-_, _/_, _^_, _≤_}
@@ -7,11 +7,11 @@ use native.Mathlib.Omega.{arith}
 use lib.ListN.{length}
 use borrow.Author.Needs.{needs}
 use Rattle.paper.specs.Numbers.{bytes}
-use Rattle.outline_out.specs.Laid.{laid}
+use Rattle.numbers.specs.Laid.{laid}
 use Rattle.laws.proofs.Bytes.{bytes-length}
-use Rattle.outline_out.proofs.Laying.{length-laid, put-none, put-more, rest-more}
-use Rattle.outline_out.proofs.bytes.put_number.Statement.{statement}
-use Rattle.outline_out.proofs.bytes.put_number.Tie as tie
+use Rattle.numbers.proofs.Laying.{length-laid, put-none, put-more, rest-more}
+use Rattle.numbers.proofs.put_number.Statement.{statement}
+use Rattle.numbers.proofs.put_number.Tie as tie
 
 abbrev Inv-loop : tie.InvT-loop
 Inv-loop out₀ at n number left₀ rest₀ out left rest =

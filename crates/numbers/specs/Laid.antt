@@ -1,6 +1,6 @@
--- Bytes laid over others, and a length with a limit. Definitions only.
+-- Bytes laid over others. Definitions only.
 use mathlib.Core.List.{List, _++_}
-use Prim.Native.Nat.{ℕ, _+_, min}
+use Prim.Native.Nat.{ℕ, _+_}
 use lib.ListN.{length, take, drop}
 
 -- these bytes over a list, from `at` on
@@ -14,7 +14,3 @@ pub data Reached : Type 0 where
 -- what writing these bytes from `at` on comes to
 unfoldable pub writing : List ℕ → ℕ → List ℕ → Reached
 writing bs at l = reached (at + length bs) (laid bs at l)
-
--- a length up to the limit: one more than the limit stands for any longer
-abbrev pub upTo : ℕ → ℕ → ℕ
-upTo limit n = min n (limit + 1)

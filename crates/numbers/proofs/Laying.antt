@@ -10,7 +10,7 @@ use lib.Seq.{length-take-le, take-suc, set-at, set-split, take-at, drop-at, drop
 use Rattle.paper.specs.Numbers.{bytes}
 use Rattle.paper.specs.Calls.{over}
 use Rattle.laws.proofs.Bytes.{bytes-length}
-use Rattle.outline_out.specs.Laid.{laid, reached, writing}
+use Rattle.numbers.specs.Laid.{laid, reached, writing}
 
 -- laid over nothing, and one byte
 pub laid-none : (at : ℕ) (l : List ℕ) → laid [] at l ≡ l
