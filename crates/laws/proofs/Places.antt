@@ -43,7 +43,8 @@ usable-ok n c t =
     (not-true (anyBad n c) (T-true {b = not (anyBad n c)} (and-right (not (allBelow 8 (λ i. eqb (getD c i 0) 0))) (not (anyBad n c)) t)))
 
 module _ (ws : List ℕ) (u : Undamaged ws) (words : (i : ℕ) → getD ws i 0 < 2 ^ 32) where
-  leaf-ok : (q : ℕ) → q < keptCount ws 0 → leafNo (cellAt (keptOf ws) 0 q) < 2 ^ 64
+  -- a leaf is two words
+  pub leaf-ok : (q : ℕ) → q < keptCount ws 0 → leafNo (cellAt (keptOf ws) 0 q) < 2 ^ 64
   leaf-ok q h =
       let C : ℕ = capacityOf ws in
       omega (arith, kept-word ws 0 q 0 (lit< tt) h (lit< tt), kept-word ws 0 q 1 (lit< tt) h (lit< tt), words (cellPlace C 0 q + 0), words (cellPlace C 0 q + 1))

@@ -14,7 +14,8 @@ use Rattle.paper.specs.Leaf.{mirrorLeaf}
 use Rattle.paper.specs.Outline.{edge, childOf, childFull, recordOf}
 use Rattle.paper.specs.Store.{Cell, heights, keptCount, keptOf, cellsAt, cellAt, tagOf, cellNo, leafNo, badPointer, storeOk}
 use Rattle.paper.specs.Meaning.{pointerVoxel, cellVoxel, rootRoom}
-use Rattle.laws.proofs.StoreFacts.{Words, depth-range, tag-lt, any-fails-at, names-kept, cell-names, leaf-not-zero, leaf-fits, cell-sound, some-pointer}
+use Rattle.laws.proofs.StoreFacts.{Words, depth-range, tag-lt, names-kept, cell-names, leaf-not-zero, leaf-fits, cell-sound, some-pointer}
+use Rattle.laws.proofs.Tests.{none-at}
 use Rattle.laws.proofs.Eight.{xor8-lt}
 use Rattle.laws.proofs.Mirrors.{fromChild, mirror-inside, mirror-twice, mirror-mirror, mirror-fromChild, childNo-fromChild, inChild-fromChild, same-sym, same-trans}
 use Rattle.laws.proofs.Leaves.{leaf-solid}
@@ -135,7 +136,7 @@ module _ (ws : List ℕ) (ok : T (storeOk ws)) (w : Words ws) where
       nonEmpty-same (edge k) (childOf k (seenRoom (keptOf ws) (suc k) n m) i) (mirrored m (edge k) (named (keptOf ws) k (seenPointer c m i)))
       (child-seen (keptOf ws) k c m i hm hi)
       ∙ pointer-full k (seenPointer c m i) m (omega arith) hm
-      (any-fails-at 8 (λ j. badPointer (keptCount ws k) (getD c j 0)) (cell-sound ws ok k n hk hn) (bitXor i m) (xor8-lt i m hi hm))
+      (none-at 8 (λ j. badPointer (keptCount ws k) (getD c j 0)) (cell-sound ws ok k n hk hn) (bitXor i m) (xor8-lt i m hi hm))
 
   -- the root of a scene held: the room is full where its pointer is there
   pub root-full : (D p : ℕ) → T (depthOk D) → badPointer (keptCount ws (D - 2)) p ≡ false → nonEmpty (2 ^ D) (rootRoom (keptOf ws) D p) ≡ not (eqb p 0)

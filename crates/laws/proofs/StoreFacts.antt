@@ -12,33 +12,18 @@ use lib.Seq.{getD-take, getD-drop}
 use Rattle.paper.specs.Numbers.{both, allBelow, anyBelow, allIn}
 use Rattle.paper.specs.Rooms.{depthOk, least, deepest}
 use Rattle.paper.specs.Store.{Cell, heights, capacityOf, scenesHeld, keptCount, cellPlace, keptOf, cellsAt, cellAt, tagOf, cellNo, lowOf, leafNo, badPointer, anyBad, sceneDepth, sceneRoot, headerOk, sceneOk, scenesBlank, leafUsable, cellUsable, listUsable, listBlank, storeOk}
-use Rattle.laws.proofs.Tests.{true-T, and-left, and-right, all-at}
-use Rattle.laws.proofs.Kept.{kept-length, kept-cell}
-use Rattle.laws.proofs.Tests.{at-any}
+use Rattle.laws.proofs.Tests.{true-T, not-false, and-left, and-right, none-at}
+use Rattle.laws.proofs.Kept.{kept-length}
+pub use Rattle.laws.proofs.Undamaged.{store-header}
+use Rattle.laws.proofs.Undamaged.{undamaged}
+use Rattle.laws.proofs.Places.{leaf-ok}
+use Rattle.laws.proofs.Lists.{allIn-in}
 
 -- words are below 2^32
 abbrev pub Words : List ℕ → Type 0
 Words ws = (i : ℕ) → getD ws i 0 < 2 ^ 32
 
 -- ---- tests
-
-not-T : (b : Bool) → T (not b) → b ≡ false
-not-T true t = absurd t
-not-T false t = refl
-
-allIn-at : {A : Type 0} (p : A → Bool) (xs : List A) (d : A) (i : ℕ) → T (allIn p xs) → i < length xs → T (p (getD xs i d))
-unfolding allIn
-allIn-at p [] d i t h = absurd (not-suc-le-zero h)
-allIn-at p (x ∷ xs) d zero t h = go (p x) refl t
-  where
-    go : (b : Bool) → p x ≡ b → T (cond b (allIn p xs) false) → T (p x)
-    go true e s = true-T e
-    go false e s = absurd s
-allIn-at p (x ∷ xs) d (suc i) t h = go (p x) refl t (allIn-at p xs d i)
-  where
-    go : (b : Bool) → p x ≡ b → T (cond b (allIn p xs) false) → (T (allIn p xs) → i < length xs → T (p (getD xs i d))) → T (p (getD xs i d))
-    go true e s ih = ih s (le-of-suc-le-suc h)
-    go false e s ih = absurd s
 
 -- a test that fails at some number below n
 all-fails-at : (n : ℕ) (p : ℕ → Bool) → allBelow n p ≡ false → (i : ℕ) × (i < n) × (p i ≡ false)
@@ -48,14 +33,6 @@ all-fails-at (suc n) p e = go (p n) refl e (all-fails-at n p)
     go : (b : Bool) → p n ≡ b → both b (allBelow n p) ≡ false → (allBelow n p ≡ false → (i : ℕ) × (i < n) × (p i ≡ false)) → (i : ℕ) × (i < suc n) × (p i ≡ false)
     go true q r ih = let w : (i : ℕ) × (i < n) × (p i ≡ false) = ih r in (w .0, omega (arith, w .1), w .2)
     go false q r ih = (n, omega arith, q)
-
--- no number below n passes
-pub any-fails-at : (n : ℕ) (p : ℕ → Bool) → anyBelow n p ≡ false → (i : ℕ) → i < n → p i ≡ false
-any-fails-at n p e i h = go (p i) refl
-  where
-    go : (b : Bool) → p i ≡ b → b ≡ false
-    go true q = absurd (false≢true (sym e ∙ at-any n p i h q))
-    go false q = refl
 
 -- ---- depths and pointers
 
@@ -77,51 +54,25 @@ names-kept n p b e =
     go false false q r = absurd (false≢true (sym q))
 
 pub cell-names : (n : ℕ) (c : Cell) → anyBad n c ≡ false → (i : ℕ) → i < 8 → eqb (getD c i 0) 0 ≡ false → cellNo (getD c i 0) < n
-cell-names n c b i h = names-kept n (getD c i 0) (any-fails-at 8 (λ j. badPointer n (getD c j 0)) b i h)
+cell-names n c b i h = names-kept n (getD c i 0) (none-at 8 (λ j. badPointer n (getD c j 0)) b i h)
 
 -- ---- an undamaged store
 
 module _ (ws : List ℕ) (ok : T (storeOk ws)) where
-  -- the tests before those of the lists, and before those of the words of no scene
-  abbrev before-lists : Bool
-  before-lists = headerOk ws && allBelow (scenesHeld ws) (sceneOk ws) && scenesBlank ws
-
-  abbrev before-blanks : Bool
-  before-blanks = headerOk ws && allBelow (scenesHeld ws) (sceneOk ws)
-
-  cells-ok : T (headerOk ws && allBelow (scenesHeld ws) (sceneOk ws) && scenesBlank ws && allBelow heights (listUsable (keptOf ws)))
-  unfolding storeOk
-  cells-ok = and-left (before-lists && allBelow heights (listUsable (keptOf ws))) (allBelow heights (listBlank ws)) ok
-
-  scenes-ok : T (headerOk ws && allBelow (scenesHeld ws) (sceneOk ws))
-  scenes-ok = and-left before-blanks (scenesBlank ws) (and-left before-lists (allBelow heights (listUsable (keptOf ws))) cells-ok)
-
-  -- its header, its scenes and its lists are in order
-  pub store-header : T (headerOk ws)
-  store-header = and-left (headerOk ws) (allBelow (scenesHeld ws) (sceneOk ws)) scenes-ok
-
-  pub store-scene : (n : ℕ) → n < scenesHeld ws → T (sceneOk ws n)
-  store-scene = all-at (scenesHeld ws) (sceneOk ws) (and-right (headerOk ws) (allBelow (scenesHeld ws) (sceneOk ws)) scenes-ok)
-
-  pub store-list : (k : ℕ) → k < heights → T (listUsable (keptOf ws) k)
-  store-list =
-      all-at heights (listUsable (keptOf ws))
-      (and-right before-lists (allBelow heights (listUsable (keptOf ws))) cells-ok)
-
   -- a scene held has a depth and a root that is not bad
   pub scene-sound : (n : ℕ) → n < scenesHeld ws → T (depthOk (sceneDepth ws n)) × (badPointer (keptCount ws (sceneDepth ws n - 2)) (sceneRoot ws n) ≡ false)
   unfolding sceneOk
   scene-sound n h =
       let D : ℕ = sceneDepth ws n in
       let b : Bool = badPointer (keptCount ws (D - 2)) (sceneRoot ws n) in
-      (and-left (depthOk D) (not b) (store-scene n h), not-T b (and-right (depthOk D) (not b) (store-scene n h)))
+      (and-left (depthOk D) (not b) (undamaged ws ok .scenes n h), not-false b (and-right (depthOk D) (not b) (undamaged ws ok .scenes n h)))
 
   -- a kept leaf is not 0; a kept cell has a child, and no bad pointer
   pub leaf-not-zero : (n : ℕ) → n < keptCount ws 0 → 0 < leafNo (cellAt (keptOf ws) 0 n)
   unfolding listUsable leafUsable
   leaf-not-zero n h =
       let K : List (List Cell) = keptOf ws in
-      ltb→lt 0 (leafNo (cellAt K 0 n)) (allIn-at leafUsable (cellsAt K 0) [] n (store-list 0 (lit< tt)) (rw (kept-length ws 0 (lit< tt)) h))
+      ltb→lt 0 (leafNo (cellAt K 0 n)) (allIn-in leafUsable [] (cellsAt K 0) (undamaged ws ok .usable 0 (lit< tt)) n (rw (kept-length ws 0 (lit< tt)) h))
 
   module _ (k n : ℕ) (hk : suc k < heights) (hn : n < keptCount ws (suc k)) where
     abbrev cell : Cell
@@ -132,25 +83,18 @@ module _ (ws : List ℕ) (ok : T (storeOk ws)) where
     cell-usable =
         let K : List (List Cell) = keptOf ws in
         subst (λ (m : ℕ). T (cellUsable m (cellAt K (suc k) n))) (kept-length ws k (omega arith))
-        (allIn-at (cellUsable (length (cellsAt K k))) (cellsAt K (suc k)) [] n (store-list (suc k) hk) (rw (kept-length ws (suc k) hk) hn))
+        (allIn-in (cellUsable (length (cellsAt K k))) [] (cellsAt K (suc k)) (undamaged ws ok .usable (suc k) hk) n (rw (kept-length ws (suc k) hk) hn))
 
     pub cell-sound : anyBad (keptCount ws k) (cellAt (keptOf ws) (suc k) n) ≡ false
     unfolding cellUsable
-    cell-sound = not-T _ (and-right (not (allBelow 8 (λ i. eqb (getD cell i 0) 0))) (not (anyBad (keptCount ws k) cell)) cell-usable)
+    cell-sound = not-false _ (and-right (not (allBelow 8 (λ i. eqb (getD cell i 0) 0))) (not (anyBad (keptCount ws k) cell)) cell-usable)
 
     pub some-pointer : (i : ℕ) × (i < 8) × (eqb (getD (cellAt (keptOf ws) (suc k) n) i 0) 0 ≡ false)
     unfolding cellUsable
     some-pointer =
         all-fails-at 8 (λ i. eqb (getD cell i 0) 0)
-        (not-T _ (and-left (not (allBelow 8 (λ i. eqb (getD cell i 0) 0))) (not (anyBad (keptCount ws k) cell)) cell-usable))
+        (not-false _ (and-left (not (allBelow 8 (λ i. eqb (getD cell i 0) 0))) (not (anyBad (keptCount ws k) cell)) cell-usable))
 
   -- a leaf is two words
   pub leaf-fits : Words ws → (n : ℕ) → n < keptCount ws 0 → leafNo (cellAt (keptOf ws) 0 n) < 2 ^ 64
-  leaf-fits w n h =
-      let at : ℕ = cellPlace (capacityOf ws) 0 n in
-      let e : cellAt (keptOf ws) 0 n ≡ take 2 (drop at ws) = kept-cell ws 0 n (lit< tt) h in
-      let z : 0 < 2 = lit< tt in
-      let o : 1 < 2 = lit< tt in
-      let a : getD (take 2 (drop at ws)) 0 0 ≡ getD ws (at + 0) 0 = rw (getD-take, getD-drop) in
-      let b : getD (take 2 (drop at ws)) 1 0 ≡ getD ws (at + 1) 0 = rw (getD-take, getD-drop) in
-      rw e (omega (arith, a, b, w (at + 0), w (at + 1)))
+  leaf-fits w = leaf-ok ws (undamaged ws ok) w

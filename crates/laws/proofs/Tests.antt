@@ -1,7 +1,7 @@
 -- Tests passed and what they say: conjunctions, and tests over all or any of the numbers below n. By cases of the tests and induction on n.
 -- Assumes nothing.
 use mathlib.Core.Path.{_≡_, refl, sym, _∙_, ap, ap₂}
-use mathlib.Core.Bool.{Bool, true, false, false≢true, cond, _&&_, Bool·beq}
+use mathlib.Core.Bool.{Bool, true, false, false≢true, cond, not, _&&_, Bool·beq}
 use mathlib.Core.Logic.{_⊎_, inl, inr}
 use Prim.Native.Nat.{ℕ, zero, suc, _<_}
 use native.Mathlib.Nat.{le-of-suc-le-suc, not-suc-le-zero, le-refl, eq-or-lt-of-le}
@@ -17,6 +17,11 @@ T-true {b = false} t = absurd t
 
 pub true-T : {b : Bool} → b ≡ true → T b
 true-T e = rw e tt
+
+-- false where its negation holds
+pub not-false : (b : Bool) → T (not b) → b ≡ false
+not-false true t = absurd t
+not-false false t = refl
 
 -- false, or it would be true
 pub false-unless : (b : Bool) → (b ≡ true → ⊥) → b ≡ false

@@ -18,6 +18,7 @@ use Rattle.paper.specs.Questions.{taken, below, inBelow, wayDamaged, takenBad, 
 use Rattle.laws.proofs.Invariant.{Names, OkPointer, names-lt, ok-not-bad}
 use Rattle.laws.proofs.Adding.{Invs}
 use Rattle.laws.proofs.Filled.{none-bad}
+use Rattle.laws.proofs.Sums.{sum-same}
 
 -- ---- cells as a walk enters them
 
@@ -81,11 +82,6 @@ module _ (K : List (List Cell)) (I : Invs K) where
     taken-root-clear v = root-clear (takenBad K) (taken-clear (D - 2)) v
 
 -- ---- box counts
-
-pub sum-same : (n : ℕ) (f g : ℕ → ℕ) → ((i : ℕ) → i < n → f i ≡ g i) → sum n f ≡ sum n g
-unfolding sum
-sum-same zero f g h = refl
-sum-same (suc n) f g h = ap₂ (λ (a b : ℕ). a + b) (sum-same n f g (λ i l. h i (omega arith))) (h n (le-refl (suc n)))
 
 pub sum-zero : (n : ℕ) → sum n (λ i. 0) ≡ 0
 unfolding sum
