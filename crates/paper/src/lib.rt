@@ -2,7 +2,8 @@
 // specs/Answers.antt; the calls themselves are those of the crate `rooms`.
 
 ghost use mathlib.Core.Path.{_≡_};
-ghost use Rattle.paper.specs.Answers.{numberOf};
+ghost use lib.ListN.{getD};
+ghost use Rattle.paper.specs.Answers.{numberOf, started, added, seen, occupied, counted, kept, written, checked, found, chosen};
 
 // The refusals of document 01's table, in its order: 1 to 13.
 pub enum Refusal {
@@ -50,10 +51,44 @@ pub enum Started {
     Refused(Refusal),
 }
 
+impl Started {
+    // Its number: 0 where the call is accepted, else the refusal's.
+    pub fn number(self) -> u32
+        ensures { λ r. ⌜ r ≡ started self .number ⌝ }
+    {
+        match self {
+            Started::Ready => 0,
+            Started::Refused(why) => why.number(),
+        }
+    }
+}
+
 // Add: the scene's number.
 pub enum Added {
     Scene(u32),
     Refused(Refusal),
+}
+
+impl Added {
+    // Its number: 0 where the call is accepted, else the refusal's.
+    pub fn number(self) -> u32
+        ensures { λ r. ⌜ r ≡ added self .number ⌝ }
+    {
+        match self {
+            Added::Scene(_) => 0,
+            Added::Refused(why) => why.number(),
+        }
+    }
+
+    // The scene's number, 0 on a refusal.
+    pub fn value(self) -> u32
+        ensures { λ r. ⌜ r ≡ getD (added self .values) 0 0 ⌝ }
+    {
+        match self {
+            Added::Scene(n) => n,
+            Added::Refused(_) => 0,
+        }
+    }
 }
 
 // Voxel.
@@ -63,11 +98,59 @@ pub enum Seen {
     Refused(Refusal),
 }
 
+impl Seen {
+    // Its number: 0 where the call is accepted, else the refusal's.
+    pub fn number(self) -> u32
+        ensures { λ r. ⌜ r ≡ seen self .number ⌝ }
+    {
+        match self {
+            Seen::Solid => 0,
+            Seen::Empty => 0,
+            Seen::Refused(why) => why.number(),
+        }
+    }
+
+    // 1 for solid, else 0.
+    pub fn value(self) -> u32
+        ensures { λ r. ⌜ r ≡ getD (seen self .values) 0 0 ⌝ }
+    {
+        match self {
+            Seen::Solid => 1,
+            Seen::Empty => 0,
+            Seen::Refused(_) => 0,
+        }
+    }
+}
+
 // Cell.
 pub enum Occupied {
     NonEmpty,
     Empty,
     Refused(Refusal),
+}
+
+impl Occupied {
+    // Its number: 0 where the call is accepted, else the refusal's.
+    pub fn number(self) -> u32
+        ensures { λ r. ⌜ r ≡ occupied self .number ⌝ }
+    {
+        match self {
+            Occupied::NonEmpty => 0,
+            Occupied::Empty => 0,
+            Occupied::Refused(why) => why.number(),
+        }
+    }
+
+    // 1 for non-empty, else 0.
+    pub fn value(self) -> u32
+        ensures { λ r. ⌜ r ≡ getD (occupied self .values) 0 0 ⌝ }
+    {
+        match self {
+            Occupied::NonEmpty => 1,
+            Occupied::Empty => 0,
+            Occupied::Refused(_) => 0,
+        }
+    }
 }
 
 // Box: the solid voxels in it, up to 2^48.
@@ -76,10 +159,54 @@ pub enum Counted {
     Refused(Refusal),
 }
 
+impl Counted {
+    // Its number: 0 where the call is accepted, else the refusal's.
+    pub fn number(self) -> u32
+        ensures { λ r. ⌜ r ≡ counted self .number ⌝ }
+    {
+        match self {
+            Counted::Solid(_) => 0,
+            Counted::Refused(why) => why.number(),
+        }
+    }
+
+    // The solid voxels, 0 on a refusal.
+    pub fn value(self) -> u64
+        ensures { λ r. ⌜ r ≡ getD (counted self .values) 0 0 ⌝ }
+    {
+        match self {
+            Counted::Solid(n) => n,
+            Counted::Refused(_) => 0,
+        }
+    }
+}
+
 // Kept: the cells kept at a height.
 pub enum Kept {
     Cells(u32),
     Refused(Refusal),
+}
+
+impl Kept {
+    // Its number: 0 where the call is accepted, else the refusal's.
+    pub fn number(self) -> u32
+        ensures { λ r. ⌜ r ≡ kept self .number ⌝ }
+    {
+        match self {
+            Kept::Cells(_) => 0,
+            Kept::Refused(why) => why.number(),
+        }
+    }
+
+    // The cells kept, 0 on a refusal.
+    pub fn value(self) -> u32
+        ensures { λ r. ⌜ r ≡ getD (kept self .values) 0 0 ⌝ }
+    {
+        match self {
+            Kept::Cells(n) => n,
+            Kept::Refused(_) => 0,
+        }
+    }
 }
 
 // Outline out and pack: the length written.
@@ -88,10 +215,54 @@ pub enum Written {
     Refused(Refusal),
 }
 
+impl Written {
+    // Its number: 0 where the call is accepted, else the refusal's.
+    pub fn number(self) -> u32
+        ensures { λ r. ⌜ r ≡ written self .number ⌝ }
+    {
+        match self {
+            Written::Length(_) => 0,
+            Written::Refused(why) => why.number(),
+        }
+    }
+
+    // The length written, 0 on a refusal.
+    pub fn value(self) -> u32
+        ensures { λ r. ⌜ r ≡ getD (written self .values) 0 0 ⌝ }
+    {
+        match self {
+            Written::Length(n) => n,
+            Written::Refused(_) => 0,
+        }
+    }
+}
+
 // Packed check: the depth.
 pub enum Checked {
     Depth(u32),
     Refused(Refusal),
+}
+
+impl Checked {
+    // Its number: 0 where the call is accepted, else the refusal's.
+    pub fn number(self) -> u32
+        ensures { λ r. ⌜ r ≡ checked self .number ⌝ }
+    {
+        match self {
+            Checked::Depth(_) => 0,
+            Checked::Refused(why) => why.number(),
+        }
+    }
+
+    // The depth, 0 on a refusal.
+    pub fn value(self) -> u32
+        ensures { λ r. ⌜ r ≡ getD (checked self .values) 0 0 ⌝ }
+    {
+        match self {
+            Checked::Depth(n) => n,
+            Checked::Refused(_) => 0,
+        }
+    }
 }
 
 // Packed voxel, and a question on an opened scene: with the number of records read.
@@ -99,6 +270,41 @@ pub enum Found {
     Solid(u32),
     Empty(u32),
     Refused(Refusal),
+}
+
+impl Found {
+    // Its number: 0 where the call is accepted, else the refusal's.
+    pub fn number(self) -> u32
+        ensures { λ r. ⌜ r ≡ found self .number ⌝ }
+    {
+        match self {
+            Found::Solid(_) => 0,
+            Found::Empty(_) => 0,
+            Found::Refused(why) => why.number(),
+        }
+    }
+
+    // 1 for solid, else 0.
+    pub fn value(self) -> u32
+        ensures { λ r. ⌜ r ≡ getD (found self .values) 0 0 ⌝ }
+    {
+        match self {
+            Found::Solid(_) => 1,
+            Found::Empty(_) => 0,
+            Found::Refused(_) => 0,
+        }
+    }
+
+    // The records read, 0 on a refusal.
+    pub fn records(self) -> u32
+        ensures { λ r. ⌜ r ≡ getD (found self .values) 1 0 ⌝ }
+    {
+        match self {
+            Found::Solid(n) => n,
+            Found::Empty(n) => n,
+            Found::Refused(_) => 0,
+        }
+    }
 }
 
 // Distance and factor, kept together.
@@ -118,6 +324,28 @@ pub enum Wish {
 pub enum Chosen {
     Height(u32),
     Refused(Refusal),
+}
+
+impl Chosen {
+    // Its number: 0 where the call is accepted, else the refusal's.
+    pub fn number(self) -> u32
+        ensures { λ r. ⌜ r ≡ chosen self .number ⌝ }
+    {
+        match self {
+            Chosen::Height(_) => 0,
+            Chosen::Refused(why) => why.number(),
+        }
+    }
+
+    // The height, 0 on a refusal.
+    pub fn value(self) -> u32
+        ensures { λ r. ⌜ r ≡ getD (chosen self .values) 0 0 ⌝ }
+    {
+        match self {
+            Chosen::Height(n) => n,
+            Chosen::Refused(_) => 0,
+        }
+    }
 }
 
 // A packed scene opened for many questions: its bytes beside the numbers of its header, the depth and where each list
