@@ -10,40 +10,19 @@ use native.Mathlib.Numerals.{add-one}
 use native.Mathlib.Omega.{arith}
 use borrow.Author.Tests.{lt-ltb, le-ltb, le-leb, lt-leb, eq-eqb, ne-eqb, eqb-true, eqb-false}
 use lib.Dec.{T, eqb, leb, ltb, eqb→eq, eqb·suc-zero}
-use lib.ListN.{length, drop, getD, set, replicate}
+use lib.ListN.{length, getD, set, replicate}
 use lib.Pow.{pow-mono}
 use lib.Seq.{getD-set-same, getD-set-other, ext-getD}
-use Rattle.paper.specs.Numbers.{num, tabulate}
-use Rattle.paper.specs.Rooms.{point, least, deepest, depthOk}
-use Rattle.paper.specs.Outline.{fileDepth, frontOk, lengthOk}
+use Rattle.paper.specs.Numbers.{tabulate}
+use Rattle.paper.specs.Rooms.{point, least, deepest}
+use Rattle.paper.specs.Outline.{fileDepth}
 use Rattle.paper.specs.Store.{heights}
-use Rattle.paper.specs.Packed.{packedFront, packedHead, emptyMark, rootTag, isEmpty, topOf, sizeAt, tailAt, startAt, sizesOk, rootOk, headOk, startsOf}
+use Rattle.paper.specs.Packed.{packedHead, emptyMark, rootTag, isEmpty, topOf, sizeAt, tailAt, startAt, sizesOk, rootOk, headOk, startsOf}
 use Rattle.paper.specs.Calls.{packedOutside}
 use Rattle.laws.proofs.Tests.{and-true, and-right}
 use Rattle.laws.proofs.Lists.{getD-tabulate, length-tabulate}
 use Rattle.packed.specs.Header.{frontOf, shareAt, lastLists}
-use Rattle.packed.proofs.Reading.{ltb-not, leb-not, ltb-suc}
-
-module _ (bs : List ℕ) where
-  -- ---- refusals 3, 4 and 5
-
-  pub front-none : length bs ≡ 0 → true ≡ not (frontOk packedFront bs)
-  front-none e = rw e refl
-
-  pub front-some : (length bs ≡ 0 → ⊥) → not (eqb (getD bs 0 0) packedFront) ≡ not (frontOk packedFront bs)
-  front-some n = rw (lt-ltb 0 (length bs) (omega (arith, n))) refl
-
-  pub length-short : length bs < packedHead → true ≡ not (lengthOk packedHead bs)
-  length-short h = rw (lt-leb packedHead (length bs) h) refl
-
-  pub length-field : (n : ℕ) → packedHead ≤ length bs → n ≡ num 4 (drop 1 bs) → not (eqb n (length bs)) ≡ not (lengthOk packedHead bs)
-  length-field n h e = rw (le-leb packedHead (length bs) h, e) refl
-
-pub depth-under : (D : ℕ) → D < least → true ≡ not (depthOk D)
-depth-under D h = rw (lt-leb least D h) refl
-
-pub depth-over : (D : ℕ) → least ≤ D → ltb deepest D ≡ not (depthOk D)
-depth-over D h = rw (le-leb least D h) (ltb-not deepest D)
+use Rattle.packed.proofs.Reading.{leb-not, ltb-suc}
 
 -- ---- refusal 10
 

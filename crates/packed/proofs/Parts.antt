@@ -7,10 +7,10 @@ use Prim.Native.Nat.{ℕ, zero, suc, _+_, _-_, _*_, _/_, _^_, _<_, _≤_}
 use native.Mathlib.Nat.{mod-eq-of-lt, add-zero, zero-add}
 use native.Mathlib.Numerals.{one-add}
 use native.Mathlib.Omega.{arith}
-use borrow.Author.Tests.{ne-eqb, eq-eqb, le-leb, not-false}
+use borrow.Author.Tests.{ne-eqb, eq-eqb, le-leb, not-false, eqb-true, eqb-false}
 use lib.Dec.{T, eqb, leb, ltb, leb→le, ltb→lt}
-use lib.ListN.{length, take, drop, getD, length-drop}
-use lib.Seq.{drop-drop, take-take, take-all, length-take-le}
+use lib.ListN.{length, take, drop, getD, set, length-drop, length-map}
+use lib.Seq.{drop-drop, take-take, take-all, length-take-le, getD-set-same, getD-set-other, ext-getD}
 use Rattle.paper.specs.Rooms.{Point, point, Inside, mirror, childNo, inChild, least, deepest}
 use Rattle.paper.specs.Outline.{edge, fileDepth}
 use Rattle.paper.specs.Store.{heights}
@@ -23,7 +23,7 @@ use Rattle.laws.proofs.Lists.{getD-tabulate}
 use Rattle.packed.specs.declared.Reached.the-variants.{Solid, Empty}
 use Rattle.packed.specs.Header.{frontOf}
 use Rattle.packed.specs.Records.{takenOk}
-use Rattle.packed.specs.Walk.{ends, reached, plus, if-ok, seenAt, leafEnd, wayAt, startOf, listIn, sizeIn, Cut}
+use Rattle.packed.specs.Walk.{reached, plus, if-ok, seenAt, leafEnd, wayAt, startOf, within, listIn, sizeIn, Cut}
 use Rattle.packed.proofs.Header.{tail-in}
 
 -- ---- the paper's walk, as the code answers it
@@ -95,6 +95,27 @@ seen-whole k m v i =
     ap (mirror m (edge k)) e
 
 -- ---- the lists in the file
+
+-- a start counted from a base
+pub within-at : (base : ℕ) (starts : List ℕ) (k : ℕ) → startOf (within base starts) k ≡ startOf starts k - base
+within-at base [] k = omega arith
+within-at base (s ∷ starts) zero = refl
+within-at base (s ∷ starts) (suc k) = within-at base starts k
+
+-- one start more
+pub within-more : (base n : ℕ) (starts out : List ℕ) (k : ℕ) → k < length out → n ≡ startOf starts k - base
+    → ((j : ℕ) → j < k → getD out j 0 ≡ startOf starts j - base) → (j : ℕ) → j < k + 1 → getD (set out k n) j 0 ≡ startOf starts j - base
+within-more base n starts out k h e below j l = go (eqb j k) refl
+  where
+    go : (b : Bool) → eqb j k ≡ b → getD (set out k n) j 0 ≡ startOf starts j - base
+    go true p = rw (eqb-true j k p) (getD-set-same out k n 0 h ∙ e)
+    go false p =
+        let d : j ≡ k → ⊥ = eqb-false j k p in
+        getD-set-other out k j n 0 d ∙ below j (omega (arith, d, l))
+
+pub within-all : (base : ℕ) (starts out : List ℕ) → length out ≡ length starts → ((j : ℕ) → j < length starts → getD out j 0 ≡ startOf starts j - base) → out ≡ within base starts
+within-all base starts out l each =
+    ext-getD 0 out (within base starts) (l ∙ sym (length-map starts (λ s. s - base))) (λ j h. each j (omega (arith, l, h)) ∙ sym (within-at base starts j))
 
 -- a part of a part
 part-part : (m d n : ℕ) (l : List ℕ) → d + m ≤ n → take m (drop d (take n l)) ≡ take m (drop d l)
@@ -179,49 +200,57 @@ module _ (bs : List ℕ) (deep : least ≤ fileDepth bs) (flat : fileDepth bs �
     leaves-length : length leaves ≡ 8 * sizeAt bs 0
     leaves-length = ap length leaves-is ∙ length-drop (S 0) bs ∙ omega (arith, start-leaves)
 
-    pub parts-cut : length bs < 2 ^ 32 → Cut base (D - 2) starts inner leaves
-    parts-cut short = record {
-      falling = λ k h. omega (arith, start-is k (omega (arith, eD)), start-is (suc k) (omega (arith, eD)), start-next k (omega (arith, eD)));
-      above = λ k h. omega (arith, base-is, start-is k (omega (arith, eD)), top-first k (omega (arith, eD)));
-      whole = omega (arith, inner-length);
-      eights = omega (arith, leaves-length);
-      few = omega (arith, leaves-length, start-leaves);
-    }
+    -- the starts within the inner part
+    module _ (begins : List ℕ) (eB : begins ≡ within base starts) where
+      begin-is : (k : ℕ) → startOf begins k ≡ startOf starts k - base
+      begin-is k = ap (λ (l : List ℕ). startOf l k) eB ∙ within-at base starts k
 
-    lists-same : (k : ℕ) → k ≤ top → listIn base starts inner leaves k ≡ listAt bs k
-    unfolding listAt
-    lists-same zero h = leaves-is
-    lists-same (suc k) h =
-        let n : ℕ = startOf starts k - base - (startOf starts (suc k) - base) in
-        let d : ℕ = startOf starts (suc k) - base in
-        let low : base ≤ startOf starts (suc k) = omega (arith, base-is, start-is (suc k) h, top-first (suc k) h) in
-        let next : startOf starts k ≡ startOf starts (suc k) + 2 * sizeAt bs (suc k) =
-        start-is k (omega arith) ∙ start-next k h ∙ ap (λ (i : ℕ). i + 2 * sizeAt bs (suc k)) (sym (start-is (suc k) h)) in
-        let en : n ≡ 2 * sizeAt bs (suc k) = part-size base (startOf starts (suc k)) (startOf starts k) (2 * sizeAt bs (suc k)) low next in
-        let ed : base + d ≡ S (suc k) = omega (arith, base-is, start-is (suc k) h, top-first (suc k) h) in
-        let mid : startOf starts (suc k) ≤ startOf starts k = omega (arith, next) in
-        let high : startOf starts k ≤ startOf starts 0 = omega (arith, start-is k (omega arith), first-leaves k (omega arith), start-is 0 (omega arith)) in
-        part-part n d (startOf starts 0 - base) (drop base bs) (part-room base (startOf starts (suc k)) (startOf starts k) (startOf starts 0) low mid high)
-        ∙ ap₂ take en (drop-drop d base bs ∙ ap (λ (m : ℕ). drop m bs) ed)
+      pub parts-cut : length bs < 2 ^ 32 → Cut (D - 2) begins inner leaves
+      parts-cut short = record {
+        falling = λ k h. omega (arith, begin-is k, begin-is (suc k), start-is k (omega (arith, eD)), start-is (suc k) (omega (arith, eD)), start-next k (omega (arith, eD)));
+        whole = omega (arith, begin-is 0, inner-length);
+        eights = omega (arith, leaves-length);
+        few = omega (arith, leaves-length, start-leaves);
+      }
 
-    sizes-same : (k : ℕ) → k < top → sizeIn starts leaves k ≡ sizeAt bs k
-    sizes-same zero h = ap (λ (n : ℕ). n / 8) leaves-length ∙ omega arith
-    sizes-same (suc k) h =
-        let e : startOf starts k - startOf starts (suc k) ≡ 2 * sizeAt bs (suc k) =
-        omega (arith, start-is k (omega arith), start-is (suc k) (omega arith), start-next k (omega arith)) in
-        ap (λ (n : ℕ). n / 2) e ∙ omega arith
+      lists-same : (k : ℕ) → k ≤ top → listIn begins inner leaves k ≡ listAt bs k
+      unfolding listAt
+      lists-same zero h = leaves-is
+      lists-same (suc k) h =
+          let n : ℕ = startOf starts k - base - (startOf starts (suc k) - base) in
+          let d : ℕ = startOf starts (suc k) - base in
+          let low : base ≤ startOf starts (suc k) = omega (arith, base-is, start-is (suc k) h, top-first (suc k) h) in
+          let next : startOf starts k ≡ startOf starts (suc k) + 2 * sizeAt bs (suc k) =
+          start-is k (omega arith) ∙ start-next k h ∙ ap (λ (i : ℕ). i + 2 * sizeAt bs (suc k)) (sym (start-is (suc k) h)) in
+          let en : n ≡ 2 * sizeAt bs (suc k) = part-size base (startOf starts (suc k)) (startOf starts k) (2 * sizeAt bs (suc k)) low next in
+          let ed : base + d ≡ S (suc k) = omega (arith, base-is, start-is (suc k) h, top-first (suc k) h) in
+          let mid : startOf starts (suc k) ≤ startOf starts k = omega (arith, next) in
+          let high : startOf starts k ≤ startOf starts 0 = omega (arith, start-is k (omega arith), first-leaves k (omega arith), start-is 0 (omega arith)) in
+          ap₂ (λ (a b : ℕ). take (a - b) (drop b inner)) (begin-is k) (begin-is (suc k))
+          ∙ part-part n d (startOf starts 0 - base) (drop base bs) (part-room base (startOf starts (suc k)) (startOf starts k) (startOf starts 0) low mid high)
+          ∙ ap₂ take en (drop-drop d base bs ∙ ap (λ (m : ℕ). drop m bs) ed)
 
-    -- the walk over the parts is the paper's
-    pub parts-way : (m : ℕ) (v : Point) → m ≡ rootTag bs → T (headOk bs) → packedOutside bs v ≡ false
-        → wayAt (listIn base starts inner leaves) (sizeIn starts leaves) (D - 2) 0 (seenAt (D - 2) m v) ≡ reached (wayIn bs v)
-    unfolding wayIn
-    parts-way m v em t out =
-        let e : D - 2 ≡ top = ap (λ (n : ℕ). n - 2) eD in
-        ap (λ (k : ℕ). wayAt (listIn base starts inner leaves) (sizeIn starts leaves) k 0 (seenAt k m v)) e
-        ∙ way-same (listIn base starts inner leaves) (listAt bs) (sizeIn starts leaves) (sizeAt bs) top lists-same sizes-same 0 (seenAt top m v)
-        ∙ ap (wayAt (listAt bs) (sizeAt bs) top 0) (ap (λ (n : ℕ). seenAt top n v) em ∙ seen-whole top (rootTag bs) v (inside-top bs deep v out))
-        ∙ sym (way-packed bs top 0 (rootTag bs) v)
-        ∙ rw (T-true {b = headOk bs} t, ne-eqb (rootTag bs) emptyMark some) refl
+      sizes-same : (k : ℕ) → k < top → sizeIn begins leaves k ≡ sizeAt bs k
+      sizes-same zero h = ap (λ (n : ℕ). n / 8) leaves-length ∙ omega arith
+      sizes-same (suc k) h =
+          let low : base ≤ startOf starts (suc k) = omega (arith, base-is, start-is (suc k) (omega arith), top-first (suc k) (omega arith)) in
+          let next : startOf starts k ≡ startOf starts (suc k) + 2 * sizeAt bs (suc k) =
+          start-is k (omega arith) ∙ start-next k (omega arith) ∙ ap (λ (i : ℕ). i + 2 * sizeAt bs (suc k)) (sym (start-is (suc k) (omega arith))) in
+          ap₂ (λ (a b : ℕ). (a - b) / 2) (begin-is k) (begin-is (suc k))
+          ∙ ap (λ (n : ℕ). n / 2) (part-size base (startOf starts (suc k)) (startOf starts k) (2 * sizeAt bs (suc k)) low next)
+          ∙ omega arith
+
+      -- the walk over the parts is the paper's
+      pub parts-way : (m : ℕ) (v : Point) → m ≡ rootTag bs → T (headOk bs) → packedOutside bs v ≡ false
+          → wayAt (listIn begins inner leaves) (sizeIn begins leaves) (D - 2) 0 (seenAt (D - 2) m v) ≡ reached (wayIn bs v)
+      unfolding wayIn
+      parts-way m v em t out =
+          let e : D - 2 ≡ top = ap (λ (n : ℕ). n - 2) eD in
+          ap (λ (k : ℕ). wayAt (listIn begins inner leaves) (sizeIn begins leaves) k 0 (seenAt k m v)) e
+          ∙ way-same (listIn begins inner leaves) (listAt bs) (sizeIn begins leaves) (sizeAt bs) top lists-same sizes-same 0 (seenAt top m v)
+          ∙ ap (wayAt (listAt bs) (sizeAt bs) top 0) (ap (λ (n : ℕ). seenAt top n v) em ∙ seen-whole top (rootTag bs) v (inside-top bs deep v out))
+          ∙ sym (way-packed bs top 0 (rootTag bs) v)
+          ∙ rw (T-true {b = headOk bs} t, ne-eqb (rootTag bs) emptyMark some) refl
 
 pub way-empty : (bs : List ℕ) (v : Point) → T (headOk bs) → rootTag bs ≡ emptyMark → Empty 0 ≡ reached (wayIn bs v)
 unfolding wayIn

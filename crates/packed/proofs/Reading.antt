@@ -1,6 +1,6 @@
--- Numbers of two and of four bytes at a place, high byte first, from their bytes; and comparisons turned round.
+-- A number of two bytes at a place, high byte first, from its bytes; and comparisons turned round.
 -- By taking the bytes off the list one at a time. Assumes nothing.
-use mathlib.Core.Path.{_≡_, refl, sym, _∙_, ap}
+use mathlib.Core.Path.{_≡_, refl, sym, ap}
 use mathlib.Core.Bool.{Bool, true, false, not}
 use mathlib.Core.List.{List, _∷_}
 use Prim.Native.Nat.{ℕ, suc, _+_, _*_, _≤_}
@@ -43,13 +43,3 @@ num-two s at h =
     let a : drop at s ≡ getD s at 0 ∷ drop (suc at) s = drop-cons s at 0 (omega arith) in
     let b : drop (suc at) s ≡ getD s (suc at) 0 ∷ drop (suc (suc at)) s = drop-cons s (suc at) 0 (omega arith) in
     rw (a, b, add-one at) (omega arith)
-
-pub num-four : (s : List ℕ) (at : ℕ) → at + 4 ≤ length s → num 4 (drop at s) ≡ num 2 (drop at s) * 65536 + num 2 (drop (at + 2) s)
-unfolding be
-num-four s at h =
-    let a : drop at s ≡ getD s at 0 ∷ drop (suc at) s = drop-cons s at 0 (omega arith) in
-    let e : suc (suc at) ≡ at + 2 = omega arith in
-    let b : drop (suc at) s ≡ getD s (suc at) 0 ∷ drop (at + 2) s = drop-cons s (suc at) 0 (omega arith) ∙ ap (λ (n : ℕ). getD s (suc at) 0 ∷ drop n s) e in
-    let c : drop (at + 2) s ≡ getD s (at + 2) 0 ∷ drop (suc (at + 2)) s = drop-cons s (at + 2) 0 (omega arith) in
-    let d : drop (suc (at + 2)) s ≡ getD s (suc (at + 2)) 0 ∷ drop (suc (suc (at + 2))) s = drop-cons s (suc (at + 2)) 0 (omega arith) in
-    rw (a, b, c, d) (omega arith)

@@ -111,10 +111,10 @@ pub leaves-end : (L : ℕ → List ℕ) (N : ℕ → ℕ) (k p : ℕ) (m : ℕ) 
 unfolding wayAt
 leaves-end L N k p m v e = rw e refl
 
-pub list-inner : (base : ℕ) (starts inner leaves : List ℕ) (k : ℕ) → 0 < k
-    → take (startOf starts (k - 1) - base - (startOf starts k - base)) (drop (startOf starts k - base) inner) ≡ listIn base starts inner leaves k
-list-inner base starts inner leaves zero h = absurd (not-suc-le-zero h)
-list-inner base starts inner leaves (suc j) h = rw (less-one j) refl
+pub list-inner : (starts inner leaves : List ℕ) (k : ℕ) → 0 < k
+    → take (startOf starts (k - 1) - startOf starts k) (drop (startOf starts k) inner) ≡ listIn starts inner leaves k
+list-inner starts inner leaves zero h = absurd (not-suc-le-zero h)
+list-inner starts inner leaves (suc j) h = rw (less-one j) refl
 
 pub size-leaves : (starts leaves : List ℕ) (k : ℕ) → k ≡ 0 → length leaves / 8 ≡ sizeIn starts leaves k
 size-leaves starts leaves k e = rw e refl
@@ -125,21 +125,15 @@ size-inner starts leaves (suc j) n = rw (less-one j) refl
 
 -- ---- what the parts hold
 
-module _ {base : ℕ} {starts inner leaves : List ℕ} where
-  pub cut-less : (k : ℕ) → Cut base k starts inner leaves → Cut base (k - 1) starts inner leaves
-  cut-less k c = record {
-    falling = λ j l. c .falling j (omega arith);
-    above = λ j l. c .above j (omega arith);
-    whole = c .whole;
-    eights = c .eights;
-    few = c .few;
-  }
+module _ {starts inner leaves : List ℕ} where
+  pub cut-less : (k : ℕ) → Cut k starts inner leaves → Cut (k - 1) starts inner leaves
+  cut-less k c = record { falling = λ j l. c .falling j (omega arith); whole = c .whole; eights = c .eights; few = c .few }
 
   -- a list starts no later than the one after it, and all of them before the leaves
-  pub cut-falls : (k : ℕ) → Cut base k starts inner leaves → startOf starts k ≤ startOf starts (k - 1)
+  pub cut-falls : (k : ℕ) → Cut k starts inner leaves → startOf starts k ≤ startOf starts (k - 1)
   cut-falls zero c = omega arith
   cut-falls (suc j) c = rw (less-one j) (c .falling j (omega arith))
 
-  pub cut-in : (k j : ℕ) → Cut base k starts inner leaves → j ≤ k → startOf starts j ≤ base + length inner
+  pub cut-in : (k j : ℕ) → Cut k starts inner leaves → j ≤ k → startOf starts j ≤ length inner
   cut-in k zero c l = c .whole
   cut-in k (suc j) c l = omega (arith, c .falling j l, cut-in k j c (omega arith))

@@ -2,7 +2,7 @@
 -- mirror in force, and each link's tag joins that mirror. Definitions only.
 use mathlib.Core.Path.{_≡_}
 use mathlib.Core.Bool.{Bool, true, false, cond}
-use mathlib.Core.List.{List}
+use mathlib.Core.List.{List, map}
 use Prim.Native.Nat.{ℕ, zero, suc, _+_, _-_, _*_, _/_, _%_, _^_, _≤_, _<_}
 use lib.Dec.{eqb}
 use lib.ListN.{length, take, drop, getD}
@@ -56,24 +56,26 @@ wayAt L N (suc k) p w =
     let to : Reached = if-ok (takenOk (N k) q) on in
     if-ok (recordOk (L (suc k)) p) (cond (eqb (q .code) 0) (Empty 1) to)
 
--- ---- the lists cut from the two parts; `starts` counts from the file's first byte, and `base` is where the inner part starts
+-- ---- the lists cut from the two parts; `starts` counts from the inner part's first byte
 
 abbrev pub startOf : List ℕ → ℕ → ℕ
 startOf starts k = getD starts k 0
 
-abbrev pub listIn : ℕ → List ℕ → List ℕ → List ℕ → ℕ → List ℕ
-listIn base starts inner leaves zero = leaves
-listIn base starts inner leaves (suc k) =
-    take (startOf starts k - base - (startOf starts (suc k) - base)) (drop (startOf starts (suc k) - base) inner)
+-- starts counted from a base, 0 where one lies before that
+abbrev pub within : ℕ → List ℕ → List ℕ
+within base starts = map (λ s. s - base) starts
+
+abbrev pub listIn : List ℕ → List ℕ → List ℕ → ℕ → List ℕ
+listIn starts inner leaves zero = leaves
+listIn starts inner leaves (suc k) = take (startOf starts k - startOf starts (suc k)) (drop (startOf starts (suc k)) inner)
 
 abbrev pub sizeIn : List ℕ → List ℕ → ℕ → ℕ
 sizeIn starts leaves zero = length leaves / 8
 sizeIn starts leaves (suc k) = (startOf starts k - startOf starts (suc k)) / 2
 
 -- the parts hold the lists up to list n
-pub record Cut (base n : ℕ) (starts inner leaves : List ℕ) : Type 0 where
+pub record Cut (n : ℕ) (starts inner leaves : List ℕ) : Type 0 where
   pub falling : (k : ℕ) → k < n → startOf starts (suc k) ≤ startOf starts k
-  pub above : (k : ℕ) → k ≤ n → base ≤ startOf starts k
-  pub whole : startOf starts 0 ≤ base + length inner
+  pub whole : startOf starts 0 ≤ length inner
   pub eights : length leaves % 8 ≡ 0
   pub few : length leaves < 2 ^ 32

@@ -7,16 +7,21 @@ ghost use Prim.Native.Nat.{suc, _+_, _-_, _*_, _%_, _^_, _≤_, _<_};
 ghost use lib.Dec.{T, eqb};
 ghost use lib.ListN.{length, drop, getD};
 ghost use Rattle.paper.specs.Numbers.{num};
-ghost use Rattle.paper.specs.Rooms.{point, depthOk, inside, flip};
+ghost use Rattle.paper.specs.Rooms.{point, flip};
 ghost use Rattle.paper.specs.Leaf.{leafVoxel};
-ghost use Rattle.paper.specs.Outline.{frontOk, lengthOk, fileDepth};
 ghost use Rattle.paper.specs.Store.{leafNo};
-ghost use Rattle.paper.specs.Packed.{packedFront, packedHead, topOf, sizeAt, headOk, startsOf, halves, codesOk, recordOk, linksAt, noLink, leafAt, wayIn};
+ghost use Rattle.paper.specs.Packed.{topOf, sizeAt, headOk, startsOf, halves, codesOk, recordOk, linksAt, noLink, leafAt, wayIn};
 ghost use Rattle.paper.specs.Answers.{outcome, found};
 ghost use Rattle.paper.specs.Calls.{packedOutside, packedVoxelOutcome};
 ghost use Rattle.packed.specs.Header.{Tested, Sized, Opens, shareAt, lastLists};
-ghost use Rattle.packed.specs.Records.{codeAt, linkIs, takenOk};
-ghost use Rattle.packed.specs.Walk.{reached, plus, leafEnd, seenAt, octant, wayAt, startOf, listIn, sizeIn, Cut};
+ghost use Rattle.packed.specs.Records.{linkIs, takenOk};
+ghost use Rattle.packed.specs.Walk.{reached, plus, leafEnd, seenAt, octant, wayAt, startOf, within, listIn, sizeIn, Cut};
+use numbers::be32;
+use numbers::wide;
+use outline::depth;
+use outline::depth_bad;
+use outline::front_bad;
+use outline::length_bad;
 use paper::Found;
 use paper::Refusal;
 
@@ -26,11 +31,6 @@ const FRONT: u8 = 0x21;
 const HEAD: usize = 7;
 
 const EMPTY_MARK: u8 = 8;
-
-// A depth is 2 to 16.
-const LEAST_DEPTH: u32 = 2;
-
-const DEEPEST: u32 = 16;
 
 // The farthest place of a 2-byte pointer.
 const FARTHEST_SHORT: u32 = 8191;
@@ -51,12 +51,6 @@ pub enum Reached {
 
 // ---- numbers, high byte first
 
-fn wide(x: u8) -> u32
-    ensures { λ r. ⌜ (r ≡ x) × (r < 256) ⌝ }
-{
-    x as u32
-}
-
 fn wider(x: u32) -> u64
     ensures { λ r. ⌜ (r ≡ x) × (r < 2 ^ 32) ⌝ }
 {
@@ -73,47 +67,7 @@ fn two(s: &[u8], at: usize) -> u32
     a * 256 + b
 }
 
-// The number of the four bytes at a place.
-fn four(s: &[u8], at: usize) -> u32
-    requires { ⌜ at + 4 ≤ length (now s) ⌝ }
-    ensures { λ r. ⌜ r ≡ num 4 (drop at (now (s .entry))) ⌝ }
-{
-    two(s, at) * 65536 + two(s, at + 2)
-}
-
 // ---- the header
-
-// Refusal 3: the file is empty or has another front byte.
-fn front_bad(file: &[u8]) -> bool
-    ensures { λ r. ⌜ r ≡ not (frontOk packedFront (now (file .entry))) ⌝ }
-{
-    if file.len() == 0 {
-        return true;
-    }
-    file[0] != FRONT
-}
-
-// Refusal 4: under 7 bytes, or the length field is not the slice's length.
-fn length_bad(file: &[u8]) -> bool
-    ensures { λ r. ⌜ r ≡ not (lengthOk packedHead (now (file .entry))) ⌝ }
-{
-    if file.len() < HEAD {
-        return true;
-    }
-    four(file, 1) as usize != file.len()
-}
-
-// Refusal 5: the depth is not 2 to 16.
-fn depth_bad(file: &[u8]) -> bool
-    requires { ⌜ packedHead ≤ length (now file) ⌝ }
-    ensures { λ r. ⌜ r ≡ not (depthOk (fileDepth (now (file .entry)))) ⌝ }
-{
-    let depth = wide(file[5]);
-    if depth < LEAST_DEPTH {
-        return true;
-    }
-    DEEPEST < depth
-}
 
 // Refusal 10: the point is outside.
 fn outside(file: &[u8], x: u32, y: u32, z: u32) -> bool
@@ -137,7 +91,7 @@ fn size(file: &[u8], k: u32) -> u32
     ensures { λ r. ⌜ r ≡ sizeAt (now (file .entry)) k ⌝ }
 {
     let top = wide(file[5]) - 2;
-    four(file, (7 + 4 * (top - k)) as usize)
+    be32(file, (7 + 4 * (top - k)) as usize)
 }
 
 // The bytes of list k.
@@ -282,7 +236,7 @@ pub fn pointer_at(list: &[u8], place: u32, i: u32) -> Pointer
             place: short % 8192,
         };
     }
-    let long = four(list, from);
+    let long = be32(list, from);
     Pointer {
         code: 2,
         tag: long / 536870912,
@@ -312,7 +266,7 @@ pub fn leaf(leaves: &[u8], place: u32) -> u64
     if leaves.len() <= at {
         return 0;
     }
-    wider(four(leaves, at)) * 4294967296 + wider(four(leaves, at + 4))
+    wider(be32(leaves, at)) * 4294967296 + wider(be32(leaves, at + 4))
 }
 
 // ---- the walk
@@ -359,6 +313,29 @@ fn in_leaf(leaves: &[u8], place: u32, mirror: u32, x: u32, y: u32, z: u32, read:
     Reached::Empty(read + 1)
 }
 
+// A start counted from a base, 0 where it lies before that.
+fn past(start: u32, base: u32) -> u32
+    ensures { λ r. ⌜ r ≡ start - base ⌝ }
+{
+    if start < base {
+        return 0;
+    }
+    start - base
+}
+
+// The list starts counted from a base, the inner part's start.
+fn within(base: u32, starts: [u32; 15]) -> [u32; 15]
+    ensures { λ r. ⌜ r ≡ within base starts ⌝ }
+{
+    let mut out = [0u32; 15];
+    let mut k = 0usize;
+    while k < 15 {
+        out[k] = past(starts[k], base);
+        k += 1;
+    }
+    out
+}
+
 // The size of list k, by the list starts and the leaf part.
 fn size_in(starts: [u32; 15], leaves: &[u8], k: u32) -> u32
     requires { ⌜ k < 15 ⌝ }
@@ -377,7 +354,6 @@ fn down(
     inner: &[u8],
     leaves: &[u8],
     starts: [u32; 15],
-    base: u32,
     k: u32,
     place: u32,
     mirror: u32,
@@ -386,15 +362,15 @@ fn down(
     z: u32,
     read: u32,
 ) -> Reached
-    requires { ⌜ Cut base k starts (now inner) (now leaves) ⌝ }
+    requires { ⌜ Cut k starts (now inner) (now leaves) ⌝ }
     requires { ⌜ (k < 15) × (mirror < 8) × (read + k < 16) ⌝ }
-    ensures { λ r. ⌜ r ≡ plus read (wayAt (listIn base starts (now (inner .entry)) (now (leaves .entry))) (sizeIn starts (now (leaves .entry))) k place (seenAt k mirror (point x y z))) ⌝ }
+    ensures { λ r. ⌜ r ≡ plus read (wayAt (listIn starts (now (inner .entry)) (now (leaves .entry))) (sizeIn starts (now (leaves .entry))) k place (seenAt k mirror (point x y z))) ⌝ }
 {
     if k == 0 {
         return in_leaf(leaves, place, mirror, x, y, z, read);
     }
-    let a = (starts[k as usize] - base) as usize;
-    let b = (starts[(k - 1) as usize] - base) as usize;
+    let a = starts[k as usize] as usize;
+    let b = starts[(k - 1) as usize] as usize;
     let list = &inner[a..b];
     if record_bad(list, place) {
         return Reached::Broken;
@@ -410,7 +386,6 @@ fn down(
         inner,
         leaves,
         starts,
-        base,
         k - 1,
         taken.place,
         taken.tag ^ mirror,
@@ -421,8 +396,8 @@ fn down(
     )
 }
 
-// The walk from the root: over the inner part and the leaf part of a file of this depth, with its root's mirror and its list
-// starts.
+// The walk from the root: over the inner part and the leaf part of a file of this depth, with its root's mirror and where its
+// lists start within the inner part.
 pub fn walk(
     depth: u32,
     mirror: u32,
@@ -434,12 +409,10 @@ pub fn walk(
     z: u32,
 ) -> Reached
     requires { ⌜ (2 ≤ depth) × (depth ≤ 16) × (mirror < 8) ⌝ }
-    requires { ⌜ Cut (startOf starts (depth - 2)) (depth - 2) starts (now inner) (now leaves) ⌝ }
-    ensures { λ r. ⌜ r ≡ wayAt (listIn (startOf starts (depth - 2)) starts (now (inner .entry)) (now (leaves .entry))) (sizeIn starts (now (leaves .entry))) (depth - 2) 0 (seenAt (depth - 2) mirror (point x y z)) ⌝ }
+    requires { ⌜ Cut (depth - 2) starts (now inner) (now leaves) ⌝ }
+    ensures { λ r. ⌜ r ≡ wayAt (listIn starts (now (inner .entry)) (now (leaves .entry))) (sizeIn starts (now (leaves .entry))) (depth - 2) 0 (seenAt (depth - 2) mirror (point x y z)) ⌝ }
 {
-    let top = depth - 2;
-    let base = starts[top as usize];
-    down(inner, leaves, starts, base, top, 0, mirror, x, y, z, 0)
+    down(inner, leaves, starts, depth - 2, 0, mirror, x, y, z, 0)
 }
 
 // The walk to a point inside, over the two parts cut from the file; an empty scene reads nothing.
@@ -454,24 +427,26 @@ pub fn way_in(file: &[u8], x: u32, y: u32, z: u32) -> Reached
     let depth = wide(file[5]);
     let mirror = wide(file[6]);
     let begins = starts(file);
-    let a = begins[(depth - 2) as usize] as usize;
+    let base = begins[(depth - 2) as usize];
+    let a = base as usize;
     let b = begins[0] as usize;
     let inner = &file[a..b];
     let leaves = &file[b..];
-    walk(depth, mirror, begins, inner, leaves, x, y, z)
+    let lists = within(base, begins);
+    walk(depth, mirror, lists, inner, leaves, x, y, z)
 }
 
 // Packed voxel: whether a point is solid, with the number of records read; refused by 3, 4, 5, 10, 6.
 pub fn packed_voxel(file: &[u8], x: u32, y: u32, z: u32) -> Found
     ensures { λ r. ⌜ outcome (found r) [] ≡ packedVoxelOutcome (now (file .entry)) (point x y z) ⌝ }
 {
-    if front_bad(file) {
+    if front_bad(file, FRONT) {
         return Found::Refused(Refusal::BadVersion);
     }
-    if length_bad(file) {
+    if length_bad(file, HEAD) {
         return Found::Refused(Refusal::BadLength);
     }
-    if depth_bad(file) {
+    if depth_bad(depth(file)) {
         return Found::Refused(Refusal::BadDepth);
     }
     if outside(file, x, y, z) {

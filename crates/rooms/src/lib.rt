@@ -2,10 +2,11 @@
 // as `paper` defines it. No call asks anything of its caller.
 ghost use mathlib.Core.Path.{_≡_};
 ghost use mathlib.Core.List.{[], _∷_};
-ghost use Rattle.paper.specs.Answers.{outcome, started, seen, occupied, counted, kept as kept-told, written, found, chosen};
-ghost use Rattle.paper.specs.Calls.{newOutcome, voxelOutcome, cellOutcome, boxOutcome, keptOutcome, outlineOutcome, packedVoxelOutcome};
+ghost use Rattle.paper.specs.Answers.{outcome, started, added, seen, occupied, counted, kept as kept-told, written, found, chosen};
+ghost use Rattle.paper.specs.Calls.{newOutcome, addOutcome, voxelOutcome, cellOutcome, boxOutcome, keptOutcome, outlineOutcome, packOutcome, packedVoxelOutcome};
 ghost use Rattle.paper.specs.Detail.{detailOutcome};
 ghost use Rattle.paper.specs.Rooms.{point};
+use paper::Added;
 use paper::Chosen;
 use paper::Counted;
 use paper::Found;
@@ -17,11 +18,23 @@ use paper::Wish;
 use paper::Written;
 use walk::Corner;
 
+// Opening a packed scene, and a question on an opened scene. Their answer and their scene hold a slice, so they are named here
+// and stand in `opened`.
+pub use opened::ask;
+pub use opened::open;
+
 // New store: the words of this capacity zeroed, then word 0 set.
 pub fn new_store(store: &mut [u32], capacity: u32) -> Started
     ensures { λ r. ⌜ outcome (started r) (now (store .exit) ∷ []) ≡ newOutcome capacity (now (store .entry)) ⌝ }
 {
     store::new_store(store, capacity)
+}
+
+// Add: the scene of an outline, its cells merged into those kept.
+pub fn add(store: &mut [u32], file: &[u8]) -> Added
+    ensures { λ r. ⌜ outcome (added r) (now (store .exit) ∷ []) ≡ addOutcome (now (store .entry)) (now (file .entry)) ⌝ }
+{
+    merge::add(store, file)
 }
 
 // Voxel: solid or empty.
@@ -76,6 +89,13 @@ pub fn outline_out(store: &[u32], scene: u32, out: &mut [u8]) -> Written
     ensures { λ r. ⌜ outcome (written r) (now (out .exit) ∷ []) ≡ outlineOutcome (now (store .entry)) scene (now (out .entry)) ⌝ }
 {
     outline_out::outline_out(store, scene, out)
+}
+
+// Pack: a scene as a packed file.
+pub fn pack(store: &[u32], scene: u32, scratch: &mut [u32], out: &mut [u8]) -> Written
+    ensures { λ r. ⌜ outcome (written r) (now (scratch .exit) ∷ now (out .exit) ∷ []) ≡ packOutcome (now (store .entry)) scene (now (scratch .entry)) (now (out .entry)) ⌝ }
+{
+    pack::pack(store, scene, scratch, out)
 }
 
 // Packed voxel: solid or empty, with the number of records read on the way.

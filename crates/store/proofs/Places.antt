@@ -11,7 +11,7 @@ use lib.ListN.{length, take, drop, getD}
 use lib.Seq.{drop-cons, getD-take, getD-drop}
 use Rattle.laws.proofs.Kept.{kept-cell}
 use Rattle.paper.specs.Numbers.{tabulate}
-use Rattle.paper.specs.Store.{heights, used, capacityOf, keptCount, listPlace, cellPlace, keptOf, cellAt, leafNo, blank, listBlank}
+use Rattle.paper.specs.Store.{heights, used, capacityOf, keptCount, cellWords, listPlace, cellPlace, keptOf, cellAt, leafNo, blank, listBlank}
 
 -- ---- room
 
@@ -26,6 +26,19 @@ leaves-fit C k n e l = rw e (omega arith)
 pub cells-fit : (C k n : ℕ) → (k ≡ 0 → ⊥) → k < heights → n ≤ C → cellPlace C k n + 8 * (C - n) ≤ used C
 cells-fit C zero n z h l = absurd (z refl)
 cells-fit C (suc k) n z h l = omega (arith, lists-fit C k (le-of-suc-le-suc h))
+
+-- from cell n's place to cell m's: the words of the cells between
+pub place-in : (C k n : ℕ) → k < heights → n ≤ C → cellPlace C k n ≤ used C
+place-in C zero n h l = omega arith
+place-in C (suc k) n h l = omega (arith, lists-fit C k (le-of-suc-le-suc h))
+
+pub place-rises : (C k n m : ℕ) → n ≤ m → cellPlace C k n ≤ cellPlace C k m
+place-rises C zero n m l = omega arith
+place-rises C (suc k) n m l = omega arith
+
+pub place-between : (C k n m : ℕ) → n ≤ m → cellPlace C k m - cellPlace C k n ≡ cellWords k * (m - n)
+place-between C zero n m l = omega arith
+place-between C (suc k) n m l = omega arith
 
 -- ---- words
 

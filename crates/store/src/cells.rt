@@ -13,7 +13,7 @@ pub const LEAF_WORDS: usize = 2;
 pub const CELL_WORDS: usize = 8;
 
 // A leaf's high word counts so many times: 2^32.
-const HIGH_WORD: u64 = 4294967296;
+pub const HIGH_WORD: u64 = 4294967296;
 
 // Where cell n of list k starts, in a store of capacity c.
 pub fn cell_place(c: u32, k: u32, n: u32) -> usize

@@ -25,7 +25,7 @@ pub const FIRST_LIST: usize = 160;
 const WORDS_PER_UNIT: usize = 114;
 
 // The place of list 0's count; the counts of the other lists follow.
-const FIRST_COUNT: u32 = 2;
+pub const FIRST_COUNT: u32 = 2;
 
 // The header's words that are always zero: their place and how many.
 const ZEROS: usize = 17;

@@ -4,6 +4,8 @@ mod calls; // new store and kept, with their whole outcome
 mod cells; // one kept cell, read
 mod damage; // the whole store's tests
 mod header; // words 0 to 31
+mod keeping; // one more cell, one more scene, and lists cut back
+mod mirrors; // a pointer and a cell, mirrored
 mod pointers; // one pointer, and the eight of a cell
 mod scenes; // words 32 to 159
 
@@ -16,10 +18,18 @@ pub use header::capacity;
 pub use header::header_bad;
 pub use header::kept_count;
 pub use header::scenes_held;
+pub use keeping::counts;
+pub use keeping::cut_back;
+pub use keeping::hold_scene;
+pub use keeping::keep_cell;
+pub use keeping::keep_leaf;
+pub use mirrors::mirrored;
+pub use mirrors::turned;
 pub use pointers::all_absent;
 pub use pointers::any_bad;
 pub use pointers::bad_pointer;
 pub use pointers::cell_number;
+pub use pointers::pointer;
 pub use pointers::tag;
 pub use scenes::depth_bad;
 pub use scenes::scene_bad;

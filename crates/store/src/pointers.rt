@@ -1,13 +1,14 @@
 // Pointers: 0 for none; otherwise the top three bits are a mirror and the low 29 bits the kept cell's number plus 1.
 ghost use mathlib.Core.Path.{_≡_};
 ghost use mathlib.Core.Bool.{not};
+ghost use Prim.Native.Nat.{_+_, _^_, _<_};
 ghost use lib.Dec.{eqb};
 ghost use lib.ListN.{getD};
 ghost use Rattle.paper.specs.Numbers.{allBelow};
-ghost use Rattle.paper.specs.Store.{tagOf, cellNo, badPointer, anyBad, cellUsable};
+ghost use Rattle.paper.specs.Store.{tagOf, cellNo, pointer as pointer-to, badPointer, anyBad, cellUsable};
 
 // The lowest bit of the mirror: 2^29.
-const TAG_STEP: u32 = 536870912;
+pub const TAG_STEP: u32 = 536870912;
 
 // A cell's children.
 const CHILDREN: usize = 8;
@@ -25,6 +26,15 @@ pub fn cell_number(p: u32) -> u32
 {
     let low = p % TAG_STEP;
     if low == 0 { 0 } else { low - 1 }
+}
+
+// The pointer to a kept cell, so mirrored.
+pub fn pointer(mirror: u32, number: u32) -> u32
+    requires { ⌜ mirror < 8 ⌝ }
+    requires { ⌜ number + 1 < 2 ^ 29 ⌝ }
+    ensures { λ r. ⌜ r ≡ pointer-to mirror number ⌝ }
+{
+    mirror * TAG_STEP + (number + 1)
 }
 
 // Whether a pointer is not 0 and names none of `count` kept cells.

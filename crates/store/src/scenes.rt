@@ -33,7 +33,7 @@ pub fn depth_bad(depth: u32) -> bool
 }
 
 // Where scene n's words start.
-fn scene_place(n: u32) -> usize
+pub fn scene_place(n: u32) -> usize
     requires { ⌜ n ≤ mostScenes ⌝ }
     ensures { λ r. ⌜ r ≡ scenePlace n ⌝ }
 {

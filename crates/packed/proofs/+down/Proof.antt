@@ -31,7 +31,7 @@ use Rattle.packed.proofs.+down.{statement}
 use Rattle.packed.proofs.+down.Tie.{close}
 
 abbrev μ-down : Measures 2 down-kinds.ps ℕ
-μ-down κs a = a .1 .1 .1 .1 .0
+μ-down κs a = a .1 .1 .1 .0
 
 abbrev down-at : ℕ → In 2 down-kinds.ps
 down-at t = and 2 down-kinds.ps (is 2 down-kinds.ps μ-down t) down.Pre
@@ -48,7 +48,7 @@ abbrev Start : ℕ → Type 0
 Start t = down-lts.Start (known t) (down-at t) down.Post
 
 abbrev lists : (t : ℕ) → Start t → ℕ → List ℕ
-lists t s = listIn (s .args .base) (s .args .t3) (s .args .inner .now) (s .args .leaves .now)
+lists t s = listIn (s .args .t3) (s .args .inner .now) (s .args .leaves .now)
 
 abbrev sizes : (t : ℕ) → Start t → ℕ → ℕ
 sizes t s = sizeIn (s .args .t3) (s .args .leaves .now)
@@ -66,14 +66,8 @@ down-returns t c =
     let s = c .before .before .before .before in
     c .in-leaf .ensures ∙ ap (plus (s .args .read)) (leaves-end (lists t s) (sizes t s) (s .args .k) (s .args .place) (s .args .mirror) (spot t s) (c .before .if1 .taken))
 
-down-sub-a : (t : ℕ) → down-lts.Need-sub-a (known t) (down-at t) down.Post
-down-sub-a t c = let s = c .before .before .before in omega (arith, s .pre .1 .0 .above (s .args .k) (omega arith))
-
 down-cast-a : (t : ℕ) → down-lts.Need-cast-a (known t) (down-at t) down.Post
 down-cast-a t c = let s = c .before .before .before in omega (arith, cut-in (s .args .k) (s .args .k) (s .pre .1 .0) (omega arith))
-
-down-sub-b-2 : (t : ℕ) → down-lts.Need-sub-b-2 (known t) (down-at t) down.Post
-down-sub-b-2 t c = let s = c .before .before .before in omega (arith, s .pre .1 .0 .above (s .args .k - 1) (omega arith))
 
 down-cast-b-2 : (t : ℕ) → down-lts.Need-cast-b-2 (known t) (down-at t) down.Post
 down-cast-b-2 t c = let s = c .before .before .before in omega (arith, cut-in (s .args .k) (s .args .k - 1) (s .pre .1 .0) (omega arith))
@@ -92,10 +86,10 @@ inner : (t : ℕ) (c : down-lts.Else1 (known t) (down-at t) down.Post) → 0 < c
 inner t c = omega (arith, c .if1 .left)
 
 abbrev cutList : (t : ℕ) → Start t → List ℕ
-cutList t s = take (startOf (s .args .t3) (s .args .k - 1) - s .args .base - (startOf (s .args .t3) (s .args .k) - s .args .base)) (drop (startOf (s .args .t3) (s .args .k) - s .args .base) (s .args .inner .now))
+cutList t s = take (startOf (s .args .t3) (s .args .k - 1) - startOf (s .args .t3) (s .args .k)) (drop (startOf (s .args .t3) (s .args .k)) (s .args .inner .now))
 
 list-is : (t : ℕ) (c : down-lts.Else1 (known t) (down-at t) down.Post) → cutList t (c .before .before .before) ≡ lists t (c .before .before .before) (c .before .before .before .args .k)
-list-is t c = let a = c .before .before .before .args in list-inner (a .base) (a .t3) (a .inner .now) (a .leaves .now) (a .k) (inner t c)
+list-is t c = let a = c .before .before .before .args in list-inner (a .t3) (a .inner .now) (a .leaves .now) (a .k) (inner t c)
 
 down-returns-2 : (t : ℕ) → down-lts.Need-returns-2 (known t) (down-at t) down.Post
 down-returns-2 t c =
@@ -175,4 +169,4 @@ down-down-requires t c κs =
     (omega (arith, inner t (p .before .before .before .before .before), s .pre .0), (cut-less (s .args .k) (s .pre .1 .0), (omega arith, xor8-lt (p .pointer-at .result .tag) (s .args .mirror) (p .pointer-at .ensures .1) (s .pre .1 .1 .1), omega (arith, inner t (p .before .before .before .before .before), s .pre .1 .1))))
 
 pub +down-spec : {M : Type 1} → statement M
-+down-spec = close μ-down λ t. down-lts.spec (known t) (down-at t) down.Post (down-in-leaf-requires t) (down-returns t) (λ c. search needs) (λ c. search needs) (down-sub-a t) (down-cast-a t) (λ c. search needs) (λ c. search needs) (λ c. search needs) (λ c. search needs) (down-sub-b-2 t) (down-cast-b-2 t) (down-sub-list t) (down-part-list-start t) (down-part-list-end t) (λ c κs. search needs) (down-returns-2 t) (λ c. search needs) (λ c κs. search needs) (down-pointer-at-requires t) (λ c. search needs) (down-returns-3 t) (λ c. search needs) (down-size-in-requires t) (λ c κs. search needs) (down-returns-4 t) (λ c. search needs) (λ c. search needs) (down-down-requires t) (down-returns-5 t)
++down-spec = close μ-down λ t. down-lts.spec (known t) (down-at t) down.Post (down-in-leaf-requires t) (down-returns t) (λ c. search needs) (λ c. search needs) (down-cast-a t) (λ c. search needs) (λ c. search needs) (λ c. search needs) (λ c. search needs) (down-cast-b-2 t) (down-sub-list t) (down-part-list-start t) (down-part-list-end t) (λ c κs. search needs) (down-returns-2 t) (λ c. search needs) (λ c κs. search needs) (down-pointer-at-requires t) (λ c. search needs) (down-returns-3 t) (λ c. search needs) (down-size-in-requires t) (λ c κs. search needs) (down-returns-4 t) (λ c. search needs) (λ c. search needs) (down-down-requires t) (down-returns-5 t)

@@ -13,8 +13,8 @@ returns-2 : tie.Need-returns-2
 returns-2 c =
     let a = c .before .before .before .before .before .before .args in
     leaf-words (a .leaves .now) (a .place) (c .before .before .wider .result) (c .wider2 .result)
-    (c .before .before .wider .ensures .0 ∙ c .before .before .before .four .ensures)
-    (c .wider2 .ensures .0 ∙ c .before .four2 .ensures)
+    (c .before .before .wider .ensures .0 ∙ c .before .before .before .be32 .ensures)
+    (c .wider2 .ensures .0 ∙ c .before .be322 .ensures)
 
 pub leaf-spec : {M : Type 1} → statement M
 leaf-spec = tie.close (tie.spec (λ c. search needs) returns (λ c κs. search needs) (λ c κs. search needs) (λ c. search needs) (λ c. search needs) (λ c κs. search needs) (λ c κs. search needs) (λ c. search needs) returns-2)

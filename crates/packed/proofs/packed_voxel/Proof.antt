@@ -1,7 +1,8 @@
 -- `packed::packed_voxel` meets its contract: each test refuses by its number, in document 01's order, and the walk's end is the answer.
 -- By the ways through the question, and the callees' promises. Assumes nothing.
-use mathlib.Core.Path.{_≡_, sym, _∙_}
-use mathlib.Core.Bool.{true, false}
+use mathlib.Core.Path.{_≡_, sym, _∙_, ap}
+use mathlib.Core.Bool.{true, false, not}
+use Prim.Native.Nat.{ℕ}
 use native.Mathlib.Omega.{arith}
 use borrow.Author.Tests.{not-true, not-false}
 use Rattle.paper.specs.Rooms.{Point, point, depthOk}
@@ -26,16 +27,19 @@ front-ok c = not-false (frontOk packedFront (c .before .before .before .args .fi
 length-ok : (c : tie.Else2) → lengthOk packedHead (c .before .before .before .before .before .args .file .now) ≡ true
 length-ok c = not-false (lengthOk packedHead (c .before .before .before .before .before .args .file .now)) (sym (c .before .length-bad .ensures) ∙ c .if2 .left)
 
-depth-ok : (c : tie.Else3) → depthOk (fileDepth (c .before .before .before .before .before .before .before .args .file .now)) ≡ true
-depth-ok c = not-false (depthOk (fileDepth (c .before .before .before .before .before .before .before .args .file .now))) (sym (c .before .depth-bad .ensures) ∙ c .if3 .left)
+depth-tested : (c : tie.After-depth-bad) → not (depthOk (fileDepth (c .before .before .before .before .before .before .before .args .file .now))) ≡ c .depth-bad .result
+depth-tested c = ap (λ (D : ℕ). not (depthOk D)) (sym (c .before .depth .ensures)) ∙ sym (c .depth-bad .ensures)
 
-inside-ok : (c : tie.Else4) → packedOutside (c .before .before .before .before .before .before .before .before .before .args .file .now) (spot (c .before .before .before .before .before .before .before .before .before)) ≡ false
+depth-ok : (c : tie.Else3) → depthOk (fileDepth (c .before .before .before .before .before .before .before .before .args .file .now)) ≡ true
+depth-ok c = not-false (depthOk (fileDepth (c .before .before .before .before .before .before .before .before .args .file .now))) (depth-tested (c .before) ∙ c .if3 .left)
+
+inside-ok : (c : tie.Else4) → packedOutside (c .before .before .before .before .before .before .before .before .before .before .args .file .now) (spot (c .before .before .before .before .before .before .before .before .before .before)) ≡ false
 inside-ok c = sym (c .before .outside .ensures) ∙ c .if4 .left
 
-is-tested : (c : tie.Else3) → Tested (c .before .before .before .before .before .before .before .args .file .now)
+is-tested : (c : tie.Else3) → Tested (c .before .before .before .before .before .before .before .before .args .file .now)
 is-tested c =
-    let s = c .before .before .before .before .before .before .before in
-    tested (s .args .file .now) (λ i. omega (arith, c .before .before .before .before .before .before .shared-slice-known .given i)) (length-ok (c .before .before)) (depth-ok c)
+    let s = c .before .before .before .before .before .before .before .before in
+    tested (s .args .file .now) (λ i. omega (arith, c .before .before .before .before .before .before .before .shared-slice-known .given i)) (length-ok (c .before .before .before)) (depth-ok c)
 
 returns : tie.Need-returns
 returns c =
@@ -48,15 +52,15 @@ returns-2 c =
     let s = e .before .before .before in
     bad-length (s .args .file .now) (spot s) (front-ok e) (not-true (lengthOk packedHead (s .args .file .now)) (sym (c .before .length-bad .ensures) ∙ c .if2 .taken))
 
-depth-bad-requires : tie.Need-depth-bad-requires
-depth-bad-requires c κs = length-long (c .before .before .before .before .before .args .file .now) (length-ok c)
+depth-requires : tie.Need-depth-requires
+depth-requires c κs = omega (arith, length-long (c .before .before .before .before .before .args .file .now) (length-ok c))
 
 returns-3 : tie.Need-returns-3
 returns-3 c =
-    let l = c .before .before in
+    let l = c .before .before .before in
     let e = l .before .before in
     let s = e .before .before .before in
-    bad-depth (s .args .file .now) (spot s) (front-ok e) (length-ok l) (not-true (depthOk (fileDepth (s .args .file .now))) (sym (c .before .depth-bad .ensures) ∙ c .if3 .taken))
+    bad-depth (s .args .file .now) (spot s) (front-ok e) (length-ok l) (not-true (depthOk (fileDepth (s .args .file .now))) (depth-tested (c .before) ∙ c .if3 .taken))
 
 outside-requires : tie.Need-outside-requires
 outside-requires c κs = is-tested c
@@ -64,7 +68,7 @@ outside-requires c κs = is-tested c
 returns-4 : tie.Need-returns-4
 returns-4 c =
     let d = c .before .before in
-    let l = d .before .before in
+    let l = d .before .before .before in
     let e = l .before .before in
     let s = e .before .before .before in
     far-out (s .args .file .now) (spot s) (front-ok e) (length-ok l) (depth-ok d) (sym (c .before .outside .ensures) ∙ c .if4 .taken)
@@ -76,7 +80,7 @@ returns-5 : tie.Need-returns-5
 returns-5 c =
     let o = c .before .before in
     let d = o .before .before in
-    let l = d .before .before in
+    let l = d .before .before .before in
     let e = l .before .before in
     let s = e .before .before .before in
     bad-head (s .args .file .now) (spot s) (front-ok e) (length-ok l) (depth-ok d) (inside-ok o) (not-true (headOk (s .args .file .now)) (sym (c .before .head-bad .ensures) ∙ c .if5 .taken))
@@ -84,14 +88,14 @@ returns-5 c =
 way-in-requires : tie.Need-way-in-requires
 way-in-requires c κs =
     let o = c .before .before in
-    let s = o .before .before .before .before .before .before .before .before .before in
+    let s = o .before .before .before .before .before .before .before .before .before .before in
     (record { tested = is-tested (o .before .before); head = true-T (not-false (headOk (s .args .file .now)) (sym (c .before .head-bad .ensures) ∙ c .if5 .left)) }, inside-ok o)
 
 returns-6 : tie.Need-returns-6
 returns-6 c =
     let o = c .before .before .before .before .before in
     let d = o .before .before in
-    let l = d .before .before in
+    let l = d .before .before .before in
     let e = l .before .before in
     let s = e .before .before .before in
     walked (s .args .file .now) (spot s) (front-ok e) (length-ok l) (depth-ok d) (inside-ok o) Broken (sym (c .enum-told .given .1) ∙ c .before .before .way-in .ensures)
@@ -100,7 +104,7 @@ returns-7 : tie.Need-returns-7
 returns-7 c =
     let o = c .before .before .before .before .before .before in
     let d = o .before .before in
-    let l = d .before .before in
+    let l = d .before .before .before in
     let e = l .before .before in
     let s = e .before .before .before in
     walked (s .args .file .now) (spot s) (front-ok e) (length-ok l) (depth-ok d) (inside-ok o) (Solid (c .before .way .given .0 .0))
@@ -110,11 +114,11 @@ returns-8 : tie.Need-returns-8
 returns-8 c =
     let o = c .before .before .before .before .before .before in
     let d = o .before .before in
-    let l = d .before .before in
+    let l = d .before .before .before in
     let e = l .before .before in
     let s = e .before .before .before in
     walked (s .args .file .now) (spot s) (front-ok e) (length-ok l) (depth-ok d) (inside-ok o) (Empty (c .before .way2 .given .0 .0))
     (sym (c .before .way2 .given .1) ∙ c .before .before .before .way-in .ensures)
 
 pub packed-voxel-spec : {M : Type 1} → statement M
-packed-voxel-spec = tie.close (tie.spec (λ c κs. search needs) returns (λ c κs. search needs) returns-2 depth-bad-requires returns-3 outside-requires returns-4 head-bad-requires returns-5 way-in-requires (λ c. search needs) (λ c. search needs) (λ c. search needs) returns-6 returns-7 returns-8)
+packed-voxel-spec = tie.close (tie.spec (λ c κs. search needs) returns (λ c κs. search needs) returns-2 depth-requires (λ c κs. search needs) returns-3 outside-requires returns-4 head-bad-requires returns-5 way-in-requires (λ c. search needs) (λ c. search needs) (λ c. search needs) returns-6 returns-7 returns-8)

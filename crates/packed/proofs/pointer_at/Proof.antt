@@ -64,17 +64,17 @@ code-two c =
     let not3 : n % 4 ≡ 3 → ⊥ = λ e. codes-at 8 (headerAt (s .args .list .now) (s .args .place)) (s .args .i) (s .pre .1) (good s .codes) (sym (code-is h) ∙ e) in
     omega (arith, m, not3, c .if2 .left, c .before .if1 .left)
 
-four-requires : tie.Need-four-requires
-four-requires c κs = omega (arith, room (c .before .before), code-two c)
+be32-requires : tie.Need-be32-requires
+be32-requires c κs = omega (arith, room (c .before .before), code-two c)
 
 returns-3 : tie.Need-returns-3
 returns-3 c =
     let h = c .before .before .before in
     let a = h .before .before .before .args in (
-      pointer-long (a .list .now) (a .place) (a .i) (h .before .before .before .pre .1) (c .four .result) (sym (code-is h) ∙ code-two (c .before))
-          (c .four .ensures ∙ ap (λ (n : ℕ). num 4 (drop (2 * a .place + 2 * n) (a .list .now))) (halves-is h)),
+      pointer-long (a .list .now) (a .place) (a .i) (h .before .before .before .pre .1) (c .be32 .result) (sym (code-is h) ∙ code-two (c .before))
+          (c .be32 .ensures ∙ ap (λ (n : ℕ). num 4 (drop (2 * a .place + 2 * n) (a .list .now))) (halves-is h)),
       omega arith,
     )
 
 pub pointer-at-spec : {M : Type 1} → statement M
-pointer-at-spec = tie.close (tie.spec (λ c. search needs) two-requires (λ c. search needs) (λ c. search needs) (λ c κs. search needs) (λ c. search needs) (λ c. search needs) (λ c. search needs) returns two-requires-2 returns-2 four-requires returns-3)
+pointer-at-spec = tie.close (tie.spec (λ c. search needs) two-requires (λ c. search needs) (λ c. search needs) (λ c κs. search needs) (λ c. search needs) (λ c. search needs) (λ c. search needs) returns two-requires-2 returns-2 be32-requires returns-3)

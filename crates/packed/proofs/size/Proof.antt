@@ -13,7 +13,7 @@ returns : tie.Need-returns
 unfolding sizeAt
 returns c =
     let a = c .before .before .before .before .args in
-    c .four .ensures ∙ ap (λ (D : ℕ). num 4 (drop (7 + 4 * (D - 2 - a .k)) (a .file .now))) (c .before .wide .ensures .0)
+    c .be32 .ensures ∙ ap (λ (D : ℕ). num 4 (drop (7 + 4 * (D - 2 - a .k)) (a .file .now))) (c .before .wide .ensures .0)
 
 pub size-spec : {M : Type 1} → statement M
 size-spec = tie.close (tie.spec (λ c. search needs) (λ c κs. search needs) (λ c. search needs) (λ c. search needs) (λ c. search needs) (λ c. search needs) (λ c. search needs) (λ c κs. search needs) returns)

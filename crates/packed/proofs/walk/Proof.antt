@@ -10,4 +10,4 @@ returns : tie.Need-returns
 returns c = c .down .ensures ∙ plus-none _
 
 pub walk-spec : {M : Type 1} → statement M
-walk-spec = tie.close (tie.spec (λ c. search needs) (λ c. search needs) (λ c. search needs) (λ c. search needs) (λ c κs. search needs) returns)
+walk-spec = tie.close (tie.spec (λ c. search needs) (λ c κs. search needs) returns)

@@ -1,5 +1,5 @@
 -- `packed::way_in` meets its contract: an empty scene reads nothing; else the parts cut at the starts hold the file's lists.
--- By `parts-way`, at the depth, the mirror and the starts that the code reads. Assumes nothing.
+-- By `parts-way`, at the depth, the mirror and the starts that the code reads, counted from the inner part. Assumes nothing.
 use mathlib.Core.Path.{_∙_}
 use Prim.Native.Nat.{ℕ, _-_, _≤_}
 use native.Mathlib.Omega.{arith}
@@ -55,28 +55,29 @@ part-leaves-start c = omega (arith, cuts (c .before) .last)
 
 walk-requires : tie.Need-walk-requires
 walk-requires c κs =
-    let f = c .before .before in
+    let f = c .before .before .before in
     let s = f .before .before .before .before .before .before .before .before in
     let bs = s .args .file .now in
     let t = s .pre .0 .tested in
     let n = f .before .before .before .before .before .if1 .left in
     let D = f .before .before .before .wide in (
       (omega (arith, D .ensures .0, t .deep), omega (arith, D .ensures .0, t .flat), omega (arith, f .before .wide2 .ensures .0, root-mirror bs (s .pre .0 .head) n)),
-      parts-cut bs (t .deep) (t .flat) n (sizes-sum bs (s .pre .0 .head) n) (D .result) (f .starts .result) (D .ensures .0) (f .starts .ensures) (t .short),
+      parts-cut bs (t .deep) (t .flat) n (sizes-sum bs (s .pre .0 .head) n) (D .result) (f .starts .result) (D .ensures .0) (f .starts .ensures) (c .within .result) (c .within .ensures) (t .short),
     )
 
 returns-2 : tie.Need-returns-2
 returns-2 c =
-    let f = c .before .before .before in
+    let f = c .before .before .before .before in
     let s = f .before .before .before .before .before .before .before .before in
     let bs = s .args .file .now in
     let t = s .pre .0 .tested in
     let n = f .before .before .before .before .before .if1 .left in
     let D = f .before .before .before .wide in
     let m = f .before .wide2 in
+    let b = c .before .within in
     c .walk .ensures
-    ∙ parts-way bs (t .deep) (t .flat) n (sizes-sum bs (s .pre .0 .head) n) (D .result) (f .starts .result) (D .ensures .0) (f .starts .ensures)
+    ∙ parts-way bs (t .deep) (t .flat) n (sizes-sum bs (s .pre .0 .head) n) (D .result) (f .starts .result) (D .ensures .0) (f .starts .ensures) (b .result) (b .ensures)
     (m .result) (point (s .args .x) (s .args .y) (s .args .z)) (m .ensures .0) (s .pre .0 .head) (s .pre .1)
 
 pub way-in-spec : {M : Type 1} → statement M
-way-in-spec = tie.close (tie.spec (λ c. search needs) returns (λ c. search needs) (λ c κs. search needs) (λ c. search needs) (λ c κs. search needs) (λ c κs. search needs) (λ c. search needs) (λ c. search needs) (λ c. search needs) (λ c. search needs) (λ c. search needs) (λ c. search needs) (λ c. search needs) sub-inner part-inner-start part-inner-end sub-leaves part-leaves-start (λ c. search needs) walk-requires returns-2)
+way-in-spec = tie.close (tie.spec (λ c. search needs) returns (λ c. search needs) (λ c κs. search needs) (λ c. search needs) (λ c κs. search needs) (λ c κs. search needs) (λ c. search needs) (λ c. search needs) (λ c. search needs) (λ c. search needs) (λ c. search needs) (λ c. search needs) (λ c. search needs) sub-inner part-inner-start part-inner-end sub-leaves part-leaves-start (λ c. search needs) (λ c κs. search needs) walk-requires returns-2)

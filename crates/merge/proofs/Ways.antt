@@ -1,0 +1,119 @@
+-- The clauses of seeking and taking as the code comes to them: a cell found, kept or refused; a leaf's record, a cell's, and the children that are
+-- left. By the value of each test on the way, at which the definitions compute. Assumes nothing.
+use mathlib.Core.Path.{_≡_, refl, sym, ap₂, _∙_}
+use mathlib.Core.Bool.{Bool, true, false, not}
+use mathlib.Core.List.{List}
+use mathlib.Core.Option.{Option, some}
+use mathlib.Core.Option as O
+use Prim.Native.Nat.{ℕ, zero, suc, _+_, _-_, _/_, _%_, _^_, _<_, _≤_}
+use native.Mathlib.Numerals.{sub-one}
+use native.Mathlib.Omega.{arith}
+use native.Mathlib.Decide.{decLt}
+use lib.Dec.{T, eqb, leb, ltb, leb→le}
+use lib.ListN.{getD, set, drop, replicate}
+use borrow.Author.Tests.{eq-eqb, ne-eqb, lt-ltb, le-ltb, le-leb, lt-leb, ltb-true, ltb-false, not-true, not-false}
+use Rattle.paper.specs.Numbers.{num}
+use Rattle.paper.specs.Leaf.{mirrorLeaf}
+use Rattle.paper.specs.Store.{Cell, cellsAt, pointer, mostCapacity, heights, capacityOf, keptCount, keptOf, headerOk}
+use Rattle.laws.proofs.Tests.{and-right}
+use Rattle.laws.proofs.Undamaged.{Headed, headed}
+use Rattle.paper.specs.Match.{matches, find, leafCell}
+use Rattle.laws.proofs.Masks.{maskFor, maskMatch}
+use Rattle.store.specs.Keeping.{keepIn}
+use Rattle.merge.specs.declared.keep.Placed.the-variants as placed
+use Rattle.merge.specs.declared.record.Taken.the-variants.{At, Full}
+use Rattle.merge.specs.Seeking.{placing, keptWith, foundOr, seekLeaf, seekCell}
+use Rattle.merge.specs.Taking.{Taking, taking, endingAt, thenTake, takeChildren, takeRecord}
+
+-- ---- keeping, and seeking
+
+-- at least so many are kept as there may be: no room
+pub room-test : (n C : ℕ) → leb C n ≡ not (ltb n C)
+room-test n C = go (decLt n C)
+  where
+    go : Dec (n < C) → leb C n ≡ not (ltb n C)
+    go (yes h) = rw (lt-ltb n C h, lt-leb C n h)
+    go (no g) = rw (le-ltb n C (omega arith), le-leb C n (omega arith))
+
+pub no-room : (n C : ℕ) (b : Bool) → b ≡ not (ltb n C) → b ≡ true → C ≤ n
+no-room n C b e t = ltb-false n C (not-true (ltb n C) (sym e ∙ t))
+
+pub some-room : (n C : ℕ) (b : Bool) → b ≡ not (ltb n C) → b ≡ false → n < C
+some-room n C b e t = ltb-true n C (not-false (ltb n C) (sym e ∙ t))
+
+module _ (mask k : ℕ) (c : Cell) (ws : List ℕ) where
+  pub kept-full : capacityOf ws ≤ keptCount ws k → keptWith mask k c ws ≡ placing placed.Full ws
+  unfolding keptWith
+  kept-full h = rw (le-ltb (keptCount ws k) (capacityOf ws) h)
+
+  pub kept-next : keptCount ws k < capacityOf ws → keptWith mask k c ws ≡ placing (placed.At (pointer 0 (keptCount ws k)) mask) (keepIn k c ws)
+  unfolding keptWith
+  kept-next h = rw (lt-ltb (keptCount ws k) (capacityOf ws) h)
+
+  -- found, as the search says
+  pub found-at : (o : Option ℕ) (p : ℕ) → o ≡ some p → foundOr o mask k c ws ≡ placing (placed.At p mask) ws
+  unfolding foundOr
+  found-at o p e = rw e
+
+  pub found-nowhere : (o : Option ℕ) → o ≡ O.none → foundOr o mask k c ws ≡ keptWith mask k c ws
+  unfolding foundOr
+  found-nowhere o e = rw e
+
+-- by what the search and the mask came to
+pub leaf-by : (n : ℕ) (ws : List ℕ) (o : Option ℕ) (mask : ℕ) → o ≡ find (λ b t. matches (keptOf ws) 0 (leafCell n) b t) (cellsAt (keptOf ws) 0) 0
+    → mask ≡ maskFor (λ t. eqb n (mirrorLeaf t n)) → foundOr o mask 0 (leafCell n) ws ≡ seekLeaf n ws
+unfolding seekLeaf
+leaf-by n ws o mask e f = ap₂ (λ (x : Option ℕ) (m : ℕ). foundOr x m 0 (leafCell n) ws) e f
+
+pub cell-by : (k : ℕ) (c : Cell) (ms ws : List ℕ) (o : Option ℕ) (mask : ℕ) → o ≡ find (maskMatch ms c) (cellsAt (keptOf ws) k) 0
+    → mask ≡ maskFor (maskMatch ms c c) → foundOr o mask k c ws ≡ seekCell k c ms ws
+unfolding seekCell
+cell-by k c ms ws o mask e f = ap₂ (λ (x : Option ℕ) (m : ℕ). foundOr x m k c ws) e f
+
+-- ---- the children that are left, each taken by f
+
+module _ (f : ℕ → List ℕ → Taking) (k : ℕ) where
+  pub children-none : (n m at : ℕ) (c ms ws : List ℕ) → n ≡ 0 → takeChildren f k n m at c ms ws ≡ endingAt at (seekCell k c ms ws)
+  unfolding takeChildren
+  children-none n m at c ms ws e = rw e
+
+  pub children-skip : (n m at : ℕ) (c ms ws : List ℕ) → (n ≡ 0 → ⊥) → m % 2 ≡ 0 → takeChildren f k n m at c ms ws ≡ takeChildren f k (n - 1) (m / 2) at c ms ws
+  unfolding takeChildren
+  children-skip zero m at c ms ws z e = absurd (z refl)
+  children-skip (suc n) m at c ms ws z e = rw (sub-one (suc n), ne-eqb (m % 2) 1 (λ o. omega arith))
+
+  pub children-full : (n m at : ℕ) (c ms ws u : List ℕ) → (n ≡ 0 → ⊥) → (m % 2 ≡ 0 → ⊥) → f at ws ≡ taking Full u → takeChildren f k n m at c ms ws ≡ taking Full u
+  unfolding takeChildren thenTake
+  children-full zero m at c ms ws u z e b = absurd (z refl)
+  children-full (suc n) m at c ms ws u z e b = rw (eq-eqb (m % 2) 1 (omega arith), b)
+
+  pub children-next : (n m at next p s : ℕ) (c ms ws u : List ℕ) → (n ≡ 0 → ⊥) → (m % 2 ≡ 0 → ⊥) → f at ws ≡ taking (At next p s) u
+      → takeChildren f k n m at c ms ws ≡ takeChildren f k (n - 1) (m / 2) next (set c (8 - n) p) (set ms (8 - n) s) u
+  unfolding takeChildren thenTake
+  children-next zero m at next p s c ms ws u z e b = absurd (z refl)
+  children-next (suc n) m at next p s c ms ws u z e b =
+      let q : 8 - suc n ≡ 7 - n = omega arith in
+      rw (sub-one (suc n), eq-eqb (m % 2) 1 (omega arith), b, q)
+
+-- ---- a record of height h, with h - 2 = k + 1 for an inner cell
+
+module _ (file : List ℕ) (h at : ℕ) (ws : List ℕ) where
+  pub record-leaf : h ≡ 2 → takeRecord file (h - 2) at ws ≡ endingAt (at + 8) (seekLeaf (num 8 (drop at file)) ws)
+  unfolding takeRecord
+  record-leaf e = rw e
+
+  pub record-inner : 3 ≤ h
+      → takeRecord file (h - 2) at ws ≡ takeChildren (takeRecord file (h - 1 - 2)) (h - 1 - 1) 8 (getD file at 0) (at + 1) (replicate 8 0) (replicate 8 0) ws
+  unfolding takeRecord
+  record-inner l =
+      let e : h - 2 ≡ suc (h - 1 - 2) = omega arith in
+      let g : h - 1 - 1 ≡ suc (h - 1 - 2) = omega arith in
+      rw (e, g)
+
+-- ---- the next number of a list fits a pointer
+
+pub next-small : (ws : List ℕ) (k n : ℕ) → T (headerOk ws) → k < heights → n ≡ keptCount ws k → n + 1 < 2 ^ 29
+next-small ws k n t hk e =
+    let h : Headed ws = headed ws t in
+    let C : ℕ = capacityOf ws in
+    omega (arith, h .few k hk, leb→le C mostCapacity (and-right (leb 1 C) (leb C mostCapacity) (h .capacity)))

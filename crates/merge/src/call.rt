@@ -1,0 +1,95 @@
+// The call: a file's scene added to a store, or refused with the store as it was.
+ghost use mathlib.Core.Path.{_≡_};
+ghost use mathlib.Core.List.{[], _∷_};
+ghost use Prim.Native.Nat.{_≤_, _<_};
+ghost use lib.Dec.{T};
+ghost use Rattle.paper.specs.Store.{mostScenes, scenesHeld, headerOk, storeOk};
+ghost use Rattle.paper.specs.Answers.{numberOf, outcome, added};
+ghost use Rattle.paper.specs.Order.{firstOf};
+ghost use Rattle.paper.specs.Calls.{outlineOrder, addOutcome};
+ghost use Rattle.merge.specs.Taking.{taking, takeRoot};
+use crate::record::Taken;
+use crate::record::take_record;
+use outline::depth;
+use outline::refusal;
+use paper::Added;
+use paper::Refusal;
+use store::counts;
+use store::cut_back;
+use store::hold_scene;
+use store::scenes_held;
+use store::store_bad;
+
+// The bytes before the root's record.
+const HEAD: usize = 6;
+
+// At most 64 scenes are held.
+const MOST_SCENES: u32 = 64;
+
+// The refusal of a file by itself, 3 to 6.
+fn file_refusal(number: u32) -> Refusal
+    requires { ⌜ (3 ≤ number) × (number ≤ 6) ⌝ }
+    ensures { λ r. ⌜ numberOf r ≡ number ⌝ }
+{
+    if number == 3 {
+        return Refusal::BadVersion;
+    }
+    if number == 4 {
+        return Refusal::BadLength;
+    }
+    if number == 5 {
+        return Refusal::BadDepth;
+    }
+    Refusal::BrokenRules
+}
+
+// The root's record, or none for an empty scene.
+fn take_root(file: &[u8], store: &mut [u32]) -> Taken
+    requires { ⌜ firstOf (outlineOrder (now file)) ≡ 0 ⌝ }
+    requires { ⌜ T (headerOk (now store)) ⌝ }
+    ensures { λ r. ⌜ taking r (now (store .exit)) ≡ takeRoot (now (file .entry)) (now (store .entry)) ⌝ }
+{
+    if file.len() == HEAD {
+        return Taken::At(HEAD, 0, 0);
+    }
+    take_record(file, store, HEAD, depth(file))
+}
+
+// The scene of a file that breaks no rule, in a store that can hold one more: its cells, then its two words. Where a
+// height is full the lists are cut back.
+fn take_scene(file: &[u8], store: &mut [u32]) -> Added
+    requires { ⌜ firstOf (outlineOrder (now file)) ≡ 0 ⌝ }
+    requires { ⌜ T (storeOk (now store)) ⌝ }
+    requires { ⌜ scenesHeld (now store) < mostScenes ⌝ }
+    ensures { λ r. ⌜ outcome (added r) (now (store .exit) ∷ []) ≡ addOutcome (now (store .entry)) (now (file .entry)) ⌝ }
+{
+    let number = scenes_held(store);
+    let before = counts(store);
+    match take_root(file, store) {
+        Taken::Full => {
+            cut_back(store, before);
+            Added::Refused(Refusal::CellsFull)
+        }
+        Taken::At(_, root, _) => {
+            hold_scene(store, depth(file), root);
+            Added::Scene(number)
+        }
+    }
+}
+
+// Add: the scene's number; refused by 2, 3, 4, 5, 6, 7, 8 in this order.
+pub fn add(store: &mut [u32], file: &[u8]) -> Added
+    ensures { λ r. ⌜ outcome (added r) (now (store .exit) ∷ []) ≡ addOutcome (now (store .entry)) (now (file .entry)) ⌝ }
+{
+    if store_bad(store) {
+        return Added::Refused(Refusal::DamagedStore);
+    }
+    let broken = refusal(file);
+    if broken != 0 {
+        return Added::Refused(file_refusal(broken));
+    }
+    if MOST_SCENES <= scenes_held(store) {
+        return Added::Refused(Refusal::ScenesFull);
+    }
+    take_scene(file, store)
+}

@@ -1,0 +1,184 @@
+-- The ways through an opening and a question on bytes held beside numbers, in the code's words: the refusals 3, 4, 5, 6 in their order, what an
+-- opening reads and holds, and when bytes don't open to numbers. By the value of each test in turn. Assumes nothing.
+use mathlib.Core.Path.{_≡_, refl, sym, _∙_, ap, ap₂}
+use mathlib.Core.Bool.{Bool, true, false, not, cond, _&&_}
+use mathlib.Core.List.{List, [], _∷_, map}
+use Prim.Native.Nat.{ℕ, _+_, _<_, _≤_}
+use native.Mathlib.Nat.{suc-ne-zero}
+use native.Mathlib.Numerals.{add-one}
+use borrow.Author.Tests.{eq-eqb, ne-eqb, eqb-true, eqb-false}
+use lib.Dec.{T, eqb, leb}
+use lib.ListN.{length, drop, getD, replicate, length-replicate, drop-of-length-le}
+use lib.Seq.{drop-cons}
+use Rattle.paper.specs.Numbers.{sameList, tabulate}
+use Rattle.paper.specs.Rooms.{Point, depthOk}
+use Rattle.paper.specs.Outline.{fileDepth, frontOk, lengthOk}
+use Rattle.paper.specs.Store.{heights}
+use Rattle.paper.specs.Packed.{packedFront, packedHead, isEmpty, topOf, startAt, headOk, startsOf}
+use Rattle.paper.specs.Answers.{Told, Outcome, told, outcome, found}
+use Rattle.paper.specs.Order.{when, firstOf, settled}
+use Rattle.paper.specs.Calls.{openOrder, openOutcome, opensTo, packedVoxelOrder, packedValues, askOutcome}
+use Rattle.paper.specs.Runs.{Bytes}
+use Rattle.paper.specs.declared.Refusal.the-variants.{BrokenRules}
+use Rattle.paper.specs.declared.Found.the-variants.{Refused}
+use Rattle.laws.proofs.Tests.{T-true}
+use Rattle.laws.proofs.Lists.{length-tabulate}
+use Rattle.laws.proofs.Refusals.{settled-accepted, settled-refused}
+use Rattle.packed.specs.Header.{Opens}
+use Rattle.packed.proofs.Ways.{tested}
+use Rattle.opened.specs.declared.Header.{Header}
+use Rattle.opened.specs.Opens.{toldBy, openTold, partOf}
+
+-- ---- two lists, from place k on
+
+-- nothing before place k differs
+pub same-next : (a b : List ℕ) (k : ℕ) → k < length a → k < length b → getD a k 0 ≡ getD b k 0
+    → sameList (drop k a) (drop k b) ≡ sameList (drop (k + 1) a) (drop (k + 1) b)
+unfolding sameList
+same-next a b k ha hb e = rw (drop-cons a k 0 ha, drop-cons b k 0 hb, eq-eqb (getD a k 0) (getD b k 0) e, add-one k) refl
+
+pub same-not : (a b : List ℕ) (k : ℕ) → k < length a → k < length b → (getD a k 0 ≡ getD b k 0 → ⊥) → sameList (drop k a) (drop k b) ≡ false
+unfolding sameList
+same-not a b k ha hb n = rw (drop-cons a k 0 ha, drop-cons b k 0 hb, ne-eqb (getD a k 0) (getD b k 0) n) refl
+
+pub same-end : (a b : List ℕ) (k : ℕ) → length a ≤ k → length b ≤ k → sameList (drop k a) (drop k b) ≡ true
+unfolding sameList
+same-end a b k ha hb = rw (drop-of-length-le a {i = k} ha, drop-of-length-le b {i = k} hb) refl
+
+-- ---- the refusals of an opening
+
+module _ (file : List ℕ) where
+  -- the first test that passes, each law under the tests before its own
+  pub refused-by-3 : not (frontOk packedFront file) ≡ true → firstOf (openOrder file) ≡ 3
+  unfolding firstOf
+  refused-by-3 e = rw e
+
+  module _ (three : not (frontOk packedFront file) ≡ false) where
+    pub refused-by-4 : not (lengthOk packedHead file) ≡ true → firstOf (openOrder file) ≡ 4
+    unfolding firstOf
+    refused-by-4 e = rw (three, e)
+
+    module _ (four : not (lengthOk packedHead file) ≡ false) where
+      pub refused-by-5 : not (depthOk (fileDepth file)) ≡ true → firstOf (openOrder file) ≡ 5
+      unfolding firstOf
+      refused-by-5 e = rw (three, four, e)
+
+      module _ (five : not (depthOk (fileDepth file)) ≡ false) where
+        pub refused-by-6 : not (headOk file) ≡ true → firstOf (openOrder file) ≡ 6
+        unfolding firstOf
+        refused-by-6 e = rw (three, four, five, e)
+
+        pub accepted : not (headOk file) ≡ false → firstOf (openOrder file) ≡ 0
+        unfolding firstOf
+        accepted e = rw (three, four, five, e)
+
+-- refused by none
+abbrev by-tests : Bool → Bool → Bool → Bool → ℕ
+by-tests a b c d = firstOf (when (not a) 3 ∷ when (not b) 4 ∷ when (not c) 5 ∷ when (not d) 6 ∷ [])
+
+four-pass : (a b c d : Bool) → by-tests a b c d ≡ 0 → T b × T c × T d
+unfolding firstOf
+four-pass false b c d e = absurd (suc-ne-zero 2 e)
+four-pass true false c d e = absurd (suc-ne-zero 3 e)
+four-pass true true false d e = absurd (suc-ne-zero 4 e)
+four-pass true true true false e = absurd (suc-ne-zero 5 e)
+four-pass true true true true e = (tt, tt, tt)
+
+pub opens : (file : List ℕ) → Bytes file → firstOf (openOrder file) ≡ 0 → Opens file
+opens file bytes e =
+    let p = four-pass (frontOk packedFront file) (lengthOk packedHead file) (depthOk (fileDepth file)) (headOk file) e in
+    record { tested = tested file bytes (T-true {b = lengthOk packedHead file} (p .0)) (T-true {b = depthOk (fileDepth file)} (p .1)); head = p .2 }
+
+-- ---- what an opening reads and holds
+
+-- there is a start for each height
+starts-length : (file : List ℕ) → length (startsOf file) ≡ heights
+unfolding startsOf
+starts-length file = go (isEmpty file)
+  where
+    table : List ℕ
+    table = tabulate 0 heights (λ k. cond (leb k (topOf file)) (startAt file k) 0)
+
+    go : (b : Bool) → length (cond b (replicate heights 0) table) ≡ heights
+    go true = length-replicate {A = ℕ} heights 0
+    go false = length-tabulate heights 0 (λ k. cond (leb k (topOf file)) (startAt file k) 0)
+
+zeros : (l : List ℕ) → map {B = ℕ} (λ v. 0) l ≡ replicate {A = ℕ} (length l) 0
+zeros [] = refl
+zeros (x ∷ l) = ap (λ (m : List ℕ). 0 ∷ m) (zeros l)
+
+module _ (file : List ℕ) where
+  abbrev values : List ℕ
+  values = fileDepth file ∷ startsOf file
+
+  accepted-is : firstOf (openOrder file) ≡ 0 → openOutcome file ≡ outcome (told 0 values) (file ∷ [])
+  unfolding openOutcome
+  accepted-is e = settled-accepted (firstOf (openOrder file)) values (file ∷ []) ([] ∷ []) e
+
+  refused-is : (firstOf (openOrder file) ≡ 0 → ⊥) → openOutcome file ≡ outcome (told (firstOf (openOrder file)) (map (λ v. 0) values)) ([] ∷ [])
+  unfolding openOutcome
+  refused-is n = settled-refused (firstOf (openOrder file)) values (file ∷ []) ([] ∷ []) n
+
+  abbrev numbers : Outcome → Told
+  numbers o = told (o .number) (o .values)
+
+  pub read-refused : (n : ℕ) → n ≡ firstOf (openOrder file) → (n ≡ 0 → ⊥) → told n (0 ∷ replicate heights 0) ≡ openTold file
+  read-refused n e ne =
+      ap₂ (λ (m : ℕ) (l : List ℕ). told m (0 ∷ l)) e (ap (λ (m : ℕ). replicate m 0) (sym (starts-length file)) ∙ sym (zeros (startsOf file)))
+      ∙ sym (ap numbers (refused-is (λ z. ne (e ∙ z))))
+
+  pub read-accepted : (D : ℕ) (starts : List ℕ) → firstOf (openOrder file) ≡ 0 → D ≡ fileDepth file → starts ≡ startsOf file → told 0 (D ∷ starts) ≡ openTold file
+  read-accepted D starts z d s = ap₂ (λ (m : ℕ) (l : List ℕ). told 0 (m ∷ l)) d s ∙ sym (ap numbers (accepted-is z))
+
+  -- with the part held, all of it is the paper's outcome
+  whole : outcome (openTold file) (partOf file (openOutcome file .number) ∷ []) ≡ openOutcome file
+  unfolding partOf
+  whole = go (eqb (firstOf (openOrder file)) 0) refl
+    where
+      with-part : Outcome → Outcome
+      with-part o = outcome (numbers o) (cond (eqb (o .number) 0) file [] ∷ [])
+
+      go : (b : Bool) → eqb (firstOf (openOrder file)) 0 ≡ b → with-part (openOutcome file) ≡ openOutcome file
+      go true e =
+          let i = accepted-is (eqb-true (firstOf (openOrder file)) 0 e) in
+          ap with-part i ∙ sym i
+      go false e =
+          let n : firstOf (openOrder file) ≡ 0 → ⊥ = eqb-false (firstOf (openOrder file)) 0 e in
+          let i = refused-is n in
+          ap with-part i
+          ∙ ap (λ (b : Bool). outcome (told (firstOf (openOrder file)) (map (λ v. 0) values)) (cond b file [] ∷ [])) e
+          ∙ sym i
+
+  pub opened-whole : (h : Header) (part : List ℕ) → toldBy h ≡ openTold file → part ≡ partOf file (h .number)
+      → outcome (toldBy h) (part ∷ []) ≡ openOutcome file
+  opened-whole h part e p =
+      ap (λ (l : List ℕ). outcome (toldBy h) (l ∷ [])) p ∙ ap (λ (t : Told). outcome t (partOf file (t .number) ∷ [])) e ∙ whole
+
+  -- ---- bytes that don't open to numbers
+
+  module _ (h : Header) (D : ℕ) (starts : List ℕ) (e : toldBy h ≡ openTold file) where
+    opens-by : eqb (h .number) 0 && sameList (h .depth ∷ h .starts) (D ∷ starts) ≡ opensTo file D starts
+    unfolding opensTo
+    opens-by = ap (λ (t : Told). eqb (t .number) 0 && sameList (t .values) (D ∷ starts)) e
+
+    pub number-bad : (h .number ≡ 0 → ⊥) → true ≡ not (opensTo file D starts)
+    number-bad n = ap not (ap (λ (b : Bool). b && sameList (h .depth ∷ h .starts) (D ∷ starts)) (sym (ne-eqb (h .number) 0 n)) ∙ opens-by)
+
+    module _ (z : h .number ≡ 0) where
+      pub depth-differs : (h .depth ≡ D → ⊥) → true ≡ not (opensTo file D starts)
+      unfolding sameList
+      depth-differs n =
+          ap₂ (λ (a b : Bool). not (a && cond b (sameList (h .starts) starts) false)) (sym (eq-eqb (h .number) 0 z)) (sym (ne-eqb (h .depth) D n))
+          ∙ ap not opens-by
+
+      pub starts-decide : h .depth ≡ D → not (sameList (h .starts) starts) ≡ not (opensTo file D starts)
+      unfolding sameList
+      starts-decide d =
+          ap₂ (λ (a b : Bool). not (a && cond b (sameList (h .starts) starts) false)) (sym (eq-eqb (h .number) 0 z)) (sym (eq-eqb (h .depth) D d))
+          ∙ ap not opens-by
+
+  -- 'A question on an opened scene: 6 (its bytes don't open to its numbers)'
+  pub ask-refused : (D : ℕ) (starts : List ℕ) (v : Point) → opensTo file D starts ≡ false → outcome (found (Refused BrokenRules)) [] ≡ askOutcome file D starts v
+  unfolding askOutcome firstOf settled
+  ask-refused D starts v e =
+      ap (λ (b : Bool). settled (cond (not b) 6 (firstOf (packedVoxelOrder file v))) (packedValues file v) [] []) (sym e)

@@ -1,0 +1,25 @@
+-- An opening as code takes it: its number and values apart from the part that it holds, and a question on what it leaves. Definitions only.
+use mathlib.Core.Bool.{cond}
+use mathlib.Core.List.{List, [], _∷_}
+use Prim.Native.Nat.{ℕ}
+use lib.Dec.{eqb}
+use lib.ListN.{getD, drop}
+use Rattle.paper.specs.Rooms.{Point}
+use Rattle.paper.specs.Answers.{Told, Outcome, told}
+use Rattle.paper.specs.Calls.{openOutcome, askOutcome}
+use Rattle.opened.specs.declared.Header.{Header}
+
+-- the number and the values of an opening, as the code reads them and as the paper says them
+abbrev pub toldBy : Header → Told
+toldBy h = told (h .number) (h .depth ∷ h .starts)
+
+abbrev pub openTold : List ℕ → Told
+openTold file = told (openOutcome file .number) (openOutcome file .values)
+
+-- the part held: 'a refusal holding an empty part'
+unfoldable pub partOf : List ℕ → ℕ → List ℕ
+partOf file number = cond (eqb number 0) file []
+
+-- a question on what an opening leaves: the part held, and its values, which are the depth and the list starts
+abbrev pub askedOf : Outcome → Point → Outcome
+askedOf o v = askOutcome (getD (o .lent) 0 []) (getD (o .values) 0 0) (drop 1 (o .values)) v

@@ -1,0 +1,156 @@
+// Opened packed scenes: a scene's bytes beside the numbers of its header, for many questions. The work is done by functions
+// over plain slices and numbers; `open` and `ask`, over the structs that hold a slice, are straight lines above them.
+ghost use mathlib.Core.Path.{_≡_};
+ghost use mathlib.Core.Bool.{not};
+ghost use mathlib.Core.List.{[], _∷_};
+ghost use Rattle.paper.specs.Numbers.{sameList};
+ghost use Rattle.paper.specs.Rooms.{point};
+ghost use Rattle.paper.specs.Order.{firstOf};
+ghost use Rattle.paper.specs.Answers.{outcome, found, opened, holds};
+ghost use Rattle.paper.specs.Calls.{openOrder, openOutcome, opensTo, askOutcome};
+ghost use Rattle.opened.specs.Opens.{toldBy, openTold, partOf, askedOf};
+use outline::depth;
+use outline::depth_bad;
+use outline::front_bad;
+use outline::length_bad;
+use packed::head_bad;
+use packed::starts;
+use paper::Found;
+use paper::Opened;
+use paper::Opening;
+use paper::Refusal;
+
+// A packed file's first byte, and its bytes before the sizes.
+const FRONT: u8 = 0x21;
+
+const HEAD: usize = 7;
+
+// What an opening reads: the refusal's number or 0, the depth, and where each list starts; zeros where it is refused.
+pub struct Header {
+    pub number: u32,
+    pub depth: u32,
+    pub starts: [u32; 15],
+}
+
+// ---- over plain slices and numbers
+
+// The refusal of an opening: 3, 4, 5, 6 in this order, or 0.
+pub fn open_number(file: &[u8]) -> u32
+    ensures { λ r. ⌜ r ≡ firstOf (openOrder (now (file .entry))) ⌝ }
+{
+    if front_bad(file, FRONT) {
+        return 3;
+    }
+    if length_bad(file, HEAD) {
+        return 4;
+    }
+    if depth_bad(depth(file)) {
+        return 5;
+    }
+    if head_bad(file) {
+        return 6;
+    }
+    0
+}
+
+// The numbers of an opening.
+pub fn read_header(file: &[u8]) -> Header
+    ensures { λ r. ⌜ toldBy r ≡ openTold (now (file .entry)) ⌝ }
+{
+    let number = open_number(file);
+    if number != 0 {
+        return Header {
+            number,
+            depth: 0,
+            starts: [0; 15],
+        };
+    }
+    let begins = starts(file);
+    Header {
+        number: 0,
+        depth: depth(file),
+        starts: begins,
+    }
+}
+
+// The part that an opening holds: the whole file, or an empty part of it where the number is a refusal's.
+pub fn part<'a>(file: &'a [u8], number: u32) -> &'a [u8]
+    ensures { λ r. ⌜ now r ≡ partOf (now (file .entry)) number ⌝ }
+{
+    if number == 0 {
+        return file;
+    }
+    &file[..0]
+}
+
+// Whether two lists of starts differ.
+fn differ(a: [u32; 15], b: [u32; 15]) -> bool
+    ensures { λ r. ⌜ r ≡ not (sameList a b) ⌝ }
+{
+    let mut k = 0usize;
+    while k < 15 {
+        if a[k] != b[k] {
+            return true;
+        }
+        k += 1;
+    }
+    false
+}
+
+// Whether bytes don't open to these numbers.
+pub fn opens_bad(bytes: &[u8], depth: u32, starts: [u32; 15]) -> bool
+    ensures { λ r. ⌜ r ≡ not (opensTo (now (bytes .entry)) depth starts) ⌝ }
+{
+    let header = read_header(bytes);
+    if header.number != 0 {
+        return true;
+    }
+    if header.depth != depth {
+        return true;
+    }
+    let begins = header.starts;
+    differ(begins, starts)
+}
+
+// A question on bytes held beside numbers: 6 where they don't open to them, then as packed voxel.
+pub fn ask_bytes(bytes: &[u8], depth: u32, starts: [u32; 15], x: u32, y: u32, z: u32) -> Found
+    ensures { λ r. ⌜ outcome (found r) [] ≡ askOutcome (now (bytes .entry)) depth starts (point x y z) ⌝ }
+{
+    if opens_bad(bytes, depth, starts) {
+        return Found::Refused(Refusal::BrokenRules);
+    }
+    packed::packed_voxel(bytes, x, y, z)
+}
+
+// ---- over the structs that hold a slice
+
+// Opening: the number, and the scene, which holds an empty part where it is refused; by 3, 4, 5, 6.
+pub fn open<'a>(file: &'a [u8]) -> Opening<'a>
+    ensures { λ r. ⌜ outcome (opened r) (holds r ∷ []) ≡ openOutcome (now (file .entry)) ⌝ }
+{
+    let header = read_header(file);
+    let bytes = part(file, header.number);
+    Opening {
+        number: header.number,
+        scene: Opened {
+            bytes,
+            depth: header.depth,
+            starts: header.starts,
+        },
+    }
+}
+
+// A question on an opened scene: whether a point is solid, with the number of records read; refused by 6, then as packed voxel.
+pub fn ask<'a>(scene: Opened<'a>, x: u32, y: u32, z: u32) -> Found
+    ensures { λ r. ⌜ outcome (found r) [] ≡ askOutcome (now (scene .entry .bytes)) (scene .entry .depth) (scene .entry .starts) (point x y z) ⌝ }
+{
+    ask_bytes(scene.bytes, scene.depth, scene.starts, x, y, z)
+}
+
+// A question on the scene that a file opens to, refused or not. Its parameters are plain: a caller's proof needs no walk.
+pub fn open_and_ask(file: &[u8], x: u32, y: u32, z: u32) -> Found
+    ensures { λ r. ⌜ outcome (found r) [] ≡ askedOf (openOutcome (now (file .entry))) (point x y z) ⌝ }
+{
+    let opening = open(file);
+    ask(opening.scene, x, y, z)
+}

@@ -1,0 +1,96 @@
+// Samples of opened scenes: a line for each question on a scene opened for it, with the refusal's number (0 where accepted),
+// 1 for solid or 0 for empty, and the records read.
+ghost use Prim.Native.Nat.{_<_};
+use paper::Found;
+
+// One line of output.
+fn line(number: u32, solid: u32, records: u32) {
+    io::write_all(1, b"ask ");
+    io::print_decimal(1, number as u64);
+    io::write_all(1, b" ");
+    io::print_decimal(1, solid as u64);
+    io::write_all(1, b" ");
+    io::print_decimal(1, records as u64);
+    io::write_all(1, b"\n");
+}
+
+// Opens, asks, and shows the answer.
+fn sample(file: &[u8], x: u32, y: u32, z: u32) {
+    match opened::open_and_ask(file, x, y, z) {
+        Found::Solid(n) => line(0, 1, n),
+        Found::Empty(n) => line(0, 0, n),
+        Found::Refused(refusal) => line(refusal.number(), 0, 0),
+    }
+}
+
+// S1's packed room.
+const ROOM: [u8; 29] = [
+    0x21,
+    0,
+    0,
+    0,
+    0x1D,
+    3,
+    0,
+    0,
+    0,
+    0,
+    3,
+    0,
+    0,
+    0,
+    1,
+    0,
+    5,
+    0,
+    0,
+    0x20,
+    0,
+    0,
+    0,
+    0,
+    0,
+    0,
+    0,
+    0,
+    1,
+];
+
+// S2 to S5.
+fn room() {
+    let file = ROOM;
+    sample(&file, 7, 0, 0);
+    sample(&file, 4, 0, 0);
+    sample(&file, 0, 4, 0);
+    sample(&file, 8, 0, 0);
+}
+
+// The room with one byte changed: its opening is refused, or the question alone.
+fn changed(at: usize, byte: u8)
+    requires { ⌜ at < 29 ⌝ }
+{
+    let mut file = ROOM;
+    file[at] = byte;
+    sample(&file, 0, 0, 0);
+}
+
+// Every sample, line by line.
+fn main() {
+    room();
+    // an empty scene, whole and one byte too long
+    sample(&[0x21, 0, 0, 0, 7, 2, 8], 3, 3, 3);
+    sample(&[0x21, 0, 0, 0, 8, 2, 8, 0], 3, 3, 3);
+    // nothing, and less than a head
+    sample(&[], 0, 0, 0);
+    sample(&[0x21, 0, 0, 0, 6, 2], 0, 0, 0);
+    // front byte, length, depth, byte 6, a size, a header with code 3, a leaf that is zero
+    changed(0, 0x11);
+    changed(4, 0x1C);
+    changed(5, 17);
+    changed(6, 9);
+    changed(10, 4);
+    changed(16, 7);
+    changed(28, 0);
+    // the root mirrored in x
+    changed(6, 1);
+}

@@ -1,0 +1,57 @@
+-- Bytes written one part behind the other: what is left to write at a position comes to the same as all that was to be written at the first. By
+-- the law of two writers. Assumes nothing.
+use mathlib.Core.Path.{_≡_, refl, sym, ap, _∙_}
+use mathlib.Core.List.{List, [], _++_, map}
+use Prim.Native.Nat.{ℕ, suc, _+_, _<_, _≤_}
+use native.Mathlib.Omega.{arith}
+use lib.ListN.{length, getD, drop, length-append}
+use lib.Seq.{drop-cons, drop-length}
+use Rattle.paper.specs.Numbers.{flatten}
+use Rattle.numbers.specs.Laid.{reached, writing}
+use Rattle.numbers.proofs.Laying.{writing-none, writing-then, reached-at, reached-length}
+
+-- `rest` is left to write over l at n, of `all` that was to be written over l₀ at n₀
+pub record Going (rest : List ℕ) (n : ℕ) (l all : List ℕ) (n₀ : ℕ) (l₀ : List ℕ) : Type 0 where
+  pub same : writing rest n l ≡ writing all n₀ l₀
+  pub room : n + length rest ≤ length l
+  pub long : length l ≡ length l₀
+
+pub going-first : (all : List ℕ) (n : ℕ) (l : List ℕ) → n + length all ≤ length l → Going all n l all n l
+going-first all n l h = record { same = refl; room = h; long = refl }
+
+-- what is left begins with `a`: it has room
+pub going-room : (a b rest : List ℕ) (n : ℕ) (l all : List ℕ) (n₀ : ℕ) (l₀ : List ℕ) → rest ≡ a ++ b → Going rest n l all n₀ l₀ → n + length a ≤ length l
+going-room a b rest n l all n₀ l₀ e g = omega (arith, ap length e, length-append a b, g .room)
+
+module _ (all : List ℕ) (n₀ : ℕ) (l₀ : List ℕ) where
+  module _ (a : List ℕ) (n : ℕ) (l : List ℕ) (m : ℕ) (l′ : List ℕ) (e : reached m l′ ≡ writing a n l) where
+    -- the first part of what is left is written
+    pub going-on : (b rest : List ℕ) → rest ≡ a ++ b → Going rest n l all n₀ l₀ → Going b m l′ all n₀ l₀
+    going-on b rest p g =
+        let both : n + length a ≤ length l = going-room a b rest n l all n₀ l₀ p g in
+        let stays : length l′ ≡ length l = reached-length a n m l l′ e both in
+        record {
+          same = writing-then a n m l l′ e b both ∙ ap (λ (x : List ℕ). writing x n l) (sym p) ∙ g .same;
+          room = omega (arith, ap length p, length-append a b, g .room, reached-at a n m l l′ e);
+          long = stays ∙ g .long;
+        }
+
+    -- it is all that is left
+    pub going-last : (rest : List ℕ) → rest ≡ a → Going rest n l all n₀ l₀ → reached m l′ ≡ writing all n₀ l₀
+    going-last rest p g = e ∙ ap (λ (x : List ℕ). writing x n l) (sym p) ∙ g .same
+
+    pub last-long : (rest : List ℕ) → rest ≡ a → Going rest n l all n₀ l₀ → length l′ ≡ length l₀
+    last-long rest p g = reached-length a n m l l′ e (rw p at (g .room)) ∙ g .long
+
+  -- nothing is left
+  pub going-none : (n : ℕ) (l rest : List ℕ) → rest ≡ [] → Going rest n l all n₀ l₀ → reached n l ≡ writing all n₀ l₀
+  going-none n l rest p g = writing-none n l ∙ ap (λ (x : List ℕ). writing x n l) (sym p) ∙ g .same
+
+-- the parts of a list's elements from the i-th on
+pub parts-from : {A : Type 0} (f : A → List ℕ) (l : List A) (i : ℕ) (d : A) → i < length l → flatten (map f (drop i l)) ≡ f (getD l i d) ++ flatten (map f (drop (suc i) l))
+unfolding flatten
+parts-from f l i d h = rw (drop-cons l i d h)
+
+pub parts-none : {A : Type 0} (f : A → List ℕ) (l : List A) (i : ℕ) → i ≡ length l → flatten (map f (drop i l)) ≡ []
+unfolding flatten
+parts-none f l i e = rw (e, drop-length l)

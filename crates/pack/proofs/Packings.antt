@@ -1,0 +1,254 @@
+-- What code finds for a scene of an undamaged store is its packed file: once all lists are placed, scratch has the places of the graph's records,
+-- the sizes are the lists' sizes, and the bytes by both are the file's, fewer than 2^32. By induction from the leaves up. Assumes nothing.
+use mathlib.Core.Path.{_≡_, refl, sym, ap, ap₂, subst, _∙_}
+use mathlib.Core.Bool.{Bool, false, cond}
+use mathlib.Core.List.{List, [], _∷_, _++_, map, append-assoc}
+use mathlib.Core.Logic.{_⊎_, inl, inr}
+use Prim.Native.Nat.{ℕ, zero, suc, _+_, _-_, _*_, _^_, _<_, _≤_}
+use native.Mathlib.Nat.{zero-add, eq-or-lt-of-le, le-of-suc-le-suc, not-suc-le-zero, mul-le-mul-left, mul-suc}
+use native.Mathlib.Numerals.{add-one}
+use native.Mathlib.Omega.{arith}
+use borrow.Author.Tests.{ne-eqb}
+use lib.Dec.{T}
+use lib.ListN.{length, getD, set, take, drop, length-append, length-drop, length-set}
+use lib.Seq.{getD-set-same, getD-set-other, getD-drop, ext-getD}
+use Rattle.paper.specs.Numbers.{bytes, flatten}
+use Rattle.paper.specs.Store.{Cell, heights, mostCapacity, capacityOf, keptCount, keptOf, tagOf, badPointer, storeOk}
+use Rattle.paper.specs.Packed.{packedFront, packedHead}
+use Rattle.paper.specs.Pack.{places, size, listBytes, sizeBytes, body, layout, emptyFile, sceneGraph, packedFile}
+use Rattle.paper.specs.Calls.{packScratch}
+use Rattle.laws.proofs.PackedReached.{numbers}
+use Rattle.laws.proofs.Layouts.{sizes-length}
+use Rattle.numbers.specs.Laid.{Reached, reached}
+use Rattle.pack.specs.Scratch.{orderPlace, placePlace, Ordered}
+use Rattle.pack.specs.Placing.{orderIn, span, placing, placedList, Placed, placed, onto, listPlaced, placedLists, Kept}
+use Rattle.pack.specs.Writing.{recordIn, listIn, bodyIn, sizesIn, bodyLength, fileLength, headOf}
+use Rattle.pack.proofs.Bounds.{lists-fit, order-at, order-length}
+use Rattle.pack.proofs.Heads.{head-length}
+use Rattle.pack.proofs.Placings.{stop, words, total, placing-length, placing-other, placing-stop, placing-at}
+use Rattle.pack.proofs.Runs.{kept-still}
+use Rattle.pack.proofs.Scenes.{Told, ListIs, list-is, choice, N-kept, N-below, N-few, size-small, list-bytes, leaf-bytes}
+
+-- the sizes and the words once lists are placed
+abbrev sizesOf : Placed → List ℕ
+sizesOf (placed a s) = a
+
+abbrev wordsOf : Placed → List ℕ
+wordsOf (placed a s) = s
+
+-- what is found for the scene under root p of list k: scratch was s when its lists were ordered, and is t when they are placed
+pub record Found (ws : List ℕ) (k p : ℕ) (counts s sizes t : List ℕ) : Type 0 where
+  pub long : length t ≡ length s
+  pub behind : drop (packScratch (capacityOf ws)) t ≡ drop (packScratch (capacityOf ws)) s
+  pub kept : (j : ℕ) → j ≤ k → Kept ws j (getD counts j 0) t
+  pub small : fileLength sizes k < 2 ^ 32
+  pub whole : headOf (fileLength sizes k) (k + 2) (tagOf p) ++ (sizesIn sizes k ++ bodyIn (keptOf ws) (capacityOf ws) counts k t) ≡ packedFile (keptOf ws) (k + 2) p
+  pub measured : length (packedFile (keptOf ws) (k + 2) p) ≡ fileLength sizes k
+
+-- a place of a list lies before those of the lists above, and inside its part
+place-before : (C j k q : ℕ) → j < k → q < C → placePlace C j q < placePlace C k 0
+place-before C j k q h l = let m : C * suc j ≤ C * k = mul-le-mul-left C h in omega (arith, mul-suc C j, l)
+
+place-inside : (C k q : ℕ) → k < heights → q < C → placePlace C k q < 45 * C
+place-inside C k q h l = omega (arith, lists-fit C k h, l)
+
+module _ (ws : List ℕ) (ok : T (storeOk ws)) (top p : ℕ) (hk : top < heights) (some : p ≡ 0 → ⊥) (fine : badPointer (keptCount ws top) p ≡ false) where
+  abbrev K : List (List Cell)
+  K = keptOf ws
+
+  abbrev C : ℕ
+  C = capacityOf ws
+
+  abbrev G : List (List Cell)
+  G = sceneGraph (keptOf ws) top p
+
+  abbrev N : ℕ → List ℕ
+  N = numbers (keptOf ws) top p
+
+  module _ (counts s : List ℕ) (o : Ordered (keptOf ws) top p (capacityOf ws) counts s) (room : packScratch (capacityOf ws) ≤ length s) where
+    -- every list's cells in their order are kept ones
+    pub all-kept : (j : ℕ) → j ≤ top → Kept ws j (getD counts j 0) s
+    all-kept j h = record {
+      few = rw (o .count j h) (N-few ws ok top p hk some fine j h);
+      kept = λ i l.
+          let m : i < length (N j) = subst (λ (n : ℕ). i < n) (o .count j h) l in
+          rw (o .order j h i m) (N-kept ws ok top p hk some fine j h i m);
+    }
+
+    -- the first k lists are placed: the order and what lies behind the places are as they were
+    record After (k : ℕ) (sizes t : List ℕ) : Type 0 where
+      before : (x : ℕ) → x < 30 * C → getD t x 0 ≡ getD s x 0
+      behind : (x : ℕ) → 45 * C ≤ x → getD t x 0 ≡ getD s x 0
+      long : length t ≡ length s
+      fifteen : length sizes ≡ heights
+      told : (j : ℕ) → j < k → Told ws ok top p hk some fine j t
+      sized : (j : ℕ) → j < k → getD sizes j 0 ≡ size G j
+
+    order-is : (k : ℕ) → k ≤ top → (t : List ℕ) → ((x : ℕ) → x < 30 * C → getD t x 0 ≡ getD s x 0) → orderIn C k (getD counts k 0) t ≡ N k
+    order-is k h t same = ext-getD 0 (orderIn C k n t) (N k) (order-length C k n t ∙ o .count k h) each
+      where
+        n : ℕ
+        n = getD counts k 0
+
+        each : (i : ℕ) → i < length (orderIn C k n t) → getD (orderIn C k n t) i 0 ≡ getD (N k) i 0
+        each i l =
+            let m : i < n = subst (λ (x : ℕ). i < x) (order-length C k n t) l in
+            let u : i < length (N k) = subst (λ (x : ℕ). i < x) (o .count k h) m in
+            order-at C k n t i m
+            ∙ same (orderPlace C k i) (omega (arith, lists-fit C k (omega arith), N-few ws ok top p hk some fine k h))
+            ∙ o .order k h i u
+
+    -- one list more
+    module _ (k : ℕ) (h : k ≤ top) (sizes t : List ℕ) (a : After k sizes t) (r : ℕ) (t′ : List ℕ) (e : reached r t′ ≡ placedList (keptOf ws) (capacityOf ws) k (getD counts k 0) t) where
+      abbrev base : ℕ
+      base = placePlace C k 0
+
+      abbrev P : Reached
+      P = placing (span K C k t) (placePlace C k 0) 0 (N k) t
+
+      is : reached r t′ ≡ P
+      unfolding placedList
+      is = e ∙ ap (λ (ns : List ℕ). placing (span K C k t) base 0 ns t) (order-is k h t (a .before))
+
+      words-is : t′ ≡ words P
+      words-is = ap words is
+
+      this : ListIs ws ok top p hk some fine k t
+      this = list-is ws ok top p hk some fine k h t (a .told)
+
+      below : (i : ℕ) → i < length (N k) → getD (N k) i 0 < C
+      below = N-below ws ok top p hk some fine k h
+
+      other : (x : ℕ) → ((i : ℕ) → i < length (N k) → base + getD (N k) i 0 ≡ x → ⊥) → getD t′ x 0 ≡ getD t x 0
+      other x n = ap (λ (l : List ℕ). getD l x 0) words-is ∙ placing-other (span K C k t) base 0 (N k) t x n
+
+      told-now : (j : ℕ) → (j ≡ k) ⊎ (j < k) → Told ws ok top p hk some fine j t′
+      told-now j (inl q) = subst (λ (j : ℕ). Told ws ok top p hk some fine j t′) (sym q) here
+        where
+          here : Told ws ok top p hk some fine k t′
+          here i l =
+              let x : ℕ = getD (N k) i 0 in
+              let at : placePlace C k x ≡ base + x = omega arith in
+              let inside : (i : ℕ) → i < length (N k) → base + getD (N k) i 0 < length t = λ i m. omega (arith, below i m, lists-fit C k (omega arith), a .long, room) in
+              ap₂ (λ (y : ℕ) (l : List ℕ). getD l y 0) at words-is
+              ∙ placing-at (span K C k t) base 0 (N k) t (choice ws ok top p hk some fine k h .once) inside i l
+              ∙ zero-add (total (span K C k t) (take i (N k))) ∙ this .place i l
+      told-now j (inr q) = λ i l.
+          let x : ℕ = getD (N j) i 0 in
+          let small : x < C = N-below ws ok top p hk some fine j (omega arith) i l in
+          other (placePlace C j x) (λ m g y. omega (arith, place-before C j k x q small, y)) ∙ a .told j q i l
+
+      sized-now : (j : ℕ) → (j ≡ k) ⊎ (j < k) → getD (set sizes k r) j 0 ≡ size G j
+      sized-now j (inl q) =
+          ap (λ (i : ℕ). getD (set sizes k r) i 0) q ∙ getD-set-same sizes k r 0 (omega (arith, a .fifteen)) ∙ ap stop is
+          ∙ placing-stop (span K C k t) base 0 (N k) t ∙ zero-add (total (span K C k t) (N k)) ∙ this .size-is ∙ ap (size G) (sym q)
+      sized-now j (inr q) = getD-set-other sizes k j r 0 (λ y. omega (arith, y, q)) ∙ a .sized j q
+
+      after-next : After (suc k) (set sizes k r) t′
+      after-next = record {
+        before = λ x l. other x (λ i m y. omega (arith, y, l)) ∙ a .before x l;
+        behind = λ x l. other x (λ i m y. omega (arith, y, l, below i m, lists-fit C k (omega arith))) ∙ a .behind x l;
+        long = ap length words-is ∙ placing-length (span K C k t) base 0 (N k) t ∙ a .long;
+        fifteen = length-set sizes k r ∙ a .fifteen;
+        told = λ j l. told-now j (eq-or-lt-of-le (le-of-suc-le-suc l));
+        sized = λ j l. sized-now j (eq-or-lt-of-le (le-of-suc-le-suc l));
+      }
+
+    after-onto : (k : ℕ) → k ≤ top → (sizes t : List ℕ) → After k sizes t → (x : Reached) → x ≡ placedList K C k (getD counts k 0) t
+        → After (suc k) (sizesOf (onto k sizes x)) (wordsOf (onto k sizes x))
+    after-onto k h sizes t a (reached r t′) e = after-next k h sizes t a r t′ e
+
+    after-list : (k : ℕ) → k ≤ top → (x : Placed) → After k (sizesOf x) (wordsOf x) → After (suc k) (sizesOf (listPlaced K C counts k x)) (wordsOf (listPlaced K C counts k x))
+    after-list k h (placed sizes t) a = after-onto k h sizes t a (placedList K C k (getD counts k 0) t) refl
+
+    after : (k : ℕ) → k ≤ suc top → After k (sizesOf (placedLists K C counts k s)) (wordsOf (placedLists K C counts k s))
+    unfolding placedLists
+    after zero h = record {
+      before = λ x l. refl;
+      behind = λ x l. refl;
+      long = refl;
+      fifteen = refl;
+      told = λ j l. absurd (not-suc-le-zero l);
+      sized = λ j l. absurd (not-suc-le-zero l);
+    }
+    after (suc k) h = after-list k (le-of-suc-le-suc h) (placedLists K C counts k s) (after k (omega arith))
+
+    -- ---- the file
+
+    module _ (sizes t : List ℕ) (e : placed sizes t ≡ placedLists (keptOf ws) (capacityOf ws) counts (top + 1) s) where
+      all : After (suc top) sizes t
+      all =
+          let q : placedLists K C counts (suc top) s ≡ placed sizes t = ap (λ (j : ℕ). placedLists K C counts j s) (sym (add-one top)) ∙ sym e in
+          subst (λ (x : Placed). After (suc top) (sizesOf x) (wordsOf x)) q (after (suc top) (omega arith))
+
+      placed-behind : drop (packScratch C) t ≡ drop (packScratch C) s
+      placed-behind =
+          ext-getD 0 (drop (packScratch C) t) (drop (packScratch C) s) (length-drop (packScratch C) t ∙ ap (λ (n : ℕ). n - packScratch C) (all .long) ∙ sym (length-drop (packScratch C) s))
+          (λ i l. getD-drop (packScratch C) t i 0 ∙ all .behind (packScratch C + i) (omega arith) ∙ sym (getD-drop (packScratch C) s i 0))
+
+      list-bytes-are : (k : ℕ) → k ≤ top → listIn K C k (getD counts k 0) t ≡ listBytes G k
+      unfolding listIn
+      list-bytes-are k h =
+          ap (λ (ns : List ℕ). flatten (map (recordIn K C k t) ns)) (order-is k h t (all .before)) ∙ list-is ws ok top p hk some fine k h t (λ j l. all .told j (omega arith)) .bytes-are
+
+      body-is : (k : ℕ) → k ≤ top → bodyIn K C counts k t ≡ body G k
+      unfolding bodyIn body
+      body-is zero h = list-bytes-are 0 h
+      body-is (suc k) h = ap₂ (λ (x y : List ℕ). x ++ y) (list-bytes-are (suc k) h) (body-is k (omega arith))
+
+      sizes-are : (k : ℕ) → k ≤ top → sizesIn sizes k ≡ sizeBytes G k
+      unfolding sizesIn sizeBytes
+      sizes-are zero h = ap (bytes 4) (all .sized 0 (omega arith))
+      sizes-are (suc k) h = ap₂ (λ (n : ℕ) (l : List ℕ). bytes 4 n ++ l) (all .sized (suc k) (omega arith)) (sizes-are k (omega arith))
+
+      length-is : (k : ℕ) → k ≤ top → bodyLength sizes k ≡ length (body G k)
+      unfolding bodyLength body
+      length-is zero h = omega (arith, all .sized 0 (omega arith), leaf-bytes ws ok top p hk some fine)
+      length-is (suc k) h =
+          omega (arith, all .sized (suc k) (omega arith), length-append (listBytes G (suc k)) (body G k), list-bytes ws ok top p hk some fine k h, length-is k (omega arith))
+
+      length-small : (k : ℕ) → k ≤ top → bodyLength sizes k ≤ 136 * mostCapacity * (k + 1)
+      unfolding bodyLength
+      length-small zero h = omega (arith, all .sized 0 (omega arith), size-small ws ok top p hk some fine 0 h)
+      length-small (suc k) h = omega (arith, all .sized (suc k) (omega arith), size-small ws ok top p hk some fine (suc k) h, length-small k (omega arith))
+
+      file-small : fileLength sizes top < 2 ^ 32
+      file-small = omega (arith, length-small top (omega arith))
+
+      -- the sizes and the lists
+      abbrev tail : List ℕ
+      tail = sizesIn sizes top ++ bodyIn (keptOf ws) (capacityOf ws) counts top t
+
+      tail-is : tail ≡ sizeBytes G top ++ body G top
+      tail-is = ap₂ (λ (x y : List ℕ). x ++ y) (sizes-are top (omega arith)) (body-is top (omega arith))
+
+      whole : fileLength sizes top ≡ packedHead + length (sizeBytes G top ++ body G top)
+      whole = omega (arith, length-append (sizeBytes G top) (body G top), sizes-length G top, length-is top (omega arith))
+
+      file-is : headOf (fileLength sizes top) (top + 2) (tagOf p) ++ tail ≡ packedFile K (top + 2) p
+      unfolding layout packedFile
+      file-is =
+          let m : ℕ = tagOf p in
+          let rest : List ℕ = sizeBytes G top ++ body G top in
+          let D : top + 2 ≡ suc (suc top) = omega arith in
+          let under : top ≡ top + 2 - 2 = omega arith in
+          ap₂ (λ (n : ℕ) (l : List ℕ). headOf n (top + 2) m ++ l) whole tail-is
+          ∙ ap (λ (l : List ℕ). packedFront ∷ l) (append-assoc (bytes 4 (packedHead + length rest)) ((top + 2) ∷ m ∷ []) rest)
+          ∙ ap (λ (d : ℕ). packedFront ∷ bytes 4 (packedHead + length rest) ++ (d ∷ m ∷ rest)) D
+          ∙ ap (λ (j : ℕ). layout j m (sceneGraph K j p)) under
+          ∙ ap (λ (b : Bool). cond b (emptyFile (top + 2)) (layout (top + 2 - 2) m (sceneGraph K (top + 2 - 2) p))) (sym (ne-eqb p 0 some))
+
+      file-length : length (packedFile K (top + 2) p) ≡ fileLength sizes top
+      file-length =
+          ap length (sym file-is) ∙ length-append (headOf (fileLength sizes top) (top + 2) (tagOf p)) tail
+          ∙ ap₂ (λ (x y : ℕ). x + y) (head-length (fileLength sizes top) (top + 2) (tagOf p)) (ap length tail-is) ∙ sym whole
+
+      pub found : Found ws top p counts s sizes t
+      found = record {
+        long = all .long;
+        behind = placed-behind;
+        kept = λ j h. kept-still ws j (getD counts j 0) s t (omega arith) (all-kept j h) (all .before);
+        small = file-small;
+        whole = file-is;
+        measured = file-length;
+      }

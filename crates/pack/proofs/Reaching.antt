@@ -1,0 +1,135 @@
+-- Which cells a scene of an undamaged store has: each list's numbers are kept ones, none twice, and a cell that a reached one names is reached. By
+-- induction from the root down, with the laws of the order. Assumes nothing.
+use mathlib.Core.Path.{_≡_, refl, sym, _∙_, subst, ap}
+use mathlib.Core.Bool.{Bool, true, false, cond}
+use mathlib.Core.List.{List, [], _∷_, map}
+use mathlib.Core.Logic.{_⊎_, inl, inr}
+use Prim.Native.Nat.{ℕ, zero, suc, _+_, _<_, _≤_}
+use native.Mathlib.Nat.{le-of-suc-le-suc, not-suc-le-zero, eq-or-lt-of-le}
+use native.Mathlib.Omega.{arith}
+use borrow.Author.Tests.{eq-eqb, ne-eqb}
+use lib.Dec.{T, eqb}
+use lib.ListN.{length, getD, length-map}
+use Rattle.paper.specs.Numbers.{isIn}
+use Rattle.paper.specs.Store.{Cell, cellNo, cellsAt, cellAt}
+use Rattle.paper.specs.Packed.{names, popularity}
+use Rattle.paper.specs.Pack.{ordered, next, reached}
+use Rattle.laws.proofs.Lists.{map-at, isIn-at}
+use Rattle.laws.proofs.Invariant.{OkPointer}
+use Rattle.laws.proofs.PackedOrder.{every-at, Counted, ordered-counted, ordered-all, ordered-once, ordered-length}
+use Rattle.laws.proofs.PackedReached.{InList, Chosen, numbers, keptAt, uses}
+
+-- ---- which cells are named
+
+names-at : (c : Cell) (i : ℕ) → (getD c i 0 ≡ 0 → ⊥) → names (cellNo (getD c i 0)) c ≡ true
+unfolding names
+names-at [] i n = absurd (n refl)
+names-at (p ∷ c) zero n = rw (ne-eqb p 0 n, eq-eqb (cellNo p) (cellNo p) refl)
+names-at (p ∷ c) (suc i) n = go (eqb p 0) (eqb (cellNo p) (cellNo (getD c i 0))) (names-at c i n)
+  where
+    q : ℕ
+    q = cellNo (getD c i 0)
+
+    go : (a b : Bool) → names q c ≡ true → cond a (names q c) (cond b true (names q c)) ≡ true
+    go true b e = e
+    go false true e = refl
+    go false false e = e
+
+popularity-pos : (cs : List Cell) (i q : ℕ) → i < length cs → names q (getD cs i []) ≡ true → 1 ≤ popularity cs q
+unfolding popularity
+popularity-pos [] i q h e = absurd (not-suc-le-zero h)
+popularity-pos (c ∷ cs) zero q h e = rw e (omega arith)
+popularity-pos (c ∷ cs) (suc i) q h e = omega (arith, popularity-pos cs i q (le-of-suc-le-suc h) e)
+
+popularity-le : (cs : List Cell) (q : ℕ) → popularity cs q ≤ length cs
+unfolding popularity
+popularity-le [] q = omega arith
+popularity-le (c ∷ cs) q = go (names q c) (popularity-le cs q)
+  where
+    go : (b : Bool) → popularity cs q ≤ length cs → cond b 1 0 + popularity cs q ≤ suc (length cs)
+    go true h = omega arith
+    go false h = omega arith
+
+-- ---- which numbers are reached
+
+reached-top : (K : List (List Cell)) (k : ℕ) (ns : List ℕ) → reached K k ns k ≡ ns
+unfolding reached
+reached-top K zero ns = refl
+reached-top K (suc k) ns = rw (eq-eqb (suc k) (suc k) refl)
+
+reached-below : (K : List (List Cell)) (k : ℕ) (ns : List ℕ) (j : ℕ) → j ≤ k → reached K (suc k) ns j ≡ reached K k (next K k ns) j
+unfolding reached
+reached-below K k ns j h = rw (ne-eqb j (suc k) (λ e. omega arith))
+
+reached-next : (K : List (List Cell)) (k : ℕ) (ns : List ℕ) (j : ℕ) → j < k → reached K k ns j ≡ next K j (reached K k ns (suc j))
+reached-next K zero ns j h = absurd (not-suc-le-zero h)
+reached-next K (suc k) ns j h =
+    reached-below K k ns j (le-of-suc-le-suc h)
+    ∙ elim (eq-or-lt-of-le (le-of-suc-le-suc h)) [
+      | inl e ↦
+          ap (reached K k (next K k ns)) e ∙ reached-top K k (next K k ns)
+          ∙ ap (next K k) (sym (reached-top K (suc k) ns)) ∙ ap (λ (i : ℕ). next K i (reached K (suc k) ns (suc i))) (sym e)
+      | inr l ↦ reached-next K k (next K k ns) j l ∙ ap (next K j) (sym (reached-below K k ns (suc j) l))
+    ]
+
+chosen-one : (q m : ℕ) → q < m → Chosen m (q ∷ [])
+chosen-one q m h = record { below = first; once = λ i j hi hj e. omega arith; len = omega arith }
+  where
+    first : (i : ℕ) → i < 1 → getD (q ∷ []) i 0 < m
+    first zero l = h
+    first (suc i) l = absurd (omega arith)
+
+chosen-ordered : (f : ℕ → ℕ) (c m : ℕ) → Chosen m (ordered f c m)
+chosen-ordered f c m = record {
+  below = λ i h. every-at (Counted f c m) (ordered f c m) (ordered-counted f c m) i h .below;
+  once = ordered-once f c m;
+  len = ordered-length f c m;
+}
+
+-- every pointer of a cell names one of the list below, or none
+abbrev pub Pointing : List (List Cell) → ℕ → Type 0
+Pointing K k = (j : ℕ) → j < k → (q : ℕ) → q < length (cellsAt K (suc j)) → (i : ℕ) → OkPointer (length (cellsAt K j)) (getD (cellAt K (suc j) q) i 0)
+
+module _ (K : List (List Cell)) (k p : ℕ) (ok : Pointing K k) (hp : cellNo p < length (cellsAt K k)) where
+  abbrev N : ℕ → List ℕ
+  N = numbers K k p
+
+  abbrev used : ℕ → ℕ → ℕ
+  used = uses K k p
+
+  N-next : (j : ℕ) → j < k → N j ≡ ordered (used j) (length (N (suc j))) (length (cellsAt K j))
+  unfolding next
+  N-next j h = reached-next K k (cellNo p ∷ []) j h
+
+  pub chosen : (j : ℕ) → j ≤ k → Chosen (length (cellsAt K j)) (N j)
+  chosen j h = go (eq-or-lt-of-le h)
+    where
+      top : Chosen (length (cellsAt K k)) (N k)
+      top = subst (Chosen (length (cellsAt K k))) (sym (reached-top K k (cellNo p ∷ []))) (chosen-one (cellNo p) (length (cellsAt K k)) hp)
+
+      go : (j ≡ k) ⊎ (j < k) → Chosen (length (cellsAt K j)) (N j)
+      go (inl e) = subst (λ (i : ℕ). Chosen (length (cellsAt K i)) (N i)) (sym e) top
+      go (inr l) = subst (Chosen (length (cellsAt K j))) (sym (N-next j l)) (chosen-ordered (used j) (length (N (suc j))) (length (cellsAt K j)))
+
+  pub listed : (j : ℕ) → j < k → (n : ℕ) → n < length (N (suc j)) → (i : ℕ) → InList (N j) (getD (keptAt K k p (suc j) n) i 0)
+  listed j h n m i = go (ok j h (getD (N (suc j)) n 0) (chosen (suc j) h .below n m) i)
+    where
+      r : ℕ
+      r = getD (keptAt K k p (suc j) n) i 0
+
+      go : OkPointer (length (cellsAt K j)) r → InList (N j) r
+      go (inl e) = inl e
+      go (inr w) =
+          let some : r ≡ 0 → ⊥ = λ e. omega arith in
+          let cs : List Cell = map (cellAt K (suc j)) (N (suc j)) in
+          let is : getD cs n [] ≡ keptAt K k p (suc j) n = map-at (cellAt K (suc j)) (N (suc j)) n 0 [] m in
+          let count : Counted (used j) (length (N (suc j))) (length (cellsAt K j)) (cellNo r) =
+          record {
+            below = omega arith;
+            some = popularity-pos cs n (cellNo r) (omega (arith, length-map (N (suc j)) (cellAt K (suc j)))) (ap (names (cellNo r)) is ∙ names-at (keptAt K k p (suc j) n) i some);
+            most = omega (arith, popularity-le cs (cellNo r), length-map (N (suc j)) (cellAt K (suc j)));
+          } in
+          inr (record {
+            some = some;
+            at = isIn-at (cellNo r) (N j) (subst (λ (l : List ℕ). T (isIn (cellNo r) l)) (sym (N-next j h)) (ordered-all (used j) (length (N (suc j))) (length (cellsAt K j)) (cellNo r) count));
+          })

@@ -1,0 +1,216 @@
+-- A list of a scene of an undamaged store by the places in scratch: where these are the places of the list below, its own places, its size and its
+-- bytes are those of the packed file. By the laws of renumbering. Assumes nothing.
+use mathlib.Core.Path.{_≡_, refl, sym, ap, ap₂, subst, _∙_}
+use mathlib.Core.Bool.{false}
+use mathlib.Core.List.{List, [], _∷_, _++_, map}
+use mathlib.Core.Logic.{inl}
+use Prim.Native.Nat.{ℕ, zero, suc, _+_, _*_, _<_, _≤_}
+use native.Mathlib.Nat.{zero-add}
+use native.Mathlib.Decide.{decLt}
+use native.Mathlib.Omega.{arith}
+use borrow.Author.Tests.{ne-eqb}
+use lib.Dec.{T}
+use lib.ListN.{length, getD, take, length-append, length-map, List·getD-eq-default}
+use lib.Seq.{length-take-le}
+use Rattle.paper.specs.Numbers.{bytes, flatten}
+use Rattle.paper.specs.Store.{Cell, heights, mostCapacity, capacityOf, keptCount, keptOf, cellsAt, cellAt, cellNo, badPointer, storeOk}
+use Rattle.paper.specs.Pack.{width, recordBytes, leafBytes, placesFrom, sizeOf, places, size, listBytes, renumber, listFor, sceneGraph}
+use Rattle.laws.proofs.Bytes.{bytes-length}
+use Rattle.laws.proofs.Lists.{getD-tabulate, getD-count}
+use Rattle.laws.proofs.Kept.{kept-length}
+use Rattle.laws.proofs.Tests.{none-at}
+use Rattle.laws.proofs.StoreFacts.{store-header, names-kept, cell-sound}
+use Rattle.laws.proofs.Invariant.{OkPointer, not-bad-ok}
+use Rattle.laws.proofs.PackedReached.{Chosen, numbers}
+use Rattle.store.proofs.HeaderFacts.{header}
+use Rattle.pack.specs.Scratch.{placePlace}
+use Rattle.pack.specs.Placing.{placesIn, span}
+use Rattle.pack.specs.Writing.{recordIn}
+use Rattle.pack.proofs.Bounds.{place-at}
+use Rattle.pack.proofs.Codes.{width-le, record-length}
+use Rattle.pack.proofs.Placings.{total}
+use Rattle.pack.proofs.KeptWords.{leaf-two, cell-eight}
+use Rattle.pack.proofs.Reaching.{Pointing, chosen, listed}
+use Rattle.pack.proofs.Renumbering.{same-list, same-size, same-places}
+
+-- ---- lists
+
+total-same : (w w′ : ℕ → ℕ) → ((q : ℕ) → w q ≡ w′ q) → (l : List ℕ) → total w l ≡ total w′ l
+unfolding total
+total-same w w′ h [] = refl
+total-same w w′ h (q ∷ l) = ap₂ (λ (x y : ℕ). x + y) (h q) (total-same w w′ h l)
+
+total-ones : (w : ℕ → ℕ) → ((q : ℕ) → w q ≡ 1) → (l : List ℕ) → total w l ≡ length l
+unfolding total
+total-ones w h [] = refl
+total-ones w h (q ∷ l) = omega (arith, h q, total-ones w h l)
+
+parts-same : (f g : ℕ → List ℕ) → ((q : ℕ) → f q ≡ g q) → (l : List ℕ) → flatten (map f l) ≡ flatten (map g l)
+unfolding flatten
+parts-same f g h [] = refl
+parts-same f g h (q ∷ l) = ap₂ (λ (x y : List ℕ). x ++ y) (h q) (parts-same f g h l)
+
+parts-map : {A : Type 0} (f : A → List ℕ) (g : ℕ → A) (l : List ℕ) → flatten (map (λ q. f (g q)) l) ≡ flatten (map f (map g l))
+unfolding flatten
+parts-map f g [] = refl
+parts-map f g (q ∷ l) = ap (λ (x : List ℕ). f (g q) ++ x) (parts-map f g l)
+
+-- ---- lengths
+
+list-length : (ps : List ℕ) (cs : List Cell) → length (flatten (map (recordBytes ps) cs)) ≡ 2 * sizeOf ps cs
+unfolding flatten sizeOf
+list-length ps [] = refl
+list-length ps (c ∷ cs) = length-append (recordBytes ps c) (flatten (map (recordBytes ps) cs)) ∙ omega (arith, record-length ps c, list-length ps cs)
+
+size-most : (ps : List ℕ) (ns : List ℕ) (f : ℕ → Cell) → ((i : ℕ) → i < length ns → length (f (getD ns i 0)) ≡ 8) → sizeOf ps (map f ns) ≤ 17 * length ns
+unfolding sizeOf
+size-most ps [] f h = omega arith
+size-most ps (q ∷ ns) f h = omega (arith, width-le ps (f q), h 0 (omega arith), size-most ps ns f (λ i l. h (suc i) (omega arith)))
+
+leaf-length : (c : Cell) → length c ≡ 2 → length (leafBytes c) ≡ 8
+unfolding leafBytes flatten
+leaf-length [] e = absurd (omega (arith, e))
+leaf-length (a ∷ []) e = absurd (omega (arith, e))
+leaf-length (a ∷ b ∷ []) e =
+    length-append (bytes 4 a) (bytes 4 b ++ []) ∙ omega (arith, bytes-length 4 a, length-append (bytes 4 b) [], bytes-length 4 b)
+leaf-length (a ∷ b ∷ d ∷ c) e = absurd (omega (arith, e))
+
+leaves-length : (ns : List ℕ) (f : ℕ → Cell) → ((i : ℕ) → i < length ns → length (f (getD ns i 0)) ≡ 2) → length (flatten (map leafBytes (map f ns))) ≡ 8 * length ns
+unfolding flatten
+leaves-length [] f h = refl
+leaves-length (q ∷ ns) f h =
+    length-append (leafBytes (f q)) (flatten (map leafBytes (map f ns)))
+    ∙ omega (arith, leaf-length (f q) (h 0 (omega arith)), leaves-length ns f (λ i l. h (suc i) (omega arith)))
+
+module _ (ws : List ℕ) (ok : T (storeOk ws)) (top p : ℕ) (hk : top < heights) (some : p ≡ 0 → ⊥) (fine : badPointer (keptCount ws top) p ≡ false) where
+  abbrev K : List (List Cell)
+  K = keptOf ws
+
+  abbrev C : ℕ
+  C = capacityOf ws
+
+  abbrev G : List (List Cell)
+  G = sceneGraph (keptOf ws) top p
+
+  abbrev N : ℕ → List ℕ
+  N = numbers (keptOf ws) top p
+
+  -- ---- the scene's cells
+
+  pub capacity-most : C ≤ mostCapacity
+  capacity-most = header ws (store-header ws ok) .most
+
+  kept-few : (j : ℕ) → j < heights → keptCount ws j ≤ C
+  kept-few j h = header ws (store-header ws ok) .counts j h
+
+  pointing : Pointing K top
+  pointing j h q l i = go (decLt i 8)
+    where
+      c : Cell
+      c = cellAt K (suc j) q
+
+      hq : q < keptCount ws (suc j)
+      hq = subst (λ (n : ℕ). q < n) (kept-length ws (suc j) (omega arith)) l
+
+      go : Dec (i < 8) → OkPointer (length (cellsAt K j)) (getD c i 0)
+      go (yes m) =
+          subst (λ (n : ℕ). OkPointer n (getD c i 0)) (sym (kept-length ws j (omega arith)))
+          (not-bad-ok (keptCount ws j) (getD c i 0) (none-at 8 (λ i. badPointer (keptCount ws j) (getD c i 0)) (cell-sound ws ok j q (omega arith) hq) i m))
+      go (no n) = inl (List·getD-eq-default c 0 (omega (arith, cell-eight ws (store-header ws ok) j q (omega arith) hq)))
+
+  root : cellNo p < length (cellsAt K top)
+  root = rw (kept-length ws top hk) (names-kept (keptCount ws top) p fine (ne-eqb p 0 some))
+
+  pub choice : (j : ℕ) → j ≤ top → Chosen (length (cellsAt K j)) (N j)
+  choice j h = chosen K top p pointing root j h
+
+  pub N-kept : (j : ℕ) → j ≤ top → (i : ℕ) → i < length (N j) → getD (N j) i 0 < keptCount ws j
+  N-kept j h i l = omega (arith, choice j h .below i l, kept-length ws j (omega arith))
+
+  pub N-below : (j : ℕ) → j ≤ top → (i : ℕ) → i < length (N j) → getD (N j) i 0 < C
+  N-below j h i l = omega (arith, N-kept j h i l, kept-few j (omega arith))
+
+  pub N-few : (j : ℕ) → j ≤ top → length (N j) ≤ C
+  N-few j h = omega (arith, choice j h .len, kept-length ws j (omega arith), kept-few j (omega arith))
+
+  graph-list : (j : ℕ) → j ≤ top → cellsAt G j ≡ listFor K N j
+  unfolding sceneGraph
+  graph-list j h = getD-tabulate (suc top) 0 j (listFor K N) [] (omega arith) ∙ ap (listFor K N) (zero-add j)
+
+  graph-leaves : cellsAt G 0 ≡ map (cellAt K 0) (N 0)
+  unfolding listFor
+  graph-leaves = graph-list 0 (omega arith)
+
+  graph-inner : (j : ℕ) → j < top → cellsAt G (suc j) ≡ map (λ q. map (renumber (N j)) (cellAt K (suc j) q)) (N (suc j))
+  unfolding listFor
+  graph-inner j h = graph-list (suc j) h
+
+  -- ---- list k by the places of the lists below
+
+  -- scratch has the places of list j
+  abbrev pub Told : ℕ → List ℕ → Type 0
+  Told j s = (i : ℕ) → i < length (N j) → getD s (placePlace C j (getD (N j) i 0)) 0 ≡ getD (places G j) i 0
+
+  pub record ListIs (k : ℕ) (s : List ℕ) : Type 0 where
+    pub place : (i : ℕ) → i < length (N k) → total (span K C k s) (take i (N k)) ≡ getD (places G k) i 0
+    pub size-is : total (span K C k s) (N k) ≡ size G k
+    pub bytes-are : flatten (map (recordIn K C k s) (N k)) ≡ listBytes G k
+
+  leaves-are : (s : List ℕ) → ListIs 0 s
+  unfolding span recordIn places size listBytes
+  leaves-are s =
+      let ones : (l : List ℕ) → total (span K C 0 s) l ≡ length l = total-ones (span K C 0 s) (λ q. refl) in
+      let many : length (cellsAt G 0) ≡ length (N 0) = ap length graph-leaves ∙ length-map (N 0) (cellAt K 0) in
+      record {
+        place = λ i h. ones (take i (N 0)) ∙ length-take-le i (N 0) (omega arith) ∙ sym (getD-count (length (cellsAt G 0)) 0 i (omega (arith, many)) ∙ zero-add i);
+        size-is = ones (N 0) ∙ sym many;
+        bytes-are = parts-same (recordIn K C 0 s) (λ q. leafBytes (cellAt K 0 q)) (λ q. refl) (N 0) ∙ parts-map leafBytes (cellAt K 0) (N 0) ∙ ap (λ (cs : List Cell). flatten (map leafBytes cs)) (sym graph-leaves);
+      }
+
+  inner-are : (j : ℕ) → j < top → (s : List ℕ) → ((i : ℕ) → i < length (N j) → getD (placesIn C j s) (getD (N j) i 0) 0 ≡ getD (places G j) i 0) → ListIs (suc j) s
+  unfolding span recordIn places size listBytes
+  inner-are j h s told =
+      let ps : List ℕ = places G j in
+      let table : List ℕ = placesIn C j s in
+      let few : length (N j) ≤ mostCapacity = omega (arith, N-few j (omega arith), capacity-most) in
+      let g : ℕ → Cell = cellAt K (suc j) in
+      let w : ℕ → ℕ = λ q. width table (cellAt K (suc j) q) in
+      let same : (l : List ℕ) → total (span K C (suc j) s) l ≡ total w l = total-same (span K C (suc j) s) w (λ q. refl) in
+      let points = listed K top p pointing root j h in
+      let cells : map (λ q. map (renumber (N j)) (cellAt K (suc j) q)) (N (suc j)) ≡ cellsAt G (suc j) = sym (graph-inner j h) in
+      record {
+        place = λ i l.
+            same (take i (N (suc j))) ∙ sym (zero-add (total w (take i (N (suc j))))) ∙ same-places (N j) few ps table told g 0 (N (suc j)) points i l
+            ∙ ap (λ (cs : List Cell). getD (placesFrom ps 0 cs) i 0) cells;
+        size-is = same (N (suc j)) ∙ same-size (N j) few ps table told g (N (suc j)) points ∙ ap (sizeOf ps) cells;
+        bytes-are =
+            parts-same (recordIn K C (suc j) s) (λ q. recordBytes table (cellAt K (suc j) q)) (λ q. refl) (N (suc j))
+            ∙ same-list (N j) few ps table told g (N (suc j)) points ∙ ap (λ (cs : List Cell). flatten (map (recordBytes ps) cs)) cells;
+      }
+
+  pub list-is : (k : ℕ) → k ≤ top → (s : List ℕ) → ((j : ℕ) → j < k → Told j s) → ListIs k s
+  list-is zero h s told = leaves-are s
+  list-is (suc j) h s told =
+      inner-are j h s (λ i l. place-at C j s (getD (N j) i 0) (N-below j (omega arith) i l) ∙ told j (omega arith) i l)
+
+  -- ---- sizes
+
+  pub size-small : (k : ℕ) → k ≤ top → size G k ≤ 17 * mostCapacity
+  unfolding size
+  size-small zero h = omega (arith, ap length graph-leaves, length-map (N 0) (cellAt K 0), N-few 0 h, capacity-most)
+  size-small (suc j) h =
+      let f : ℕ → Cell = λ q. map (renumber (N j)) (cellAt K (suc j) q) in
+      let eight : (i : ℕ) → i < length (N (suc j)) → length (f (getD (N (suc j)) i 0)) ≡ 8 =
+      λ i l. length-map (cellAt K (suc j) (getD (N (suc j)) i 0)) (renumber (N j)) ∙ cell-eight ws (store-header ws ok) j (getD (N (suc j)) i 0) (omega arith) (N-kept (suc j) h i l) in
+      rw (graph-inner j h) (omega (arith, size-most (places G j) (N (suc j)) f eight, N-few (suc j) h, capacity-most))
+
+  pub list-bytes : (k : ℕ) → k < top → length (listBytes G (suc k)) ≡ 2 * size G (suc k)
+  unfolding listBytes size
+  list-bytes k h = list-length (places G k) (cellsAt G (suc k))
+
+  pub leaf-bytes : length (listBytes G 0) ≡ 8 * size G 0
+  unfolding listBytes size
+  leaf-bytes =
+      ap (λ (cs : List Cell). length (flatten (map leafBytes cs))) graph-leaves
+      ∙ leaves-length (N 0) (cellAt K 0) (λ i l. leaf-two ws (store-header ws ok) (getD (N 0) i 0) (N-kept 0 (omega arith) i l))
+      ∙ ap (λ (n : ℕ). 8 * n) (sym (ap length graph-leaves ∙ length-map (N 0) (cellAt K 0)))

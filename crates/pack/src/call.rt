@@ -1,0 +1,142 @@
+// A scene's file, and the call. Scratch is cleared before it is used and after.
+ghost use mathlib.Core.Path.{_≡_};
+ghost use mathlib.Core.Bool.{false};
+ghost use mathlib.Core.List.{[], _∷_};
+ghost use Prim.Native.Nat.{_+_, _≤_, _<_};
+ghost use lib.Dec.{T};
+ghost use lib.ListN.{length, take, drop, replicate};
+ghost use Rattle.paper.specs.Rooms.{depthOk};
+ghost use Rattle.paper.specs.Store.{heights, capacityOf, keptCount, keptOf, badPointer, headerOk, storeOk};
+ghost use Rattle.paper.specs.Packed.{packedHead};
+ghost use Rattle.paper.specs.Pack.{emptyFile, packedFile};
+ghost use Rattle.paper.specs.Answers.{outcome, written};
+ghost use Rattle.paper.specs.Calls.{cleared, packScratch, packOutcome};
+ghost use Rattle.numbers.specs.Laid.{reached, writing};
+ghost use Rattle.pack.specs.Writing.{headOf, fitted};
+use crate::order::order_lists;
+use crate::place::place_lists;
+use crate::write::HEAD;
+use crate::write::file_length;
+use crate::write::write_lists;
+use crate::write::write_sizes;
+use numbers::put_number;
+use paper::Refusal;
+use paper::Written;
+use store::capacity;
+use store::scene_depth;
+use store::scene_root;
+use store::scenes_held;
+use store::store_bad;
+use store::tag;
+
+// The front byte.
+const FRONT: u8 = 0x21;
+
+// Where the length lies, its bytes, and where the depth and the root's mirror lie.
+const LENGTH_PLACE: usize = 1;
+
+const LENGTH_BYTES: usize = 4;
+
+const DEPTH_PLACE: usize = 5;
+
+const MIRROR_PLACE: usize = 6;
+
+// The mirror's place says this for an empty scene.
+const EMPTY: u32 = 8;
+
+// List k has the cells of height k + 2.
+const LEAF_HEIGHT: u32 = 2;
+
+// Scratch takes so many words for each unit of capacity.
+const SCRATCH_PER_UNIT: usize = 60;
+
+// Makes the first n words zero.
+fn clear(scratch: &mut [u32], n: usize)
+    requires { ⌜ n ≤ length (now scratch) ⌝ }
+    ensures { λ _. ⌜ now (scratch .exit) ≡ cleared n (now (scratch .entry)) ⌝ }
+{
+    let mut i = 0;
+    while i < n {
+        scratch[i] = 0;
+        i += 1;
+    }
+}
+
+// The words of scratch that a store of this capacity takes.
+fn scratch_words(store: &[u32]) -> usize
+    requires { ⌜ T (headerOk (now store)) ⌝ }
+    ensures { λ r. ⌜ r ≡ packScratch (capacityOf (now (store .entry))) ⌝ }
+{
+    SCRATCH_PER_UNIT * (capacity(store) as usize)
+}
+
+// Writes the header of a file of this length; answers the position after it.
+fn write_head(out: &mut [u8], total: u64, depth: u32, mirror: u32) -> usize
+    requires { ⌜ packedHead ≤ length (now out) ⌝ }
+    requires { ⌜ (depth < 256) × (mirror < 256) ⌝ }
+    ensures { λ r. ⌜ reached r (now (out .exit)) ≡ writing (headOf total depth mirror) 0 (now (out .entry)) ⌝ }
+{
+    out[0] = FRONT;
+    put_number(out, LENGTH_PLACE, LENGTH_BYTES, total);
+    out[DEPTH_PLACE] = depth as u8;
+    out[MIRROR_PLACE] = mirror as u8;
+    MIRROR_PLACE + 1
+}
+
+// Writes the file of an empty scene.
+fn pack_empty(depth: u32, out: &mut [u8]) -> Written
+    requires { ⌜ T (depthOk depth) ⌝ }
+    ensures { λ r. ⌜ outcome (written r) (now (out .exit) ∷ []) ≡ fitted (emptyFile depth) (now (out .entry)) ⌝ }
+{
+    if (out.len() as u64) < HEAD {
+        return Written::Refused(Refusal::OutputShort);
+    }
+    write_head(out, HEAD, depth, EMPTY);
+    Written::Length(HEAD as u32)
+}
+
+// Writes the file of the scene with this root in list `top`: ordered, placed, measured, written.
+fn pack_root(store: &[u32], top: u32, root: u32, scratch: &mut [u32], out: &mut [u8]) -> Written
+    requires { ⌜ T (storeOk (now store)) ⌝ }
+    requires { ⌜ (top < heights) × (root ≡ 0 → ⊥) × (badPointer (keptCount (now store) top) root ≡ false) ⌝ }
+    requires { ⌜ packScratch (capacityOf (now store)) ≤ length (now scratch) ⌝ }
+    requires { ⌜ take (packScratch (capacityOf (now store))) (now scratch) ≡ replicate (packScratch (capacityOf (now store))) 0 ⌝ }
+    ensures { λ r. ⌜ outcome (written r) (now (out .exit) ∷ []) ≡ fitted (packedFile (keptOf (now (store .entry))) (top + 2) root) (now (out .entry)) ⌝ }
+    ensures { λ r. ⌜ (length (now (scratch .exit)) ≡ length (now (scratch .entry))) × (drop (packScratch (capacityOf (now (store .entry)))) (now (scratch .exit)) ≡ drop (packScratch (capacityOf (now (store .entry)))) (now (scratch .entry))) ⌝ }
+{
+    let counts = order_lists(store, top, root, scratch);
+    let sizes = place_lists(store, top, counts, scratch);
+    let total = file_length(sizes, top);
+    if (out.len() as u64) < total {
+        return Written::Refused(Refusal::OutputShort);
+    }
+    let after_head = write_head(out, total, top + LEAF_HEIGHT, tag(root));
+    let after_sizes = write_sizes(sizes, top, out, after_head);
+    write_lists(store, top, counts, scratch, out, after_sizes);
+    Written::Length(total as u32)
+}
+
+// Pack: the length written; refused by 2 (the whole store), 9, 11, then 12.
+pub fn pack(store: &[u32], scene: u32, scratch: &mut [u32], out: &mut [u8]) -> Written
+    ensures { λ r. ⌜ outcome (written r) (now (scratch .exit) ∷ now (out .exit) ∷ []) ≡ packOutcome (now (store .entry)) scene (now (scratch .entry)) (now (out .entry)) ⌝ }
+{
+    if store_bad(store) {
+        return Written::Refused(Refusal::DamagedStore);
+    }
+    if scenes_held(store) <= scene {
+        return Written::Refused(Refusal::NoScene);
+    }
+    let words = scratch_words(store);
+    if scratch.len() < words {
+        return Written::Refused(Refusal::ScratchShort);
+    }
+    clear(scratch, words);
+    let depth = scene_depth(store, scene);
+    let root = scene_root(store, scene);
+    if root == 0 {
+        return pack_empty(depth, out);
+    }
+    let answer = pack_root(store, depth - LEAF_HEIGHT, root, scratch, out);
+    clear(scratch, words); // so that it is left clear
+    answer
+}

@@ -1,0 +1,34 @@
+// The whole program: a script from standard input, its lines to standard output.
+use crate::turns::play;
+
+// The longest script.
+const LONGEST: usize = 262144;
+
+// Plays the script on standard input. One byte more is read than the longest has, to see that there is one.
+pub fn run() {
+    let mut script = [0u8; 262145];
+    let size = io::read_full(0, &mut script);
+    start(&script[..size]);
+}
+
+// Plays a script from its start: 131,072 words each of store and of scratch, 65,536 bytes each for the current packed file and
+// for output.
+pub fn start(script: &[u8]) {
+    if script.len() > LONGEST {
+        io::write_all(1, b"stop\n");
+        return;
+    }
+    let mut store = [0u32; 131072];
+    let mut file = [0u8; 65536];
+    let mut out = [0u8; 65536];
+    let mut scratch = [0u32; 131072];
+    let mut text = [0u8; 4096];
+    play(
+        script,
+        &mut store,
+        &mut file,
+        &mut out,
+        &mut scratch,
+        &mut text,
+    );
+}

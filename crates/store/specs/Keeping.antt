@@ -1,0 +1,28 @@
+-- Document 01, 'The store': the words after a cell more, a scene more, and after lists are cut back. Definitions only.
+-- As in `paper`, list k has the cells of height k + 2, so list 0 has the leaves.
+use mathlib.Core.List.{List}
+use Prim.Native.Nat.{ℕ, zero, suc, _+_, _-_, _*_}
+use lib.ListN.{getD, set, replicate}
+use lib.Seq.{sets}
+use Rattle.paper.specs.Store.{Cell, heights, capacityOf, scenesHeld, keptCount, scenePlace, cellWords, cellPlace}
+
+-- 'kept as it stands under the next number': list k's count grows by one, and the cell's words stand behind those of the others
+unfoldable pub keepIn : ℕ → Cell → List ℕ → List ℕ
+keepIn k c ws = sets (set ws (2 + k) (suc (keptCount ws k))) (cellPlace (capacityOf ws) k (keptCount ws k)) c
+
+-- 'the scene number is the count of scenes before': word 1 grows by one, and the scene's depth and root pointer stand behind those of the others
+unfoldable pub holdIn : Cell → List ℕ → List ℕ
+holdIn c ws = sets (set ws 1 (suc (scenesHeld ws))) (scenePlace (scenesHeld ws)) c
+
+-- list k back to its first n cells: the words of the others become zero, and n is its count
+unfoldable pub cutList : ℕ → ℕ → List ℕ → List ℕ
+cutList k n ws = set (sets ws (cellPlace (capacityOf ws) k n) (replicate (cellWords k * (keptCount ws k - n)) 0)) (2 + k) n
+
+-- each of the first m lists back to so many cells as ns says
+unfoldable pub cutLists : ℕ → List ℕ → List ℕ → List ℕ
+cutLists zero ns ws = ws
+cutLists (suc k) ns ws = cutList k (getD ns k 0) (cutLists k ns ws)
+
+-- and all of them
+unfoldable pub cutBack : List ℕ → List ℕ → List ℕ
+cutBack ns ws = cutLists heights ns ws

@@ -1,0 +1,16 @@
+-- Document 01, 'Rooms and mirrors' and 'The store': a pointer and a cell mirrored once more, on any words. Definitions only.
+use mathlib.Core.Bool.{cond}
+use Prim.Native.Nat.{ℕ, _+_, _*_}
+use lib.Bits.{bitXor}
+use lib.Dec.{eqb}
+use lib.ListN.{getD}
+use Rattle.paper.specs.Numbers.{tabulate}
+use Rattle.paper.specs.Store.{Cell, tagUnit, tagOf, lowOf}
+
+-- 'two mirrors one after the other are their exclusive or': the tag changes, the cell's number stays, and none stays none
+unfoldable pub turnedBy : ℕ → ℕ → ℕ
+turnedBy t p = cond (eqb p 0) 0 (bitXor (tagOf p) t * tagUnit + lowOf p)
+
+-- 'a mirrored cell has as child i the mirrored child (i xor t)'
+unfoldable pub mirroredCell : ℕ → Cell → Cell
+mirroredCell t c = tabulate 0 8 (λ i. turnedBy t (getD c (bitXor i t) 0))

@@ -1,0 +1,44 @@
+// Mirroring: a pointer's tag is changed by exclusive or, and a mirrored cell has as child i the mirrored child (i xor t).
+ghost use mathlib.Core.Path.{_≡_};
+ghost use Prim.Native.Nat.{_<_};
+ghost use lib.Bits.{bitXor};
+ghost use lib.ListN.{getD};
+ghost use Rattle.store.specs.Mirrored.{turnedBy, mirroredCell};
+use crate::pointers::TAG_STEP;
+
+// A pointer mirrored once more: none stays none.
+pub fn turned(p: u32, mirror: u32) -> u32
+    requires { ⌜ mirror < 8 ⌝ }
+    ensures { λ r. ⌜ r ≡ turnedBy mirror p ⌝ }
+{
+    if p == 0 {
+        return 0;
+    }
+    p ^ (mirror * TAG_STEP)
+}
+
+// Pointer i of a cell so mirrored.
+fn turned_child(cell: [u32; 8], mirror: u32, i: u32) -> u32
+    requires { ⌜ (mirror < 8) × (i < 8) ⌝ }
+    ensures { λ r. ⌜ r ≡ turnedBy mirror (getD cell (bitXor i mirror) 0) ⌝ }
+{
+    let from = (i ^ mirror) as usize;
+    turned(cell[from], mirror)
+}
+
+// A cell so mirrored.
+pub fn mirrored(cell: [u32; 8], mirror: u32) -> [u32; 8]
+    requires { ⌜ mirror < 8 ⌝ }
+    ensures { λ r. ⌜ r ≡ mirroredCell mirror cell ⌝ }
+{
+    [
+        turned_child(cell, mirror, 0),
+        turned_child(cell, mirror, 1),
+        turned_child(cell, mirror, 2),
+        turned_child(cell, mirror, 3),
+        turned_child(cell, mirror, 4),
+        turned_child(cell, mirror, 5),
+        turned_child(cell, mirror, 6),
+        turned_child(cell, mirror, 7),
+    ]
+}
