@@ -1,6 +1,7 @@
 // Document 01's program: an outline is added to a store of capacity 32, and its answer, the cells kept at each height, the solid
 // voxels of the whole room and the packed length are printed.
 ghost use Prim.Native.Nat.{_≤_};
+use numbers::wide;
 
 // The longest input; a longer one prints `answer 4` alone.
 pub const MOST_INPUT: usize = 8192;
@@ -36,7 +37,7 @@ fn depth(file: &[u8]) -> u32
     if file.len() <= DEPTH_PLACE {
         return 0;
     }
-    let said = file[DEPTH_PLACE] as u32;
+    let said = wide(file[DEPTH_PLACE]);
     if DEEPEST < said {
         return 0;
     }
@@ -44,7 +45,9 @@ fn depth(file: &[u8]) -> u32
 }
 
 // The cells kept from a height down to 2.
-fn kept_lines(store: &[u32], depth: u32) {
+fn kept_lines(store: &[u32], depth: u32)
+    requires { ⌜ depth ≤ 16 ⌝ }
+{
     let mut height = depth;
     while LEAST_DEPTH <= height {
         io::write_all(1, b"height ");

@@ -1,5 +1,6 @@
 // The commands that change the store or the current packed file. They answer as the commands of `calls` do; those that
 // choose how many words or bytes there are answer that too.
+ghost use mathlib.Core.Path.{_≡_};
 ghost use Prim.Native.Nat.{_+_, _≤_};
 ghost use lib.ListN.{length};
 ghost use Rattle.script.specs.Steps.{Took};
@@ -12,6 +13,7 @@ use crate::text::label;
 use crate::text::put;
 use crate::text::written;
 use numbers::be32;
+use paper::Written;
 
 // What a command took of the script, how many words or bytes there are from here on, and the place after its line.
 pub struct Change {
@@ -169,61 +171,6 @@ pub fn load(given: &[u8], file: &mut [u8], used: usize) -> Change
     }
 }
 
-// `P`: pack into as many words of scratch and bytes of output as the script says. Where it is accepted, the bytes written become
-// the current packed file, of `size` bytes before.
-pub fn pack(
-    given: &[u8],
-    store: &[u32],
-    scratch: &mut [u32],
-    out: &mut [u8],
-    file: &mut [u8],
-    size: usize,
-    text: &mut [u8],
-    used: usize,
-) -> Change
-    requires { ⌜ used + 160 ≤ length (now text) ⌝ }
-    requires { ⌜ size ≤ length (now file) ⌝ }
-    ensures { λ r. ⌜ Took (now (given .entry)) used (r .took) (r .used) ⌝ }
-    ensures { λ r. ⌜ r .size ≤ length (now (file .entry)) ⌝ }
-{
-    if given.len() < 12 {
-        return Change {
-            took: 0,
-            size: size,
-            used: used,
-        };
-    }
-    let words = be32(given, 4) as usize;
-    let room = be32(given, 8) as usize;
-    if words > scratch.len() {
-        return Change {
-            took: 0,
-            size: size,
-            used: used,
-        };
-    }
-    if room > out.len() {
-        return Change {
-            took: 0,
-            size: size,
-            used: used,
-        };
-    }
-    let lent = &mut scratch[..words];
-    let bytes = &mut out[..room];
-    fill_words(lent);
-    fill_bytes(bytes);
-    let answer = rooms::pack(store, be32(given, 0), lent, bytes);
-    let told = written(text, used, b"pack ", answer);
-    let first = label(text, told, b" scratch ", sum_words(lent));
-    let second = label(text, first, b" out ", sum_bytes(bytes));
-    Change {
-        took: 13,
-        size: taken(answer.number(), answer.value() as usize, bytes, file, size),
-        used: put(text, second, b"\n"),
-    }
-}
-
 // The bytes of the current packed file after packing: those written, or as many as before.
 fn taken(number: u32, count: usize, bytes: &[u8], file: &mut [u8], size: usize) -> usize
     requires { ⌜ size ≤ length (now file) ⌝ }
@@ -240,4 +187,93 @@ fn taken(number: u32, count: usize, bytes: &[u8], file: &mut [u8], size: usize) 
     }
     copy(&bytes[..count], file);
     count
+}
+
+// The line of packing, with the sums of the scratch and of the output.
+fn pack_line(text: &mut [u8], used: usize, answer: Written, scratch: &[u32], bytes: &[u8]) -> usize
+    requires { ⌜ used + 160 ≤ length (now text) ⌝ }
+    ensures { λ r. ⌜ r ≤ used + 160 ⌝ }
+{
+    let told = written(text, used, b"pack ", answer);
+    let first = label(text, told, b" scratch ", sum_words(scratch));
+    let second = label(text, first, b" out ", sum_bytes(bytes));
+    put(text, second, b"\n")
+}
+
+// Packs a scene into lent bytes with lent scratch. Where it is accepted, what it writes becomes the current packed file, of
+// `size` bytes before.
+fn pack_into(
+    store: &[u32],
+    scene: u32,
+    scratch: &mut [u32],
+    bytes: &mut [u8],
+    file: &mut [u8],
+    size: usize,
+    text: &mut [u8],
+    used: usize,
+) -> Change
+    requires { ⌜ (used + 160 ≤ length (now text)) × (size ≤ length (now file)) ⌝ }
+    ensures { λ r. ⌜ (r .took ≡ 13) × (r .used ≤ used + 160) × (r .size ≤ length (now (file .entry))) ⌝ }
+{
+    fill_words(scratch);
+    fill_bytes(bytes);
+    let answer = rooms::pack(store, scene, scratch, bytes);
+    let kept = taken(answer.number(), answer.value() as usize, bytes, file, size);
+    let end = pack_line(text, used, answer, scratch, bytes);
+    Change {
+        took: 13,
+        size: kept,
+        used: end,
+    }
+}
+
+// `P`: pack, with as many words of scratch and bytes of output as the script says.
+pub fn pack(
+    given: &[u8],
+    store: &[u32],
+    scratch: &mut [u32],
+    out: &mut [u8],
+    file: &mut [u8],
+    size: usize,
+    text: &mut [u8],
+    used: usize,
+) -> Change
+    requires { ⌜ (used + 160 ≤ length (now text)) × (size ≤ length (now file)) ⌝ }
+    ensures { λ r. ⌜ Took (now (given .entry)) used (r .took) (r .used) ⌝ }
+    ensures { λ r. ⌜ r .size ≤ length (now (file .entry)) ⌝ }
+{
+    if given.len() < 12 {
+        return Change {
+            took: 0,
+            size: 0,
+            used: used,
+        };
+    }
+    let words = be32(given, 4) as usize;
+    let room = be32(given, 8) as usize;
+    if words > scratch.len() {
+        return Change {
+            took: 0,
+            size: 0,
+            used: used,
+        };
+    }
+    if room > out.len() {
+        return Change {
+            took: 0,
+            size: 0,
+            used: used,
+        };
+    }
+    let scene = be32(given, 0);
+    pack_into(
+        store,
+        scene,
+        &mut scratch[..words],
+        &mut out[..room],
+        file,
+        size,
+        text,
+        used,
+    )
 }

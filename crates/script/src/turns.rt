@@ -140,6 +140,14 @@ fn flushed(text: &[u8], used: usize) -> usize
     0
 }
 
+// Writes the text with `stop` behind it.
+fn say_stop(text: &mut [u8], used: usize)
+    requires { ⌜ (used ≤ length (now text)) × (160 ≤ length (now text)) ⌝ }
+{
+    let stopped = put(text, flushed(text, used), b"stop\n");
+    io::write_all(1, &text[..stopped]);
+}
+
 // Plays a script on this memory and writes what it prints.
 pub fn play(
     script: &[u8],
@@ -161,8 +169,7 @@ pub fn play(
         let before = played.at;
         let next = turn(script, played, store, file, out, scratch, text);
         if next.at == before {
-            let stopped = put(text, flushed(text, next.used), b"stop\n");
-            io::write_all(1, &text[..stopped]);
+            say_stop(text, next.used);
             return;
         }
         played = Played {

@@ -32,8 +32,8 @@ be32-requires-2 c κs = search needs
 new-store-requires : tie.Need-new-store-requires
 new-store-requires c κs = search needs
 
-number-of-requires : tie.Need-number-of-requires
-number-of-requires c κs = search needs
+number-requires : tie.Need-number-requires
+number-requires c κs = search needs
 
 slice-aggregate-label : tie.Need-slice-aggregate-label
 slice-aggregate-label c = search needs
@@ -81,7 +81,7 @@ new-store-spec =
     fill-words-requires
     be32-requires-2
     new-store-requires
-    number-of-requires
+    number-requires
     slice-aggregate-label
     cast-label
     label-requires

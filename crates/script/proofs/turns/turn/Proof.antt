@@ -23,8 +23,8 @@ part-given-end c = search needs
 new-store-requires : tie.Need-new-store-requires
 new-store-requires c κs = search needs
 
-add-t27 : tie.Need-add-t27
-add-t27 c = search needs
+add-t29 : tie.Need-add-t29
+add-t29 c = search needs
 
 same-length : tie.Need-same-length
 same-length c = search needs
@@ -38,14 +38,44 @@ returns c = search needs
 load-requires : tie.Need-load-requires
 load-requires c κs = search needs
 
-add-t30 : tie.Need-add-t30
-add-t30 c = search needs
+add-t32 : tie.Need-add-t32
+add-t32 c = search needs
 
 same-length-3 : tie.Need-same-length-3
 same-length-3 c = search needs
 
 returns-2 : tie.Need-returns-2
 returns-2 c = search needs
+
+slice-reshare-prefix-pack : tie.Need-slice-reshare-prefix-pack
+slice-reshare-prefix-pack c = search needs
+
+slice-aggregate-pack : tie.Need-slice-aggregate-pack
+slice-aggregate-pack c = simp length-take (omega arith)
+
+pack-requires : tie.Need-pack-requires
+pack-requires c κs = search needs
+
+add-t43 : tie.Need-add-t43
+add-t43 c = search needs
+
+same-length-4 : tie.Need-same-length-4
+same-length-4 c = search needs
+
+same-length-5 : tie.Need-same-length-5
+same-length-5 c = search needs
+
+same-length-6 : tie.Need-same-length-6
+same-length-6 c = search needs
+
+same-length-7 : tie.Need-same-length-7
+same-length-7 c = search needs
+
+same-length-8 : tie.Need-same-length-8
+same-length-8 c = search needs
+
+returns-3 : tie.Need-returns-3
+returns-3 c = search needs
 
 slice-relend-prefix-command : tie.Need-slice-relend-prefix-command
 slice-relend-prefix-command c = search needs
@@ -62,23 +92,23 @@ slice-aggregate-command-2 c = simp length-take (omega arith)
 command-requires : tie.Need-command-requires
 command-requires c κs = search needs
 
-add-t20 : tie.Need-add-t20
-add-t20 c = search needs
+add-t22 : tie.Need-add-t22
+add-t22 c = search needs
 
-same-length-4 : tie.Need-same-length-4
-same-length-4 c = search needs
+same-length-9 : tie.Need-same-length-9
+same-length-9 c = search needs
 
-same-length-5 : tie.Need-same-length-5
-same-length-5 c = search needs
+same-length-10 : tie.Need-same-length-10
+same-length-10 c = search needs
 
-same-length-6 : tie.Need-same-length-6
-same-length-6 c = search needs
+same-length-11 : tie.Need-same-length-11
+same-length-11 c = search needs
 
-same-length-7 : tie.Need-same-length-7
-same-length-7 c = search needs
+same-length-12 : tie.Need-same-length-12
+same-length-12 c = search needs
 
-returns-3 : tie.Need-returns-3
-returns-3 c = search needs
+returns-4 : tie.Need-returns-4
+returns-4 c = search needs
 
 pub turn-spec : {M : Type 1} → statement M
 turn-spec =
@@ -90,22 +120,32 @@ turn-spec =
     part-given-start
     part-given-end
     new-store-requires
-    add-t27
+    add-t29
     same-length
     same-length-2
     returns
     load-requires
-    add-t30
+    add-t32
     same-length-3
     returns-2
+    slice-reshare-prefix-pack
+    slice-aggregate-pack
+    pack-requires
+    add-t43
+    same-length-4
+    same-length-5
+    same-length-6
+    same-length-7
+    same-length-8
+    returns-3
     slice-relend-prefix-command
     slice-aggregate-command
     slice-relend-prefix-command-2
     slice-aggregate-command-2
     command-requires
-    add-t20
-    same-length-4
-    same-length-5
-    same-length-6
-    same-length-7
-    returns-3)
+    add-t22
+    same-length-9
+    same-length-10
+    same-length-11
+    same-length-12
+    returns-4)
