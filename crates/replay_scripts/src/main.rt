@@ -36,4 +36,6 @@ fn main() {
     play(b"packing.script");
     play(b"far.script");
     play(b"opening.script");
+    play(b"changes.script");
+    play(b"rules.script");
 }

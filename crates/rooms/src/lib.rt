@@ -2,11 +2,12 @@
 // as `paper` defines it. No call asks anything of its caller.
 ghost use mathlib.Core.Path.{_≡_};
 ghost use mathlib.Core.List.{[], _∷_};
-ghost use Rattle.paper.specs.Answers.{outcome, started, added, seen, occupied, counted, kept as kept-told, written, found, chosen};
-ghost use Rattle.paper.specs.Calls.{newOutcome, addOutcome, voxelOutcome, cellOutcome, boxOutcome, keptOutcome, outlineOutcome, packOutcome, packedVoxelOutcome};
+ghost use Rattle.paper.specs.Answers.{outcome, started, added, seen, occupied, counted, kept as kept-told, written, checked, found, chosen};
+ghost use Rattle.paper.specs.Calls.{newOutcome, addOutcome, voxelOutcome, cellOutcome, boxOutcome, keptOutcome, outlineOutcome, packOutcome, checkOutcome, packedVoxelOutcome};
 ghost use Rattle.paper.specs.Detail.{detailOutcome};
 ghost use Rattle.paper.specs.Rooms.{point};
 use paper::Added;
+use paper::Checked;
 use paper::Chosen;
 use paper::Counted;
 use paper::Found;
@@ -96,6 +97,13 @@ pub fn pack(store: &[u32], scene: u32, scratch: &mut [u32], out: &mut [u8]) -> W
     ensures { λ r. ⌜ outcome (written r) (now (scratch .exit) ∷ now (out .exit) ∷ []) ≡ packOutcome (now (store .entry)) scene (now (scratch .entry)) (now (out .entry)) ⌝ }
 {
     pack::pack(store, scene, scratch, out)
+}
+
+// Packed check: the depth of a proper file.
+pub fn check(file: &[u8], scratch: &mut [u8]) -> Checked
+    ensures { λ r. ⌜ outcome (checked r) (now (scratch .exit) ∷ []) ≡ checkOutcome (now (file .entry)) (now (scratch .entry)) ⌝ }
+{
+    proper::check(file, scratch)
 }
 
 // Packed voxel: solid or empty, with the number of records read on the way.

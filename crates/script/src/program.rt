@@ -12,7 +12,7 @@ pub fn run() {
 }
 
 // Plays a script from its start: 131,072 words each of store and of scratch, 65,536 bytes each for the current packed file and
-// for output.
+// for output, which is also the scratch of a check.
 pub fn start(script: &[u8]) {
     if script.len() > LONGEST {
         io::write_all(1, b"stop\n");

@@ -3,10 +3,15 @@ ghost use Prim.Native.Nat.{_+_, _≤_};
 ghost use lib.ListN.{length};
 ghost use Rattle.script.specs.Steps.{Took};
 use crate::calls::Step;
+use crate::fill::fill_bytes;
+use crate::sums::sum_bytes;
+use crate::text::label;
 use crate::text::line;
 use crate::text::long_line;
+use crate::text::put;
 use numbers::be32;
 use numbers::be64;
+use paper::Checked;
 use paper::Chosen;
 use paper::Found;
 use paper::Sight;
@@ -70,6 +75,44 @@ pub fn open_and_ask(given: &[u8], file: &[u8], text: &mut [u8], used: usize) -> 
             answer.value() as u64,
             answer.records(),
         ),
+    }
+}
+
+// The line of a check, with the sum of the scratch.
+fn check_line(text: &mut [u8], used: usize, answer: Checked, scratch: &[u8]) -> usize
+    requires { ⌜ used + 160 ≤ length (now text) ⌝ }
+    ensures { λ r. ⌜ r ≤ used + 160 ⌝ }
+{
+    let first = label(text, used, b"check ", answer.number() as u64);
+    let second = label(text, first, b" ", answer.value() as u64);
+    let summed = label(text, second, b" scratch ", sum_bytes(scratch));
+    put(text, summed, b"\n")
+}
+
+// `c`: packed check, with as many bytes of scratch as the script says.
+pub fn check(given: &[u8], file: &[u8], scratch: &mut [u8], text: &mut [u8], used: usize) -> Step
+    requires { ⌜ used + 160 ≤ length (now text) ⌝ }
+    ensures { λ r. ⌜ Took (now (given .entry)) used (r .took) (r .used) ⌝ }
+{
+    if given.len() < 4 {
+        return Step {
+            took: 0,
+            used: used,
+        };
+    }
+    let room = be32(given, 0) as usize;
+    if room > scratch.len() {
+        return Step {
+            took: 0,
+            used: used,
+        };
+    }
+    let lent = &mut scratch[..room];
+    fill_bytes(lent);
+    let answer = rooms::check(file, lent);
+    Step {
+        took: 5,
+        used: check_line(text, used, answer, lent),
     }
 }
 

@@ -15,6 +15,7 @@ use crate::changes::new_store;
 use crate::changes::pack;
 use crate::changes::set_byte;
 use crate::changes::set_word;
+use crate::scenes::check;
 use crate::scenes::detail;
 use crate::scenes::open_and_ask;
 use crate::scenes::packed_voxel;
@@ -51,6 +52,7 @@ fn command(
         b'O' => outline_out(given, store, out, text, used),
         b'v' => packed_voxel(given, file, text, used),
         b'q' => open_and_ask(given, file, text, used),
+        b'c' => check(given, file, out, text, used),
         b'D' => detail(given, text, used),
         b'X' => set_byte(given, file, used),
         b'W' => set_word(given, store, used),

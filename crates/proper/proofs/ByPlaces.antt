@@ -1,0 +1,576 @@
+-- The rules by places and marks are the rules of a proper file. A start's mark is the mask of the graph's cell there, by induction on the list; so
+-- pointers match, tags are lowest and records are named by places just where they are by numbers. Assumes nothing.
+use mathlib.Core.Path.{_≡_, refl, sym, _∙_, subst, ap, ap₂}
+use mathlib.Core.Bool.{Bool, true, false, cond, not, _&&_}
+use mathlib.Core.List.{List, [], _∷_, map}
+use mathlib.Core.Logic.{_⊎_, inl, inr}
+use Prim.Native.Nat.{ℕ, zero, suc, _+_, _-_, _*_, _/_, _%_, _^_, _<_, _≤_}
+use native.Mathlib.Nat.{le-of-suc-le-suc, not-suc-le-zero}
+use native.Mathlib.Decide.{ℕ-discrete}
+use native.Mathlib.Omega.{arith}
+use borrow.Author.Tests.{eq-eqb, ne-eqb, eqb-true, eqb-false, lt-ltb, ltb-true, ltb-false}
+use lib.Bits.{bitXor}
+use lib.Dec.{T, eqb, leb, ltb, eqb→eq, ltb→lt, leb→le, lit<}
+use lib.ListN.{length, getD, drop, replicate, List·getD-map, List·getD-eq-default, length-map, length-replicate}
+use Rattle.paper.specs.Numbers.{allBelow, num, count, allIn, isIn, indexIn}
+use Rattle.paper.specs.Outline.{lengthOk}
+use Rattle.paper.specs.Store.{Cell, cellNo, tagOf, pointer, leafNo, cellsAt, cellAt}
+use Rattle.paper.specs.Match.{pointerMatch, cellMatch, matches}
+use Rattle.paper.specs.Packed.{packedHead, topOf, rootTag, isEmpty, sizeAt, tailAt, listAt, headerAt, halves, Link, noLink, readLinks, linksAt, leafAt, recordOk, leafOk, codeFor, startsFrom, placesAt, byNumber, cellsOf, graphOf, linkOk, linksOk, wholeAt, names, popularity, namedOk, apartOk, tagLow, pointerLow, tagsOk, fallingOk, graphOk, sizesOk, topOk, listsOk, rootOk, headOk, packedRules}
+use Rattle.paper.specs.Runs.{Bytes}
+use Rattle.laws.proofs.Tests.{T-true, true-T, iff-eq, and-left, and-right, and-T, and5, and5-T, all-at, all-T, all-same}
+use Rattle.laws.proofs.Lists.{allIn-at, allIn-in, allIn-T, At, isIn-at, isIn-getD, Once, index-getD, length-count, getD-count}
+use Rattle.laws.proofs.Bytes.{bytes-drop}
+use Rattle.laws.proofs.Eight.{xor8-lt}
+use Rattle.laws.proofs.Adding.{pointer-cell, pointer-tag}
+use Rattle.laws.proofs.Matching.{LeafFits, selfAt, fits-at}
+use Rattle.laws.proofs.Masks.{marked, symmetries, mask-bit, mask-same, mask-odd}
+use Rattle.laws.proofs.PackedLists.{num4-lt, Fits, links-fit, halves-one, list-bytes, start-inside, start-small, link-some, graph-cells, record-cell, leaf-cell}
+use Rattle.laws.proofs.PackedWalk.{SoundLists, lists-of}
+use Rattle.proper.specs.Places.{unitAt, markOf, leavesMatch, linkMatch, selfBy, recordsMatch, leafMask, recordMask, marksAt, lowBy, linkRules, recordRules, apartIn, listRules, rootLow, namesPlace, timesNamed, popularAt, popularRules, rulesBy, packedBy}
+use Rattle.proper.proofs.Marks.{zeros-read, marks-start, marks-other, list-length, tail-whole, tail-grows}
+
+-- ---- a record has eight links
+
+read-length : (n h : ℕ) (l : List ℕ) → length (readLinks n h l) ≡ n
+unfolding readLinks
+read-length zero h l = refl
+read-length (suc n) h l = ap suc (read-length n (h / 4) (drop (2 * (h % 4)) l))
+
+pub links-length : (l : List ℕ) (p : ℕ) → length (linksAt l p) ≡ 8
+unfolding linksAt
+links-length l p = read-length 8 (headerAt l p) (drop (2 * p + 2) l)
+
+-- ---- no place twice
+
+pub starts-late : (l : List ℕ) (n p q : ℕ) → q < length (startsFrom l n p) → p ≤ getD (startsFrom l n p) q 0
+unfolding startsFrom
+starts-late l zero p = λ q h. absurd (not-suc-le-zero h)
+starts-late l (suc n) p = go (ltb (2 * p) (length l)) (starts-late l n (p + halves 8 (headerAt l p)))
+  where
+    ss : List ℕ
+    ss = startsFrom l n (p + halves 8 (headerAt l p))
+
+    go : (b : Bool) → ((q : ℕ) → q < length ss → p + halves 8 (headerAt l p) ≤ getD ss q 0)
+        → (q : ℕ) → q < length (cond b (p ∷ ss) []) → p ≤ getD (cond b (p ∷ ss) []) q 0
+    go false ih q h = absurd (not-suc-le-zero h)
+    go true ih zero h = omega arith
+    go true ih (suc q) h = omega (arith, ih q (le-of-suc-le-suc h))
+
+cons-once : (x : ℕ) (l : List ℕ) → ((q : ℕ) → q < length l → suc x ≤ getD l q 0) → Once l → Once (x ∷ l)
+cons-once x l late once zero zero hi hj e = refl
+cons-once x l late once zero (suc j) hi hj e = absurd (omega (arith, e, late j (le-of-suc-le-suc hj)))
+cons-once x l late once (suc i) zero hi hj e = absurd (omega (arith, e, late i (le-of-suc-le-suc hi)))
+cons-once x l late once (suc i) (suc j) hi hj e = ap suc (once i j (le-of-suc-le-suc hi) (le-of-suc-le-suc hj) e)
+
+starts-once : (l : List ℕ) (n p : ℕ) → Once (startsFrom l n p)
+unfolding startsFrom
+starts-once l zero p = λ i j h g e. absurd (not-suc-le-zero h)
+starts-once l (suc n) p = go (ltb (2 * p) (length l)) (starts-once l n (p + halves 8 (headerAt l p))) (starts-late l n (p + halves 8 (headerAt l p)))
+  where
+    ss : List ℕ
+    ss = startsFrom l n (p + halves 8 (headerAt l p))
+
+    go : (b : Bool) → Once ss → ((q : ℕ) → q < length ss → p + halves 8 (headerAt l p) ≤ getD ss q 0) → Once (cond b (p ∷ ss) [])
+    go false once late = λ i j h g e. absurd (not-suc-le-zero h)
+    go true once late = cons-once p ss (λ q h. omega (arith, late q h, halves-one 8 (headerAt l p))) once
+
+pub once-at : (bs : List ℕ) (k : ℕ) → Once (placesAt bs k)
+unfolding placesAt
+once-at bs zero = λ i j hi hj e.
+    let n : ℕ = sizeAt bs 0 in
+    let a : i < n = omega (arith, length-count n 0) in
+    let b : j < n = omega (arith, length-count n 0) in
+    omega (arith, e, getD-count n 0 i a, getD-count n 0 j b)
+once-at bs (suc k) = starts-once (listAt bs (suc k)) (sizeAt bs (suc k)) 0
+
+-- ---- a mark above 0 is that of a start
+
+unit-inj : (k p q : ℕ) → unitAt k * p ≡ unitAt k * q → p ≡ q
+unit-inj zero p q e = omega arith
+unit-inj (suc k) p q e = omega arith
+
+pub no-mark : (bs : List ℕ) (k x : ℕ) → isIn x (placesAt bs k) ≡ false → markOf (unitAt k) (marksAt bs k) x ≡ 0
+unfolding marksAt
+no-mark bs zero x e =
+    marks-other (leafMask (listAt bs 0)) 8 (placesAt bs 0) (replicate (length (listAt bs 0)) 0) (8 * x)
+    (λ p t q. subst T e (subst (λ (n : ℕ). T (isIn n (placesAt bs 0))) (sym (unit-inj 0 x p q)) t))
+    ∙ zeros-read (length (listAt bs 0)) (8 * x)
+no-mark bs (suc k) x e =
+    marks-other (recordMask (unitAt k) (marksAt bs k) (listAt bs (suc k))) 2 (placesAt bs (suc k)) (replicate (length (listAt bs (suc k))) 0) (2 * x)
+    (λ p t q. subst T e (subst (λ (n : ℕ). T (isIn n (placesAt bs (suc k)))) (sym (unit-inj (suc k) x p q)) t))
+    ∙ zeros-read (length (listAt bs (suc k))) (2 * x)
+
+pub mark-start : (bs : List ℕ) (k x : ℕ) → 0 < markOf (unitAt k) (marksAt bs k) x → T (isIn x (placesAt bs k))
+mark-start bs k x h = go (isIn x (placesAt bs k)) refl
+  where
+    go : (b : Bool) → isIn x (placesAt bs k) ≡ b → T (isIn x (placesAt bs k))
+    go true e = rw e tt
+    go false e = absurd (omega (arith, h, no-mark bs k x e))
+
+-- so a pointer that keeps the rules by marks keeps rule 4
+link-ok : (bs : List ℕ) (k : ℕ) (r : Link) → T (linkRules (unitAt k) (marksAt bs k) r) → T (linkOk (placesAt bs k) r)
+unfolding linkRules linkOk
+link-ok bs k r t = go (eqb (r .code) 0) t
+  where
+    m : ℕ
+    m = markOf (unitAt k) (marksAt bs k) (r .place)
+
+    go : (b : Bool) → T (cond b true (ltb 0 m && eqb (r .code) (codeFor (r .place)) && lowBy m (r .tag)))
+        → T (cond b true (isIn (r .place) (placesAt bs k) && eqb (r .code) (codeFor (r .place))))
+    go true s = tt
+    go false s =
+        let a : T (ltb 0 m && eqb (r .code) (codeFor (r .place))) = and-left (ltb 0 m && eqb (r .code) (codeFor (r .place))) (lowBy m (r .tag)) s in
+        and-T (isIn (r .place) (placesAt bs k)) (eqb (r .code) (codeFor (r .place)))
+        (mark-start bs k (r .place) (ltb→lt 0 m (and-left (ltb 0 m) (eqb (r .code) (codeFor (r .place))) a)))
+        (and-right (ltb 0 m) (eqb (r .code) (codeFor (r .place))) a)
+
+-- ---- the first record
+
+record First (ss : List ℕ) : Type 0 where
+  there : T (isIn 0 ss)
+  number : indexIn 0 ss ≡ 0
+
+first-cons : (ss : List ℕ) → First (0 ∷ ss)
+unfolding isIn indexIn
+first-cons ss = record { there = tt; number = refl }
+
+first-leaf : (n : ℕ) → 0 < length (count 0 n) → First (count 0 n)
+unfolding count
+first-leaf zero h = absurd (not-suc-le-zero h)
+first-leaf (suc n) h = first-cons (count 1 n)
+
+first-inner : (l : List ℕ) (n : ℕ) → 0 < length (startsFrom l n 0) → First (startsFrom l n 0)
+unfolding startsFrom
+first-inner l zero = λ h. absurd (not-suc-le-zero h)
+first-inner l (suc n) = go (ltb (2 * 0) (length l)) (startsFrom l n (0 + halves 8 (headerAt l 0)))
+  where
+    go : (b : Bool) (ss : List ℕ) → 0 < length (cond b (0 ∷ ss) []) → First (cond b (0 ∷ ss) [])
+    go true ss h = first-cons ss
+    go false ss h = absurd (not-suc-le-zero h)
+
+first-at : (bs : List ℕ) (k : ℕ) → 0 < length (placesAt bs k) → First (placesAt bs k)
+unfolding placesAt
+first-at bs zero h = first-leaf (sizeAt bs 0) h
+first-at bs (suc k) h = first-inner (listAt bs (suc k)) (sizeAt bs (suc k)) h
+
+-- ---- a file whose lists and pointers are sound
+
+module _ (bs : List ℕ) (by : Bytes bs) (long : T (lengthOk packedHead bs)) (sound : SoundLists bs) where
+  abbrev G : List (List Cell)
+  G = graphOf bs
+
+  abbrev ss : ℕ → List ℕ
+  ss = placesAt bs
+
+  abbrev links : ℕ → ℕ → List Link
+  links k p = linksAt (listAt bs (suc k)) p
+
+  abbrev marks : ℕ → List ℕ
+  marks = marksAt bs
+
+  few-leaves : 8 * sizeAt bs 0 + 8 < 2 ^ 32
+  unfolding tailAt
+  few-leaves =
+      let n : num 4 (drop 1 bs) ≡ length bs = eqb→eq (num 4 (drop 1 bs)) (length bs) (search and-right) in
+      omega (arith, num4-lt (drop 1 bs) (bytes-drop 1 bs by), tail-grows bs 0 (topOf bs) (omega arith), n, tail-whole bs (sound .sizes))
+
+  -- a pointer to a start of list k
+  record Arrow (k : ℕ) (r : Link) : Type 0 where
+    some : r .code ≡ 0 → ⊥
+    at : T (isIn (r .place) (ss k))
+    wide : r .code ≡ codeFor (r .place)
+    tag : r .tag < 8
+    small : suc (indexIn (r .place) (ss k)) < 2 ^ 29
+
+  abbrev Points : ℕ → Link → Type 0
+  Points k r = (r .code ≡ 0) ⊎ Arrow k r
+
+  link-points : (k : ℕ) → k < topOf bs → (r : Link) → Fits r → T (linkOk (ss k) r) → Points k r
+  unfolding linkOk
+  link-points k h r f t = go (eqb (r .code) 0) refl t
+    where
+      go : (b : Bool) → eqb (r .code) 0 ≡ b → T (cond b true (isIn (r .place) (ss k) && eqb (r .code) (codeFor (r .place)))) → Points k r
+      go true e s = inl (eqb-true (r .code) 0 e)
+      go false e s =
+          let i : T (isIn (r .place) (ss k)) = search and-left in
+          let w : T (eqb (r .code) (codeFor (r .place))) = search and-right in
+          let fit : (r .tag < 8) × (r .place < 2 ^ 29) = f (eqb→eq (r .code) (codeFor (r .place)) w) in
+          inr (record { some = eqb-false (r .code) 0 e; at = i; wide = eqb→eq (r .code) (codeFor (r .place)) w; tag = fit .0; small = start-small bs by (sound .whole) few-leaves k (r .place) (omega arith) i (fit .1) })
+
+  links-ok : (k : ℕ) → k < topOf bs → (p : ℕ) → T (isIn p (ss (suc k))) → T (allIn (linkOk (ss k)) (links k p))
+  unfolding linksOk
+  links-ok k h p t =
+      let a : At p (ss (suc k)) = isIn-at p (ss (suc k)) t in
+      subst (λ (q : ℕ). T (allIn (linkOk (ss k)) (links k q))) (a .is)
+      (allIn-in (λ q. allIn (linkOk (ss k)) (links k q)) 0 (ss (suc k)) (sound .linked k h) (indexIn p (ss (suc k))) (a .inside))
+
+  points : (k : ℕ) → k < topOf bs → (p : ℕ) → T (isIn p (ss (suc k))) → (i : ℕ) → Points k (getD (links k p) i noLink)
+  unfolding linksAt linkOk
+  points k h p t i =
+      let l : List ℕ = listAt bs (suc k) in
+      link-points k h (getD (links k p) i noLink)
+      (links-fit 8 (headerAt l p) (drop (2 * p + 2) l) (bytes-drop (2 * p + 2) l (list-bytes bs by (suc k))) i)
+      (allIn-at (linkOk (ss k)) noLink tt (links k p) (links-ok k h p t) i)
+
+  no-link : (k : ℕ) (r : Link) → r .code ≡ 0 → byNumber (ss k) r ≡ 0
+  no-link k r e = rw (eq-eqb (r .code) 0 e)
+
+  link-no : (k : ℕ) (r : Link) → Arrow k r → cellNo (byNumber (ss k) r) ≡ indexIn (r .place) (ss k)
+  link-no k r a = ap cellNo (link-some (ss k) r (a .some)) ∙ pointer-cell (r .tag) (indexIn (r .place) (ss k)) (a .small)
+
+  link-tag : (k : ℕ) (r : Link) → Arrow k r → tagOf (byNumber (ss k) r) ≡ r .tag
+  link-tag k r a = ap tagOf (link-some (ss k) r (a .some)) ∙ pointer-tag (r .tag) (indexIn (r .place) (ss k)) (a .tag) (a .small)
+
+  link-ne : (k : ℕ) (r : Link) → Arrow k r → byNumber (ss k) r ≡ 0 → ⊥
+  link-ne k r a e = let q : pointer (r .tag) (indexIn (r .place) (ss k)) ≡ 0 = sym (link-some (ss k) r (a .some)) ∙ e in omega arith
+
+  -- places are equal exactly where numbers are
+  same-place : (k x y : ℕ) → T (isIn x (ss k)) → T (isIn y (ss k)) → eqb (indexIn x (ss k)) (indexIn y (ss k)) ≡ eqb x y
+  same-place k x y hx hy = go (ℕ-discrete x y)
+    where
+      go : Dec (x ≡ y) → eqb (indexIn x (ss k)) (indexIn y (ss k)) ≡ eqb x y
+      go (yes e) = rw (eq-eqb x y e, eq-eqb (indexIn x (ss k)) (indexIn y (ss k)) (ap (λ (z : ℕ). indexIn z (ss k)) e))
+      go (no n) = rw (ne-eqb x y n, ne-eqb (indexIn x (ss k)) (indexIn y (ss k)) (λ e. n (sym (isIn-at x (ss k) hx .is) ∙ ap (λ (i : ℕ). getD (ss k) i 0) e ∙ isIn-at y (ss k) hy .is)))
+
+  -- ---- marks
+
+  abbrev cellOf : ℕ → ℕ → Cell
+  cellOf k p = cellAt G k (indexIn p (ss k))
+
+  -- the mark of each start of list k is the mask of its cell
+  abbrev MarksAre : ℕ → Type 0
+  MarksAre k = (x : ℕ) → T (isIn x (ss k)) → markOf (unitAt k) (marks k) x ≡ symmetries G k (cellOf k x)
+
+  self-by : (k : ℕ) → MarksAre k → (x v : ℕ) → T (isIn x (ss k)) → v < 8 → selfBy (unitAt k) (marks k) x v ≡ matches G k (cellOf k x) (cellOf k x) v
+  self-by k ih x v hx hv = ap (λ (m : ℕ). marked m v) (ih x hx) ∙ mask-bit (matches G k (cellOf k x) (cellOf k x)) v hv
+
+  link-match : (k : ℕ) → MarksAre k → (t : ℕ) → t < 8 → (r s : Link) → Points k r → Points k s
+      → linkMatch (selfBy (unitAt k) (marks k)) t r s ≡ pointerMatch (selfAt G k) t (byNumber (ss k) r) (byNumber (ss k) s)
+  unfolding linkMatch pointerMatch
+  link-match k ih t ht r s (inl a) (inl b) = rw (no-link k r a, no-link k s b, eq-eqb (r .code) 0 a, eq-eqb (s .code) 0 b)
+  link-match k ih t ht r s (inl a) (inr b) = rw (ne-eqb (byNumber (ss k) s) 0 (link-ne k s b), no-link k r a, eq-eqb (r .code) 0 a, ne-eqb (s .code) 0 (b .some))
+  link-match k ih t ht r s (inr a) (inl b) = rw (ne-eqb (byNumber (ss k) r) 0 (link-ne k r a), no-link k s b, eq-eqb (s .code) 0 b, ne-eqb (r .code) 0 (a .some))
+  link-match k ih t ht r s (inr a) (inr b) =
+      rw (
+        ne-eqb (byNumber (ss k) r) 0 (link-ne k r a),
+        ne-eqb (byNumber (ss k) s) 0 (link-ne k s b),
+        link-no k r a,
+        link-no k s b,
+        link-tag k r a,
+        link-tag k s b,
+        same-place k (r .place) (s .place) (a .at) (b .at),
+        ne-eqb (r .code) 0 (a .some),
+        ne-eqb (s .code) 0 (b .some),
+        self-by k ih (r .place) (bitXor (bitXor (r .tag) (s .tag)) t) (a .at) (xor8-lt (bitXor (r .tag) (s .tag)) t (xor8-lt (r .tag) (s .tag) (a .tag) (b .tag)) ht),
+      )
+
+  records-match : (k : ℕ) → k < topOf bs → MarksAre k → (p q t : ℕ) → t < 8 → T (isIn p (ss (suc k))) → T (isIn q (ss (suc k)))
+      → recordsMatch (unitAt k) (marks k) (listAt bs (suc k)) p q t ≡ matches G (suc k) (cellOf (suc k) p) (cellOf (suc k) q) t
+  unfolding recordsMatch matches cellMatch
+  records-match k h ih p q t ht hp hq =
+      rw (record-cell bs k p h hp, record-cell bs k q h hq)
+      (all-same 8 (λ i. linkMatch (selfBy (unitAt k) (marks k)) t (getD (links k p) i noLink) (getD (links k q) (bitXor i t) noLink))
+      (λ i. pointerMatch (selfAt G k) t (getD (map (byNumber (ss k)) (links k p)) i 0) (getD (map (byNumber (ss k)) (links k q)) (bitXor i t) 0)) (λ i hi.
+      link-match k ih t ht (getD (links k p) i noLink) (getD (links k q) (bitXor i t) noLink) (points k h p hp i) (points k h q hq (bitXor i t))
+      ∙ ap₂ (pointerMatch (selfAt G k) t)
+      (sym (List·getD-map (byNumber (ss k)) (links k p) i noLink)) (sym (List·getD-map (byNumber (ss k)) (links k q) (bitXor i t) noLink))))
+
+  leaves-match : (p q t : ℕ) → T (isIn p (ss 0)) → T (isIn q (ss 0)) → leavesMatch (listAt bs 0) p q t ≡ matches G 0 (cellOf 0 p) (cellOf 0 q) t
+  unfolding leavesMatch matches
+  leaves-match p q t hp hq = rw (leaf-cell bs p hp, leaf-cell bs q hq)
+
+  marks-are : (k : ℕ) → k ≤ topOf bs → MarksAre k
+  unfolding marksAt leafMask recordMask
+  marks-are zero h x hx =
+      marks-start (leafMask (listAt bs 0)) 8 (unit-inj 0) (ss 0) (replicate (length (listAt bs 0)) 0) x
+      (omega (arith, start-inside bs by (sound .whole) 0 x h hx, list-length bs (sound .sizes) 0 h, length-replicate {A = ℕ} (length (listAt bs 0)) 0)) hx
+      ∙ mask-same (leavesMatch (listAt bs 0) x x) (matches G 0 (cellOf 0 x) (cellOf 0 x)) (λ t ht. leaves-match x x t hx hx)
+  marks-are (suc k) h x hx =
+      marks-start (recordMask (unitAt k) (marks k) (listAt bs (suc k))) 2 (unit-inj (suc k)) (ss (suc k)) (replicate (length (listAt bs (suc k))) 0) x
+      (omega (arith, start-inside bs by (sound .whole) (suc k) x h hx, list-length bs (sound .sizes) (suc k) h, length-replicate {A = ℕ} (length (listAt bs (suc k))) 0)) hx
+      ∙ mask-same (recordsMatch (unitAt k) (marks k) (listAt bs (suc k)) x x) (matches G (suc k) (cellOf (suc k) x) (cellOf (suc k) x))
+      (λ t ht. records-match k h (marks-are k (omega arith)) x x t ht hx hx)
+
+  -- ---- the rules are the same
+
+  cells-length : (k : ℕ) → k ≤ topOf bs → length (cellsAt G k) ≡ length (ss k)
+  unfolding cellsOf
+  cells-length zero h = ap length (graph-cells bs 0 h) ∙ length-map (ss 0) (leafAt (listAt bs 0))
+  cells-length (suc k) h = ap length (graph-cells bs (suc k) h) ∙ length-map (ss (suc k)) (λ p. map (byNumber (ss k)) (links k p))
+
+  leaf-fits : (q : ℕ) → LeafFits 0 (cellAt G 0 q)
+  unfolding cellsOf leafAt
+  leaf-fits q = go (ℕ-lt q (length (ss 0)))
+    where
+      l : List ℕ
+      l = listAt bs 0
+
+      ℕ-lt : (a b : ℕ) → (a < b) ⊎ (b ≤ a)
+      ℕ-lt a b = less (ltb a b) refl
+        where
+          less : (c : Bool) → ltb a b ≡ c → (a < b) ⊎ (b ≤ a)
+          less true e = inl (ltb-true a b e)
+          less false e = inr (ltb-false a b e)
+
+      go : (q < length (ss 0)) ⊎ (length (ss 0) ≤ q) → leafNo (cellAt G 0 q) < 2 ^ 64
+      go (inl h) =
+          let p : ℕ = getD (ss 0) q 0 in
+          let e : cellAt G 0 q ≡ leafAt l p = ap (cellAt G 0) (sym (index-getD (ss 0) (once-at bs 0) q h)) ∙ leaf-cell bs p (isIn-getD (ss 0) q h) in
+          rw e (omega (arith, num4-lt (drop (8 * p) l) (bytes-drop (8 * p) l (list-bytes bs by 0)), num4-lt (drop (8 * p + 4) l) (bytes-drop (8 * p + 4) l (list-bytes bs by 0))))
+      go (inr h) = rw (List·getD-eq-default (cellsAt G 0) [] {n = q} (rw (cells-length 0 (omega arith)) h)) (lit< tt)
+
+  -- a start's mark is never 0
+  mark-some : (k : ℕ) → k ≤ topOf bs → (x : ℕ) → T (isIn x (ss k)) → 0 < markOf (unitAt k) (marks k) x
+  mark-some k h x hx =
+      rw (marks-are k h x hx) (odd-some (symmetries G k (cellOf k x)) (mask-odd G leaf-fits k (cellOf k x) (fits-at G leaf-fits k (indexIn x (ss k)))))
+    where
+      odd-some : (m : ℕ) → m % 2 ≡ 1 → 0 < m
+      odd-some m e = omega arith
+
+  -- ---- naming
+
+  names-same : (k x : ℕ) → T (isIn x (ss k)) → (rs : List Link) → ((i : ℕ) → Points k (getD rs i noLink)) → namesPlace x rs ≡ names (indexIn x (ss k)) (map (byNumber (ss k)) rs)
+  unfolding namesPlace names
+  names-same k x hx [] h = refl
+  names-same k x hx (r ∷ rs) h = go (h 0) (names-same k x hx rs (λ i. h (suc i)))
+    where
+      n : ℕ
+      n = indexIn x (ss k)
+
+      go : Points k r → namesPlace x rs ≡ names n (map (byNumber (ss k)) rs)
+          → cond (eqb (r .code) 0) (namesPlace x rs) (cond (eqb (r .place) x) true (namesPlace x rs))
+          ≡ cond (eqb (byNumber (ss k) r) 0) (names n (map (byNumber (ss k)) rs)) (cond (eqb (cellNo (byNumber (ss k) r)) n) true (names n (map (byNumber (ss k)) rs)))
+      go (inl e) ih = rw (no-link k r e, eq-eqb (r .code) 0 e) ih
+      go (inr a) ih = rw (ne-eqb (byNumber (ss k) r) 0 (link-ne k r a), link-no k r a, same-place k (r .place) x (a .at) hx, ne-eqb (r .code) 0 (a .some), ih)
+
+  times-list : (k x : ℕ) → k < topOf bs → T (isIn x (ss k)) → (ts : List ℕ) → ((n : ℕ) → n < length ts → T (isIn (getD ts n 0) (ss (suc k))))
+      → timesNamed (listAt bs (suc k)) ts x ≡ popularity (map (λ p. map (byNumber (ss k)) (links k p)) ts) (indexIn x (ss k))
+  unfolding timesNamed popularity
+  times-list k x h hx [] ht = refl
+  times-list k x h hx (t ∷ ts) ht =
+      ap₂ (λ (b : Bool) (n : ℕ). cond b 1 0 + n) (names-same k x hx (links k t) (points k h t (ht 0 (omega arith)))) (times-list k x h hx ts (λ n l. ht (suc n) (omega arith)))
+
+  -- record number q of list k
+  popular-same : (k q : ℕ) → k < topOf bs → q < length (ss k) → popularAt bs k (getD (ss k) q 0) ≡ popularity (cellsAt G (suc k)) q
+  unfolding cellsOf
+  popular-same k q h l =
+      times-list k (getD (ss k) q 0) h (isIn-getD (ss k) q l) (ss (suc k)) (isIn-getD (ss (suc k)))
+      ∙ ap₂ (λ (cs : List Cell) (n : ℕ). popularity cs n) (sym (graph-cells bs (suc k) h)) (index-getD (ss k) (once-at bs k) q l)
+
+  popular-rules : (k : ℕ) → k < topOf bs → popularRules bs k ≡ (namedOk G k && fallingOk G k)
+  unfolding popularRules namedOk fallingOk
+  popular-rules k h =
+      rw (cells-length k (omega arith))
+      (ap₂ _&&_
+      (all-same (length (ss k)) (λ q. ltb 0 (popularAt bs k (getD (ss k) q 0))) (λ q. ltb 0 (popularity (cellsAt G (suc k)) q)) (λ q l. ap (ltb 0) (popular-same k q h l)))
+      (all-same (length (ss k) - 1) (λ q. leb (popularAt bs k (getD (ss k) (suc q) 0)) (popularAt bs k (getD (ss k) q 0)))
+      (λ q. leb (popularity (cellsAt G (suc k)) (suc q)) (popularity (cellsAt G (suc k)) q))
+      (λ q l. ap₂ leb (popular-same k (suc q) h (omega arith)) (popular-same k q h (omega arith)))))
+
+  -- ---- apart
+
+  apart-same : (k : ℕ) (match : ℕ → ℕ → ℕ → Bool) → k ≤ topOf bs
+      → ((p q t : ℕ) → t < 8 → T (isIn p (ss k)) → T (isIn q (ss k)) → match p q t ≡ matches G k (cellOf k p) (cellOf k q) t) → apartIn match (ss k) ≡ apartOk G k
+  unfolding apartIn apartOk
+  apart-same k match h e =
+      rw (cells-length k h) (all-same (length (ss k)) _ _ (λ q l. all-same q _ _ (λ r m.
+      all-same 8 (λ t. not (match (getD (ss k) q 0) (getD (ss k) r 0) t)) (λ t. not (matches G k (cellAt G k q) (cellAt G k r) t)) (λ t ht.
+      ap not (e (getD (ss k) q 0) (getD (ss k) r 0) t ht (isIn-getD (ss k) q l) (isIn-getD (ss k) r (omega arith))
+      ∙ ap₂ (λ (a b : ℕ). matches G k (cellAt G k a) (cellAt G k b) t) (index-getD (ss k) (once-at bs k) q l) (index-getD (ss k) (once-at bs k) r (omega arith)))))))
+
+  -- ---- lowest tags
+
+  low-same : (k tag x : ℕ) → k ≤ topOf bs → tag < 8 → T (isIn x (ss k)) → lowBy (markOf (unitAt k) (marks k) x) tag ≡ tagLow G k tag (indexIn x (ss k))
+  unfolding lowBy
+  low-same k tag x h ht hx = all-same tag _ _ (λ v l. ap not (self-by k (marks-are k h) x (bitXor v tag) hx (xor8-lt v tag (omega arith) ht)))
+
+  link-rules : (k : ℕ) → k ≤ topOf bs → (r : Link) → Points k r → linkRules (unitAt k) (marks k) r ≡ pointerLow G k (byNumber (ss k) r)
+  unfolding linkRules pointerLow
+  link-rules k h r (inl e) = rw (no-link k r e, eq-eqb (r .code) 0 e)
+  link-rules k h r (inr a) =
+      rw (
+        ne-eqb (byNumber (ss k) r) 0 (link-ne k r a),
+        link-no k r a,
+        link-tag k r a,
+        ne-eqb (r .code) 0 (a .some),
+        lt-ltb 0 (markOf (unitAt k) (marks k) (r .place)) (mark-some k h (r .place) (a .at)),
+        eq-eqb (r .code) (codeFor (r .place)) (a .wide),
+      ) (low-same k (r .tag) (r .place) h (a .tag) (a .at))
+
+  -- pointer i of record number n of list k + 1
+  pointer-rules : (k n i : ℕ) → k < topOf bs → n < length (ss (suc k))
+      → linkRules (unitAt k) (marks k) (getD (links k (getD (ss (suc k)) n 0)) i noLink) ≡ pointerLow G k (getD (cellAt G (suc k) n) i 0)
+  pointer-rules k n i h l =
+      let p : ℕ = getD (ss (suc k)) n 0 in
+      let hp : T (isIn p (ss (suc k))) = isIn-getD (ss (suc k)) n l in
+      let c : cellAt G (suc k) n ≡ map (byNumber (ss k)) (links k p) =
+      ap (cellAt G (suc k)) (sym (index-getD (ss (suc k)) (once-at bs (suc k)) n l)) ∙ record-cell bs k p h hp in
+      link-rules k (omega arith) (getD (links k p) i noLink) (points k h p hp i)
+      ∙ ap (pointerLow G k) (sym (List·getD-map (byNumber (ss k)) (links k p) i noLink) ∙ ap (λ (d : Cell). getD d i 0) (sym c))
+
+  -- ---- from the rules of the paper to those by marks, and back
+
+  root-first : First (ss (topOf bs))
+  unfolding topOk
+  root-first =
+      let one : length (ss (topOf bs)) ≡ 1 = eqb→eq (length (ss (topOf bs))) 1 (sound .top) in
+      first-at bs (topOf bs) (omega arith)
+
+  root-same : rootTag bs < 8 → rootLow bs ≡ tagLow G (topOf bs) (rootTag bs) 0
+  unfolding rootLow
+  root-same h =
+      low-same (topOf bs) (rootTag bs) 0 (omega arith) h (root-first .there) ∙ ap (tagLow G (topOf bs) (rootTag bs)) (root-first .number)
+
+  leaves-rules : listRules bs 0 ≡ apartOk G 0
+  unfolding listRules wholeAt
+  leaves-rules = rw (T-true {b = wholeAt bs 0} (sound .whole 0 (omega arith))) (apart-same 0 (leavesMatch (listAt bs 0)) (omega arith) (λ p q t ht hp hq. leaves-match p q t hp hq))
+
+  inner-apart : (k : ℕ) → k < topOf bs → apartIn (recordsMatch (unitAt k) (marks k) (listAt bs (suc k))) (ss (suc k)) ≡ apartOk G (suc k)
+  inner-apart k h = apart-same (suc k) (recordsMatch (unitAt k) (marks k) (listAt bs (suc k))) h (records-match k h (marks-are k (omega arith)))
+
+  -- the records of list k + 1 keep their rules exactly where its tags are lowest
+  tags-rules : (k : ℕ) → k < topOf bs → T (tagsOk G k) → T (allIn (recordRules (unitAt k) (marks k) (listAt bs (suc k))) (ss (suc k)))
+  unfolding tagsOk recordRules wholeAt linkRules
+  tags-rules k h t =
+      allIn-T (recordRules (unitAt k) (marks k) (listAt bs (suc k))) 0 (ss (suc k)) (λ n l.
+      let p : ℕ = getD (ss (suc k)) n 0 in
+      and-T (recordOk (listAt bs (suc k)) p) (allIn (linkRules (unitAt k) (marks k)) (links k p))
+      (allIn-in (recordOk (listAt bs (suc k))) 0 (ss (suc k)) (sound .whole (suc k) h) n l)
+      (allIn-T (linkRules (unitAt k) (marks k)) noLink (links k p) (λ i m.
+      true-T (pointer-rules k n i h l
+      ∙ T-true {b = pointerLow G k (getD (cellAt G (suc k) n) i 0)} (all-at 8 (λ i. pointerLow G k (getD (cellAt G (suc k) n) i 0))
+      (all-at (length (cellsAt G (suc k))) (λ n. allBelow 8 (λ i. pointerLow G k (getD (cellAt G (suc k) n) i 0))) t n (rw (cells-length (suc k) h) l))
+      i (omega (arith, m, links-length (listAt bs (suc k)) p)))))))
+
+  rules-tags : (k : ℕ) → k < topOf bs → T (allIn (recordRules (unitAt k) (marks k) (listAt bs (suc k))) (ss (suc k))) → T (tagsOk G k)
+  unfolding tagsOk recordRules linkRules
+  rules-tags k h t =
+      all-T (length (cellsAt G (suc k))) (λ n. allBelow 8 (λ i. pointerLow G k (getD (cellAt G (suc k) n) i 0))) (λ n l.
+      let m : n < length (ss (suc k)) = omega (arith, l, cells-length (suc k) h) in
+      let p : ℕ = getD (ss (suc k)) n 0 in
+      all-T 8 (λ i. pointerLow G k (getD (cellAt G (suc k) n) i 0)) (λ i hi.
+      true-T (sym (pointer-rules k n i h m)
+      ∙ T-true {b = linkRules (unitAt k) (marks k) (getD (links k p) i noLink)} (allIn-at (linkRules (unitAt k) (marks k)) noLink tt (links k p)
+      (and-right (recordOk (listAt bs (suc k)) p) (allIn (linkRules (unitAt k) (marks k)) (links k p))
+      (allIn-in (recordRules (unitAt k) (marks k) (listAt bs (suc k))) 0 (ss (suc k)) t n m)) i))))
+
+  abbrev top : ℕ
+  top = topOf bs
+
+  list-by : ((k : ℕ) → k ≤ top → T (apartOk G k)) → ((k : ℕ) → k < top → T (tagsOk G k)) → (k : ℕ) → k ≤ top → T (listRules bs k)
+  unfolding listRules
+  list-by a b zero l = true-T (leaves-rules ∙ T-true {b = apartOk G 0} (a 0 l))
+  list-by a b (suc k) l =
+      and-T (allIn (recordRules (unitAt k) (marks k) (listAt bs (suc k))) (ss (suc k))) (apartIn (recordsMatch (unitAt k) (marks k) (listAt bs (suc k))) (ss (suc k)))
+      (tags-rules k l (b k l)) (true-T (inner-apart k l ∙ T-true {b = apartOk G (suc k)} (a (suc k) l)))
+
+  apart-by : (k : ℕ) → k ≤ top → T (listRules bs k) → T (apartOk G k)
+  unfolding listRules
+  apart-by zero l u = true-T (sym leaves-rules ∙ T-true {b = listRules bs 0} u)
+  apart-by (suc k) l u =
+      true-T (sym (inner-apart k l) ∙ T-true {b = apartIn (recordsMatch (unitAt k) (marks k) (listAt bs (suc k))) (ss (suc k))}
+      (and-right (allIn (recordRules (unitAt k) (marks k) (listAt bs (suc k))) (ss (suc k))) (apartIn (recordsMatch (unitAt k) (marks k) (listAt bs (suc k))) (ss (suc k))) u))
+
+  tags-by : (k : ℕ) → k < top → T (listRules bs (suc k)) → T (tagsOk G k)
+  unfolding listRules
+  tags-by k l u =
+      rules-tags k l
+      (and-left (allIn (recordRules (unitAt k) (marks k) (listAt bs (suc k))) (ss (suc k))) (apartIn (recordsMatch (unitAt k) (marks k) (listAt bs (suc k))) (ss (suc k))) u)
+
+  -- the rules on records, by the graph and by marks
+  graph-by : rootTag bs < 8 → T (graphOk top (rootTag bs) G) → T (rulesBy bs)
+  unfolding graphOk rulesBy
+  graph-by h t =
+      let five = and5 (allBelow top (namedOk G)) (allBelow (suc top) (apartOk G)) (allBelow top (tagsOk G)) (tagLow G top (rootTag bs) 0) (allBelow top (fallingOk G)) t in
+      let apart : (k : ℕ) → k ≤ top → T (apartOk G k) = λ k l. all-at (suc top) (apartOk G) (five .1) k (omega arith) in
+      and-T (allBelow (suc top) (listRules bs) && topOk bs && rootLow bs) (allBelow top (popularRules bs))
+      (and-T (allBelow (suc top) (listRules bs) && topOk bs) (rootLow bs)
+      (and-T (allBelow (suc top) (listRules bs)) (topOk bs) (all-T (suc top) (listRules bs) (λ k l. list-by apart (all-at top (tagsOk G) (five .2)) k (omega arith))) (sound .top))
+      (true-T (root-same h ∙ T-true {b = tagLow G top (rootTag bs) 0} (five .3))))
+      (all-T top (popularRules bs) (λ k l.
+      true-T (popular-rules k l ∙ T-true {b = namedOk G k && fallingOk G k} (and-T (namedOk G k) (fallingOk G k) (all-at top (namedOk G) (five .0) k l) (all-at top (fallingOk G) (five .4) k l)))))
+
+  by-graph : rootTag bs < 8 → T (rulesBy bs) → T (graphOk top (rootTag bs) G)
+  unfolding graphOk rulesBy
+  by-graph h t =
+      let lists : (k : ℕ) → k ≤ top → T (listRules bs k) = λ k l. all-at (suc top) (listRules bs) (search (and-left, and-right)) k (omega arith) in
+      let popular : (k : ℕ) → k < top → T (namedOk G k && fallingOk G k) = λ k l.
+      true-T (sym (popular-rules k l) ∙ T-true {b = popularRules bs k} (all-at top (popularRules bs) (and-right (allBelow (suc top) (listRules bs) && topOk bs && rootLow bs) (allBelow top (popularRules bs)) t) k l)) in
+      and5-T (allBelow top (namedOk G)) (allBelow (suc top) (apartOk G)) (allBelow top (tagsOk G)) (tagLow G top (rootTag bs) 0) (allBelow top (fallingOk G))
+      (all-T top (namedOk G) (λ k l. and-left (namedOk G k) (fallingOk G k) (popular k l)))
+      (all-T (suc top) (apartOk G) (λ k l. apart-by k (omega arith) (lists k (omega arith))))
+      (all-T top (tagsOk G) (λ k l. tags-by k l (lists (suc k) l)))
+      (true-T (sym (root-same h) ∙ T-true {b = rootLow bs} (search (and-left, and-right))))
+      (all-T top (fallingOk G) (λ k l. and-right (namedOk G k) (fallingOk G k) (popular k l)))
+
+-- ---- all rules
+
+whole-by : (bs : List ℕ) (k : ℕ) → T (listRules bs k) → T (wholeAt bs k)
+unfolding listRules wholeAt recordRules
+whole-by bs zero t = and-left (allIn (leafOk (listAt bs 0)) (placesAt bs 0)) (apartIn (leavesMatch (listAt bs 0)) (placesAt bs 0)) t
+whole-by bs (suc k) t =
+    let l : List ℕ = listAt bs (suc k) in
+    let r : T (allIn (recordRules (unitAt k) (marksAt bs k) l) (placesAt bs (suc k))) = search and-left in
+    allIn-T (recordOk l) 0 (placesAt bs (suc k)) (λ n h.
+    and-left (recordOk l (getD (placesAt bs (suc k)) n 0)) (allIn (linkRules (unitAt k) (marksAt bs k)) (linksAt l (getD (placesAt bs (suc k)) n 0)))
+    (allIn-in (recordRules (unitAt k) (marksAt bs k) l) 0 (placesAt bs (suc k)) r n h))
+
+linked-by : (bs : List ℕ) (k : ℕ) → T (listRules bs (suc k)) → T (linksOk bs k)
+unfolding listRules linksOk recordRules
+linked-by bs k t =
+    let l : List ℕ = listAt bs (suc k) in
+    let ps : List ℕ = placesAt bs (suc k) in
+    let r : T (allIn (recordRules (unitAt k) (marksAt bs k) l) (placesAt bs (suc k))) = search and-left in
+    allIn-T (λ p. allIn (linkOk (placesAt bs k)) (linksAt l p)) 0 ps (λ n h.
+    allIn-T (linkOk (placesAt bs k)) noLink (linksAt l (getD ps n 0)) (λ i m.
+    link-ok bs k (getD (linksAt l (getD ps n 0)) i noLink)
+    (allIn-in (linkRules (unitAt k) (marksAt bs k)) noLink (linksAt l (getD ps n 0))
+    (and-right (recordOk l (getD ps n 0)) (allIn (linkRules (unitAt k) (marksAt bs k)) (linksAt l (getD ps n 0)))
+    (allIn-in (recordRules (unitAt k) (marksAt bs k) l) 0 ps r n h)) i m)))
+
+lists-ok : (bs : List ℕ) → SoundLists bs → T (listsOk bs)
+unfolding listsOk
+lists-ok bs s =
+    and-T (topOk bs && allBelow (suc (topOf bs)) (wholeAt bs)) (allBelow (topOf bs) (linksOk bs))
+    (and-T (topOk bs) (allBelow (suc (topOf bs)) (wholeAt bs)) (s .top) (all-T (suc (topOf bs)) (wholeAt bs) (λ k l. s .whole k (omega arith))))
+    (all-T (topOf bs) (linksOk bs) (s .linked))
+
+-- unless the scene is empty the root's tag is below 8
+pub tag-small : (bs : List ℕ) → rootOk bs ≡ true → isEmpty bs ≡ false → rootTag bs < 8
+tag-small bs r e =
+    let t : T (rootOk bs) = true-T r in
+    let a : rootTag bs ≤ 8 = leb→le (rootTag bs) 8 (search and-left) in
+    omega (arith, a, eqb-false (rootTag bs) 8 e)
+
+-- a file that keeps the rules by marks has sound lists
+lists-by : (bs : List ℕ) → T (sizesOk bs) → T (rulesBy bs) → SoundLists bs
+unfolding rulesBy
+lists-by bs sized t =
+    let lists : (k : ℕ) → k ≤ topOf bs → T (listRules bs k) = λ k l. all-at (suc (topOf bs)) (listRules bs) (search (and-left, and-right)) k (omega arith) in
+    record { sizes = sized; top = search (and-left, and-right); whole = λ k l. whole-by bs k (lists k l); linked = λ k l. linked-by bs k (lists (suc k) l) }
+
+-- under: the length field is right. So refusal 6 of a check is given where the rules by marks fail
+pub rules-by-places : (bs : List ℕ) → Bytes bs → T (lengthOk packedHead bs) → packedRules bs ≡ packedBy bs
+unfolding packedRules packedBy headOk
+rules-by-places bs by long = go (rootOk bs) refl (isEmpty bs) refl (sizesOk bs) refl
+  where
+    rules : Bool
+    rules = listsOk bs && graphOk (topOf bs) (rootTag bs) (graphOf bs)
+
+    there : rootOk bs ≡ true → isEmpty bs ≡ false → T (sizesOk bs) → T rules → T (rulesBy bs)
+    there r e z t =
+        graph-by bs by long (lists-of bs z (and-left (listsOk bs) (graphOk (topOf bs) (rootTag bs) (graphOf bs)) t)) (tag-small bs r e)
+        (and-right (listsOk bs) (graphOk (topOf bs) (rootTag bs) (graphOf bs)) t)
+
+    back : rootOk bs ≡ true → isEmpty bs ≡ false → T (sizesOk bs) → T (rulesBy bs) → T rules
+    back r e z t =
+        let s : SoundLists bs = lists-by bs z t in
+        and-T (listsOk bs) (graphOk (topOf bs) (rootTag bs) (graphOf bs)) (lists-ok bs s) (by-graph bs by long s (tag-small bs r e) t)
+
+    go : (r : Bool) → rootOk bs ≡ r → (e : Bool) → isEmpty bs ≡ e → (z : Bool) → sizesOk bs ≡ z
+        → (r && cond e true z) && cond e true rules ≡ (r && cond e true z) && cond e true (rulesBy bs)
+    go false r e q z w = refl
+    go true r true q z w = refl
+    go true r false q false w = refl
+    go true r false q true w = iff-eq rules (rulesBy bs) (there r q (true-T w)) (back r q (true-T w))

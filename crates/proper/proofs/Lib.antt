@@ -1,0 +1,14 @@
+pub mod Marks
+pub mod ByPlaces
+pub mod Loops
+pub mod Linking
+pub mod Along
+pub mod Earlier
+pub mod Checking
+pub mod InFile
+pub mod PopularPlaces
+pub mod PopularCounts
+pub mod PopularFalls
+pub mod PopularLoops
+pub mod PopularShares
+pub mod Top
