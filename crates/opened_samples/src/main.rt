@@ -14,13 +14,14 @@ fn line(number: u32, solid: u32, records: u32) {
     io::write_all(1, b"\n");
 }
 
+// Shows an answer.
+fn show(answer: Found) {
+    line(answer.number(), answer.value(), answer.records());
+}
+
 // Opens, asks, and shows the answer.
 fn sample(file: &[u8], x: u32, y: u32, z: u32) {
-    match opened::open_and_ask(file, x, y, z) {
-        Found::Solid(n) => line(0, 1, n),
-        Found::Empty(n) => line(0, 0, n),
-        Found::Refused(refusal) => line(refusal.number(), 0, 0),
-    }
+    show(opened::open_and_ask(file, x, y, z));
 }
 
 // S1's packed room.
@@ -74,6 +75,17 @@ fn changed(at: usize, byte: u8)
     sample(&file, 0, 0, 0);
 }
 
+// The room asked at (7, 0, 0) beside numbers that may not be those of its header: the depth, where the top list starts, where
+// the leaves do, and where a list that it has not does.
+fn beside(depth: u32, top: u32, leaves: u32, other: u32) {
+    let file = ROOM;
+    let mut starts = [0u32; 15];
+    starts[0] = leaves;
+    starts[1] = top;
+    starts[14] = other;
+    show(opened::ask_bytes(&file, depth, starts, 7, 0, 0));
+}
+
 // Every sample, line by line.
 fn main() {
     room();
@@ -93,4 +105,12 @@ fn main() {
     changed(28, 0);
     // the root mirrored in x
     changed(6, 1);
+    // the numbers of its header, then each of them another
+    beside(3, 15, 21, 0);
+    beside(2, 15, 21, 0);
+    beside(4, 15, 21, 0);
+    beside(3, 14, 21, 0);
+    beside(3, 15, 20, 0);
+    beside(3, 15, 21, 1);
+    beside(0, 0, 0, 0);
 }
