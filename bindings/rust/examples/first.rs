@@ -6,7 +6,7 @@ const CAPACITY: u32 = 32;
 
 /// A room of depth 3 as an outline: a mask with two children, and a leaf of one voxel each.
 const OUTLINE: [u8; 23] = [
-    0x11, 0, 0, 0, 0x17, 3, // front byte, length of the file, depth
+    0x11, 0, 0, 0, 0x17, 3,    // front byte, length of the file, depth
     0x03, // the root's mask: children 0 and 1
     0, 0, 0, 0, 0, 0, 0, 1, // voxel (0, 0, 0) of the first leaf
     0, 0, 0, 0, 0, 0, 0, 8, // voxel (3, 0, 0) of the second, which is the room's (7, 0, 0)

@@ -80,16 +80,7 @@ pub fn rooms_outline(store: &[u32], scene: u32, out: &mut [u8], length: &mut u32
 
 pub fn rooms_pack(store: &[u32], scene: u32, scratch: &mut [u32], out: &mut [u8], length: &mut u32) -> u32 {
     unsafe {
-        declared::rooms_pack(
-            store.as_ptr(),
-            store.len(),
-            scene,
-            scratch.as_mut_ptr(),
-            scratch.len(),
-            out.as_mut_ptr(),
-            out.len(),
-            length,
-        )
+        declared::rooms_pack(store.as_ptr(), store.len(), scene, scratch.as_mut_ptr(), scratch.len(), out.as_mut_ptr(), out.len(), length)
     }
 }
 

@@ -414,8 +414,7 @@ fn self_match(w: &Words, h: usize, n: usize, t: u32, known: &mut Selves) -> bool
 fn cells_match(w: &Words, h: usize, a: [u32; 8], b: [u32; 8], t: u32, known: &mut Selves) -> bool {
     (0..8).all(|i| {
         let (p, q) = (a[i], b[i ^ t as usize]);
-        (p == 0 && q == 0)
-            || (p != 0 && q != 0 && low29(p) == low29(q) && self_match(w, h - 1, number(p), tag(p) ^ tag(q) ^ t, known))
+        (p == 0 && q == 0) || (p != 0 && q != 0 && low29(p) == low29(q) && self_match(w, h - 1, number(p), tag(p) ^ tag(q) ^ t, known))
     })
 }
 
