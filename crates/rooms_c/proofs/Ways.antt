@@ -3,7 +3,7 @@
 use mathlib.Core.Path.{_≡_, refl, sym, ap, ap₂, _∙_}
 use mathlib.Core.Bool.{Bool, true, false, not, cond}
 use mathlib.Core.List.{List, [], _∷_, _++_, append-nil}
-use Prim.Native.Nat.{ℕ, zero, suc, _+_, _<_, _≤_}
+use Prim.Native.Nat.{ℕ, suc, _+_, _<_, _≤_}
 use native.Mathlib.Nat.{not-suc-le-zero, zero-add}
 use native.Mathlib.Omega.{arith}
 use borrow.Author.Tests.{lt-ltb, le-ltb, lt-leb, eq-eqb, ne-eqb}
@@ -12,11 +12,11 @@ use lib.ListN.{length, take, drop, getD, set, length-drop, drop-of-length-le}
 use lib.Seq.{take-all, getD-drop, paste, paste-suc}
 use lib.Ieee.{Float, ofBits, binary64}
 use Rattle.paper.specs.Rooms.{Point, depthOk}
+use Rattle.paper.specs.Store.{heights}
 use Rattle.paper.specs.Answers.{Told, Outcome, told, outcome}
 use Rattle.paper.specs.Order.{when, firstOf, settled}
 use Rattle.paper.specs.Calls.{over, askOutcome}
 use Rattle.paper.specs.Detail.{heightFor, detailOutcome}
-use Rattle.paper.specs.declared.Wish.{Wish}
 use Rattle.paper.specs.declared.Wish.the-variants.{EveryVoxel, WidestEdge, Distance}
 use Rattle.opened.specs.Opens.{openTold}
 use Rattle.rooms_c.specs.Exports.{openedNumbers, numbersShort, openCOutcome, depthHeld, startsHeld, askCOutcome, lastKind, wishOf, detailCOutcome, wishGiven}
@@ -72,10 +72,10 @@ module _ (file ns : List ℕ) (v : Point) where
 -- ---- the numbers copied
 
 -- the depth first
-pub written-all : (d : ℕ) (starts l : List ℕ) → length starts ≡ 15 → openedNumbers ≤ length l → paste (set l 0 d) 1 starts 15 ≡ over (d ∷ starts) l
+pub written-all : (d : ℕ) (starts l : List ℕ) → length starts ≡ heights → openedNumbers ≤ length l → paste (set l 0 d) 1 starts heights ≡ over (d ∷ starts) l
 written-all d starts [] e h = absurd (not-suc-le-zero h)
 written-all d starts (x ∷ l) e h =
-    ap (λ (r : List ℕ). d ∷ (r ++ drop 15 l)) (take-all 15 starts (omega (arith, e))) ∙ ap (λ (n : ℕ). d ∷ (starts ++ drop n l)) (sym e)
+    ap (λ (r : List ℕ). d ∷ (r ++ drop heights l)) (take-all heights starts (omega (arith, e))) ∙ ap (λ (n : ℕ). d ∷ (starts ++ drop n l)) (sym e)
 
 -- one more start written, and one more read
 pub written-next : (l starts : List ℕ) (k : ℕ) → k + 1 < length l → k < length starts → set (paste l 1 starts k) (k + 1) (getD starts k 0) ≡ paste l 1 starts (k + 1)
@@ -93,9 +93,9 @@ read-next l ns k h g =
     ap₂ (λ (i v : ℕ). set (paste l 0 (drop 1 ns) k) i v) (sym (zero-add k)) (ap (λ (i : ℕ). getD ns i 0) e ∙ sym (getD-drop 1 ns k 0))
     ∙ paste-suc l 0 (drop 1 ns) k 0 (omega (arith, h)) m ∙ ap (λ (i : ℕ). paste l 0 (drop 1 ns) i) (sym f)
 
-pub read-all : (l ns : List ℕ) → length l ≡ 15 → paste l 0 (drop 1 ns) 15 ≡ startsHeld ns
+pub read-all : (l ns : List ℕ) → length l ≡ heights → paste l 0 (drop 1 ns) heights ≡ startsHeld ns
 read-all l ns e =
-    ap (λ (r : List ℕ). take 15 (drop 1 ns) ++ r) (drop-of-length-le l {i = 15} (omega (arith, e))) ∙ append-nil (take 15 (drop 1 ns))
+    ap (λ (r : List ℕ). take heights (drop 1 ns) ++ r) (drop-of-length-le l {i = heights} (omega (arith, e))) ∙ append-nil (take heights (drop 1 ns))
 
 -- ---- detail
 

@@ -2,11 +2,12 @@
 -- and detail. Each is built from the paper's outcome of the same call. Definitions only.
 use mathlib.Core.Bool.{Bool, true, not, cond}
 use mathlib.Core.List.{List, [], _∷_}
-use Prim.Native.Nat.{ℕ}
+use Prim.Native.Nat.{ℕ, _+_}
 use lib.Dec.{eqb, leb, ltb}
 use lib.ListN.{length, getD, take, drop}
 use lib.Ieee.{Float, ofBits, binary64}
 use Rattle.paper.specs.Rooms.{Point, depthOk}
+use Rattle.paper.specs.Store.{heights}
 use Rattle.paper.specs.Answers.{Outcome, told, outcome}
 use Rattle.paper.specs.Order.{Test, when, firstOf, settled}
 use Rattle.paper.specs.Calls.{over, openOutcome, askOutcome}
@@ -18,7 +19,7 @@ use Rattle.paper.specs.declared.Wish.the-variants.{EveryVoxel, WidestEdge, Dist
 
 -- the depth, then the fifteen list starts
 abbrev pub openedNumbers : ℕ
-openedNumbers = 16
+openedNumbers = 1 + heights
 
 -- too few numbers for an opened scene's
 abbrev pub numbersShort : List ℕ → Bool
@@ -38,7 +39,7 @@ abbrev pub depthHeld : List ℕ → ℕ
 depthHeld ns = getD ns 0 0
 
 abbrev pub startsHeld : List ℕ → List ℕ
-startsHeld ns = take 15 (drop 1 ns)
+startsHeld ns = take heights (drop 1 ns)
 
 -- 6 where the numbers are too few to be an opened scene's: 'its bytes don't open to its numbers'
 unfoldable pub askCOutcome : List ℕ → List ℕ → Point → Outcome

@@ -4,7 +4,7 @@
 ghost use mathlib.Core.Path.{_≡_};
 ghost use mathlib.Core.List.{[], _∷_};
 ghost use Prim.Native.Nat.{_≤_};
-ghost use lib.ListN.{length, take, drop};
+ghost use lib.ListN.{length};
 ghost use Rattle.paper.specs.Rooms.{point};
 ghost use Rattle.paper.specs.Answers.{outcome, told};
 ghost use Rattle.paper.specs.Calls.{over, newOutcome, addOutcome, voxelOutcome, cellOutcome, boxOutcome, keptOutcome, outlineOutcome, packOutcome, checkOutcome, packedVoxelOutcome};
@@ -161,10 +161,11 @@ pub extern "C" fn rooms_open(file: &[u8], numbers: &mut [u32]) -> u32
     ensures { λ r. ⌜ outcome (told r []) (now (numbers .exit) ∷ []) ≡ openCOutcome (now (file .entry)) (now (numbers .entry)) ⌝ }
 {
     let header = opened::read_header(file);
-    if header.number != 0 {
-        return header.number;
-    }
+    let number = header.number;
     let room = numbers.len();
+    if number != 0 {
+        return number;
+    }
     if room < OPENED_NUMBERS {
         return 12;
     }

@@ -1,12 +1,13 @@
 -- `rooms_c::write_numbers` meets its contract. The invariant: the first k starts are copied behind the first number, which is the depth.
 -- The measure is the starts left. Assumes nothing.
-use mathlib.Core.Path.{_≡_, refl, sym, ap, _∙_}
+use mathlib.Core.Path.{_≡_, refl, ap, _∙_}
 use mathlib.Core.List.{List}
 use Prim.Native.Nat.{ℕ, _+_, _-_, _<_, _≤_}
 use native.Mathlib.Omega.{arith}
 use lib.ListN.{length, set, getD, length-set}
-use lib.Seq.{paste, paste-zero, length-paste}
+use lib.Seq.{paste, paste-zero}
 use Rattle.rooms_c.specs.Exports.{openedNumbers}
+use Rattle.paper.specs.Store.{heights}
 use Rattle.rooms_c.proofs.Ways.{written-next, written-all}
 use borrow.Author.Needs.{needs}
 use Rattle.rooms_c.proofs.write_numbers.Statement.{statement}
@@ -14,10 +15,10 @@ use Rattle.rooms_c.proofs.write_numbers.Tie as tie
 
 abbrev Inv-loop : tie.InvT-loop
 Inv-loop numbers₀ depth starts k₀ numbers k =
-    (k ≤ 15) × (length starts ≡ 15) × (openedNumbers ≤ length numbers₀) × (length numbers ≡ length numbers₀) × (numbers ≡ paste numbers₀ 1 starts k)
+    (k ≤ heights) × (length starts ≡ heights) × (openedNumbers ≤ length numbers₀) × (length numbers ≡ length numbers₀) × (numbers ≡ paste numbers₀ 1 starts k)
 
 abbrev μ-loop : tie.MeasureT-loop
-μ-loop numbers₀ depth starts k₀ numbers k = 15 - k
+μ-loop numbers₀ depth starts k₀ numbers k = heights - k
 
 loop-holds : tie.Need-loop-holds Inv-loop μ-loop
 loop-holds c =
@@ -29,7 +30,7 @@ loop-again c =
     let a = c .before .before .args in
     let l = c .before .loop in
     let first : List ℕ = set (a .numbers .now) 0 (a .depth) in
-    let h : l .k < 15 = c .loop-test .taken in
+    let h : l .k < heights = c .loop-test .taken in
     let v : ℕ = getD (a .t3) (l .k) 0 in (
       omega (arith, h),
       l .inv .1,
@@ -45,7 +46,7 @@ returns : tie.Need-returns Inv-loop μ-loop
 returns c =
     let a = c .before .before .args in
     let l = c .before .loop in
-    let e : l .k ≡ 15 = omega (arith, l .inv .0, c .loop-test .left) in
+    let e : l .k ≡ heights = omega (arith, l .inv .0, c .loop-test .left) in
     l .inv .4 ∙ ap (λ (k : ℕ). paste (set (a .numbers .now) 0 (a .depth)) 1 (a .t3) k) e
     ∙ written-all (a .depth) (a .t3) (a .numbers .now) (l .inv .1) (c .before .before .pre)
 
