@@ -739,6 +739,9 @@ impl Compare {
             if self.random.once_in(8) {
                 stores::empty_a_cell(&mut self.random, &mut words);
             }
+            if self.random.once_in(8) {
+                stores::header_end(&mut self.random, &mut words);
+            }
             for _ in 0..self.random.pick(&[0, 1, 1, 1, 2, 3]) {
                 stores::damage(&mut self.random, &mut words);
             }
