@@ -3,8 +3,8 @@
  *
  * A room is a cube of voxels with a depth D, 2 to 16, and edge 2^D. A store keeps up to 64 scenes and each differing cell
  * of theirs once, mirror images included. The thirteen calls below work on memory that the caller lends: they allocate nothing,
- * keep nothing between calls, print nothing and start nothing. Link target/staticlib/librooms_c.a; of the C library it
- * needs memset and memcpy at most.
+ * keep nothing between calls, print nothing and start nothing. Link target/staticlib/librooms_c.a (x86-64 Linux); of the C
+ * library it needs no more than memset and its kin.
  *
  * What a call answers
  *   Each call returns 0 where it is accepted, or the number of its refusal (ROOMS_..., below). The refusals of a call are
@@ -17,7 +17,7 @@
  *     length 0, the pointer may be anything, a null pointer too.
  *   - What a call may write (a slice that is not const, an out parameter) overlaps with nothing else lent to that call, and no
  *     other thread reads or writes it meanwhile. What it only reads (const) may be shared and may overlap.
- *   - An out parameter is not a null pointer.
+ *   - An out parameter is not a null pointer, and is aligned for its type.
  *   That is all. Any words and any bytes may stand in a slice, of any length: noise, a damaged store, half a file. Such input
  *   gets a refusal; it never makes a call fault, loop without end or write outside what it was lent.
  *

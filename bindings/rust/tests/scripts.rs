@@ -1,10 +1,11 @@
 //! Plays the scripts of calls of crates/replay_scripts over the proved library and over the twin: both must print what the proved program
-//! prints (its file `stdout`). crates/script says which commands there are.
+//! prints (its file `stdout`). crates/script says which commands there are; make_scripts.py makes some of the scripts.
 
 mod calls;
 mod twin;
 
 use calls::{Calls, Library, Twin};
+use std::env;
 use std::fmt::Write;
 use std::fs;
 use std::path::{Path, PathBuf};
@@ -15,20 +16,33 @@ const MOST_BYTES: u32 = 65_536;
 
 #[test]
 fn scripts_over_the_library() {
-    compare(Library);
+    compare(&printed(Library));
 }
 
+/// With ROOMS_PRINTED=FILE, what the twin prints is written there.
 #[test]
 fn scripts_over_the_twin() {
-    compare(Twin::default());
+    let printed = printed(Twin::default());
+    if let Some(path) = env::var_os("ROOMS_PRINTED") {
+        fs::write(path, &printed).unwrap();
+    }
+    compare(&printed);
 }
 
-fn compare(mut calls: impl Calls) {
-    let folder = PathBuf::from(env!("CARGO_MANIFEST_DIR")).join("../../crates/replay_scripts");
+fn folder() -> PathBuf {
+    PathBuf::from(env!("CARGO_MANIFEST_DIR")).join("../../crates/replay_scripts")
+}
+
+fn printed(mut calls: impl Calls) -> String {
     let mut printed = String::new();
-    for name in names(&folder) {
-        play(&fs::read(folder.join("data").join(&name)).unwrap(), &mut calls, &mut printed);
+    for name in names(&folder()) {
+        play(&fs::read(folder().join("data").join(&name)).unwrap(), &mut calls, &mut printed);
     }
+    printed
+}
+
+fn compare(printed: &str) {
+    let folder = folder();
     let expected = fs::read_to_string(folder.join("stdout")).unwrap();
     for (i, (here, there)) in printed.lines().zip(expected.lines()).enumerate() {
         assert_eq!(here, there, "line {}", i + 1);

@@ -83,9 +83,20 @@ pub fn full_by_hand(random: &mut Random) -> Vec<u32> {
     w
 }
 
-/// One word of a store changed; answers its position.
-pub fn damage(random: &mut Random, w: &mut [u32]) -> usize {
-    let capacity = (w[0] as usize).min(w.len() / 114);
+/// A word of the header put at an end of its range, or just past it.
+pub fn header_end(random: &mut Random, w: &mut [u32]) {
+    let (at, value) = match random.below(4) {
+        0 => (0, random.pick(&[0, w[0] + 1, w[0] - 1, 65_536, 65_537])),
+        1 => (1, random.pick(&[63, 64, 65])),
+        2 => (random.from_to(2, 16), random.pick(&[w[0], w[0] + 1])),
+        _ => (random.from_to(16, 33), 1),
+    };
+    w[at] = value;
+}
+
+/// One word of a store changed.
+pub fn damage(random: &mut Random, w: &mut [u32]) {
+    let capacity = (w[0] as usize).clamp(1, w.len() / 114);
     let at = match random.below(24) {
         0 => random.below(32),
         1 => random.from_to(1, 16),
@@ -112,7 +123,6 @@ pub fn damage(random: &mut Random, w: &mut [u32]) -> usize {
         7 => random.pick(&[1, 2, 16, 17, 64, 65, 65_536, 65_537, u32::MAX, 1 << 29, (1 << 29) - 1]),
         _ => w[at] ^ 1 << random.below(32),
     };
-    at
 }
 
 /// A kept cell's words, or a leaf's, made zero.

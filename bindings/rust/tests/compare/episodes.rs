@@ -1,0 +1,364 @@
+//! Episodes: each makes a store or a file of some kind and asks it everything that suits it.
+
+use crate::generator::packed::Draft;
+use crate::generator::rooms::{damaged, kin, room, wide, with_length, Room};
+use crate::generator::{stores, Random};
+use crate::lent::Lent;
+use crate::Compare;
+
+impl Compare {
+    /// A new store over noise.
+    fn fresh(&mut self, capacity: usize) -> Lent<u32> {
+        let spare = self.random.below(4);
+        let mut store = self.noise_words(stores::used(capacity) + spare);
+        self.new_store(&mut store, capacity as u32);
+        store
+    }
+
+    /// Rooms added one after the other, asked, written, packed and checked; broken outlines among them.
+    fn rooms(&mut self) {
+        let capacity = self.random.pick(&[1, 1, 2, 2, 3, 4, 5, 7, 10, 16, 30]);
+        let mut store = self.fresh(capacity);
+        let leaves = self.random.pick(&[1, 3, 10, 30]);
+        let mut earlier: Vec<Room> = Vec::new();
+        for _ in 0..self.random.from_to(2, 12) {
+            let next = match earlier.len() {
+                n if n > 0 && self.random.once_in(3) => {
+                    let n = self.random.below(n);
+                    kin(&mut self.random, &earlier[n])
+                }
+                _ => room(&mut self.random, leaves),
+            };
+            let file = next.outline();
+            if self.random.once_in(3) {
+                let broken = damaged(&mut self.random, &file);
+                self.add(&mut store, &broken);
+            }
+            self.add(&mut store, &file);
+            earlier.push(next);
+            self.ask_store(&store, 1);
+        }
+        self.ask_store(&store, 4);
+        for _ in 0..4 {
+            self.ask_outline(&store);
+            if let Some(file) = self.ask_pack(&store) {
+                let points = self.solid(&file);
+                self.ask_packed(&file, 4, &points);
+            }
+        }
+    }
+
+    /// Small rooms up to 64 scenes and past them, most of them of a family.
+    fn many(&mut self) {
+        let capacity = self.random.from_to(4, 24);
+        let mut store = self.fresh(capacity);
+        let mut family: Vec<Room> = Vec::new();
+        let mut file = room(&mut self.random, 2).outline();
+        for n in 0..90 {
+            let broken = n > 50 && self.random.once_in(5);
+            let next = if broken { damaged(&mut self.random, &file) } else { file.clone() };
+            self.add(&mut store, &next);
+            let next = if family.is_empty() || self.random.once_in(6) {
+                room(&mut self.random, 2)
+            } else {
+                let n = self.random.below(family.len());
+                kin(&mut self.random, &family[n])
+            };
+            file = next.outline();
+            if file.len() < 1_000 {
+                family.push(next);
+            }
+            if self.random.once_in(8) {
+                self.ask_store(&store, 1);
+            }
+        }
+        for _ in 0..4 {
+            self.ask_store(&store, 2);
+            self.ask_outline(&store);
+            self.ask_pack(&store);
+        }
+    }
+
+    /// An outline broken in many ways, against one store.
+    fn outlines(&mut self) {
+        let capacity = self.random.from_to(2, 6);
+        let store = self.fresh(capacity);
+        let file = room(&mut self.random, 6).outline();
+        for _ in 0..60 {
+            let mut one = store.clone();
+            let mut broken = damaged(&mut self.random, &file);
+            if self.random.once_in(4) {
+                broken = damaged(&mut self.random, &broken);
+            }
+            self.add(&mut one, &broken);
+        }
+    }
+
+    /// A store with words changed, one or two at a time, asked everything.
+    fn damaged_stores(&mut self) {
+        let capacity = self.random.from_to(1, 6);
+        let mut store = self.fresh(capacity);
+        for _ in 0..self.random.from_to(1, 5) {
+            let file = room(&mut self.random, 6).outline();
+            self.add(&mut store, &file);
+        }
+        if self.random.once_in(2) {
+            let made = stores::by_hand(&mut self.random, capacity, 2);
+            store = self.lend_words(&made);
+        }
+        let file = room(&mut self.random, 3).outline();
+        for _ in 0..14 {
+            let mut words = store.slice().to_vec();
+            if self.random.once_in(8) {
+                stores::empty_a_cell(&mut self.random, &mut words);
+            }
+            if self.random.once_in(8) {
+                stores::header_end(&mut self.random, &mut words);
+            }
+            for _ in 0..self.random.pick(&[0, 1, 1, 1, 2, 3]) {
+                stores::damage(&mut self.random, &mut words);
+            }
+            if self.random.once_in(10) {
+                let length = self.random.pick(&[0, 1, 31, 32, 159, 160, stores::used(capacity) - 1]);
+                words.truncate(length);
+            }
+            let mut one = self.lend_words(&words);
+            self.ask_store(&one, 2);
+            self.ask_kept(&one);
+            self.ask_outline(&one);
+            self.ask_pack(&one);
+            self.add(&mut one, &file);
+        }
+    }
+
+    /// Stores put together by hand: cells that match, tags that are not the lowest, cells that no scene reaches.
+    fn by_hand(&mut self) {
+        let capacity = self.random.from_to(1, 9);
+        let spare = self.random.below(4);
+        let made = stores::by_hand(&mut self.random, capacity, spare);
+        let mut store = self.lend_words(&made);
+        self.ask_store(&store, 4);
+        for _ in 0..3 {
+            let file = room(&mut self.random, 5).outline();
+            self.add(&mut store, &file);
+            self.ask_outline(&store);
+            if let Some(file) = self.ask_pack(&store) {
+                self.ask_packed(&file, 3, &[]);
+            }
+            // an outline of the store's own, added again
+            let scene = self.some_scene(&store);
+            if let Some(file) = self.outline(&store, scene, 3_000) {
+                self.add(&mut store, &file);
+            }
+        }
+        self.ask_store(&store, 2);
+    }
+
+    /// A full room of depth 16: boxes of whole cells, and a length past 32 bits.
+    fn full(&mut self) {
+        let made = stores::full_by_hand(&mut self.random);
+        let store = self.lend_words(&made);
+        for n in 0..3 {
+            let depth = 16 - n;
+            let edge = 1u32 << depth;
+            self.box_count(&store, n, [0; 3], [edge; 3]);
+            self.box_count(&store, n, [0, edge / 2, 0], [edge / 2, edge, edge / 2]);
+            self.box_count(&store, n, [edge - 1; 3], [edge; 3]);
+            self.box_count(&store, n, [5, 0, 9], [6, 3, 100]);
+            for _ in 0..4 {
+                let at = self.random.point(depth);
+                self.voxel(&store, n, at);
+                self.cell(&store, n, 2, at.map(|c| c / 4));
+            }
+            self.outline(&store, n, 30_000);
+            let room = self.random.from_to(100, 400);
+            if let Some(file) = self.pack(&store, n, 60, room) {
+                self.ask_packed(&file, 3, &[]);
+            }
+        }
+    }
+
+    fn noise(&mut self) {
+        for _ in 0..12 {
+            let words = stores::noise(&mut self.random);
+            let mut store = self.lend_words(&words);
+            self.ask_store(&store, 1);
+            self.ask_kept(&store);
+            self.ask_outline(&store);
+            self.ask_pack(&store);
+            let file = room(&mut self.random, 3).outline();
+            self.add(&mut store, &file);
+            let length = self.random.from_to(0, 40);
+            let mut bytes = self.random.bytes(length);
+            for (i, front) in [(0, 0x21), (5, self.random.from_to(2, 5) as u8), (6, self.random.below(9) as u8)] {
+                if i < length && !self.random.once_in(6) {
+                    bytes[i] = front;
+                }
+            }
+            if !self.random.once_in(4) {
+                bytes = with_length(bytes);
+            }
+            self.ask_packed(&bytes, 2, &[]);
+            self.add(&mut store, &bytes);
+        }
+    }
+
+    /// A packed file changed in many ways: rule by rule, and byte by byte.
+    fn packed_files(&mut self) {
+        let capacity = self.random.from_to(3, 16);
+        let mut store = self.fresh(capacity);
+        let leaves = self.random.pick(&[2, 6, 12]);
+        let mut file = None;
+        for _ in 0..6 {
+            let outline = room(&mut self.random, leaves).outline();
+            if self.add(&mut store, &outline) == 0 {
+                let scene = store.slice()[1] - 1;
+                file = self.pack(&store, scene, 60 * capacity, 20_000);
+                if file.as_ref().is_some_and(|f| f.len() > 30) {
+                    break;
+                }
+            }
+        }
+        let Some(file) = file else { return };
+        let points = self.solid(&file);
+        self.ask_packed(&file, 4, &points);
+        if let Some(draft) = Draft::read(&file) {
+            assert!(draft.write() == file, "a packed file taken apart and written again is the same");
+            for _ in 0..40 {
+                let mut draft = draft.clone();
+                for _ in 0..self.random.pick(&[1, 1, 1, 2, 3]) {
+                    draft.change(&mut self.random);
+                }
+                let changed = draft.write();
+                self.ask_packed(&changed, 2, &points);
+            }
+        }
+        for _ in 0..25 {
+            let mut changed = damaged(&mut self.random, &file);
+            if self.random.once_in(5) {
+                changed = damaged(&mut self.random, &changed);
+            }
+            // the sizes, on their own
+            if self.random.once_in(5) && changed.len() > 15 {
+                let at = self.random.from_to(7, 14);
+                changed[at] = self.random.pick(&[0, 1, 0x20, 0x80, 0xff, changed[at].wrapping_add(1)]);
+            }
+            self.ask_packed(&changed, 2, &points);
+        }
+    }
+
+    /// Lists with records at places 8,191 and 8,192 and past them: short and long pointers.
+    fn far(&mut self) {
+        let last = self.random.pick(&[2, 3]);
+        let (before, after) = (908, self.random.below(14));
+        let outline = wide(&mut self.random, before, last, after).outline();
+        let mut store = self.fresh(1_000);
+        self.add(&mut store, &outline);
+        self.outline(&store, 0, outline.len());
+        let Some(file) = self.pack(&store, 0, 60_000, 65_536) else { return };
+        self.check(&file, file.len());
+        let numbers = self.open(&file, 16).unwrap();
+        let points = self.solid(&file);
+        for _ in 0..200 {
+            let at = self.packed_point(7, &points);
+            self.packed_voxel(&file, at);
+            self.ask(&file, &numbers, at);
+        }
+        let draft = Draft::read(&file).unwrap();
+        for _ in 0..8 {
+            let mut draft = draft.clone();
+            draft.change(&mut self.random);
+            let changed = draft.write();
+            let at = self.packed_point(7, &points);
+            self.packed_voxel(&changed, at);
+            self.check(&changed, changed.len());
+        }
+    }
+
+    /// Rooms with hundreds of cells.
+    fn large(&mut self) {
+        let capacity = self.random.pick(&[60, 150, 400]);
+        let mut store = self.fresh(capacity);
+        for _ in 0..3 {
+            let file = room(&mut self.random, 300).outline();
+            self.add(&mut store, &file);
+            self.ask_store(&store, 3);
+        }
+        for _ in 0..2 {
+            self.ask_outline(&store);
+            if let Some(file) = self.ask_pack(&store) {
+                let points = self.solid(&file);
+                self.ask_packed(&file, 10, &points);
+                let changed = damaged(&mut self.random, &file);
+                self.ask_packed(&changed, 2, &points);
+            }
+        }
+    }
+
+    fn new_stores(&mut self) {
+        for _ in 0..40 {
+            let capacity = self.random.from_to(1, 12);
+            let length = match self.random.below(4) {
+                0 => stores::used(capacity) - 1,
+                1 => self.random.below(400),
+                _ => stores::used(capacity) + self.random.below(3),
+            };
+            let asked = match self.random.below(6) {
+                0 => self.random.pick(&[0, 65_536, 65_537, 1 << 31, u32::MAX, 37_675_152, 1 << 26]),
+                _ => capacity as u32,
+            };
+            let mut store = self.noise_words(length);
+            self.new_store(&mut store, asked);
+        }
+    }
+
+    /// The greatest capacity, with enough words and with one too few.
+    fn greatest(&mut self) {
+        let most = stores::used(65_536);
+        for length in [most - 1, most, most + 1] {
+            let mut store = Lent::new(&vec![0x5a5a_5a5a; length], &[1, 2, 3, 4, 5, 6]);
+            for capacity in [65_537, 65_536] {
+                self.new_store(&mut store, capacity);
+            }
+            if length == most {
+                let file = room(&mut self.random, 20).outline();
+                self.add(&mut store, &file);
+                self.ask_store(&store, 1);
+                self.ask_outline(&store);
+            }
+        }
+    }
+
+    fn details(&mut self) {
+        for _ in 0..120 {
+            let depth =
+                if self.random.once_in(8) { self.random.pick(&[0, 1, 17, 18, 255, u32::MAX]) } else { self.random.from_to(2, 16) as u32 };
+            let kind = if self.random.once_in(20) { self.random.pick(&[3, 4, 256, u32::MAX]) } else { self.random.below(3) as u32 };
+            let (a, b) = self.random.sight();
+            self.detail(depth, kind, a, b);
+        }
+    }
+
+    /// An episode by its number, from the seed and that number alone.
+    pub fn episode(&mut self, episode: u64) {
+        self.episode = episode;
+        self.random = Random::new(self.seed.wrapping_add(episode.wrapping_mul(0x1000_0000_01b3)));
+        match episode {
+            0 => self.greatest(),
+            _ if episode % 300 == 1 => self.far(),
+            _ => match self.random.below(40) {
+                0..=9 => self.rooms(),
+                10..=11 => self.many(),
+                12..=14 => self.outlines(),
+                15..=20 => self.damaged_stores(),
+                21..=25 => self.by_hand(),
+                26 => self.full(),
+                27..=28 => self.noise(),
+                29..=35 => self.packed_files(),
+                36 => self.large(),
+                37 => self.new_stores(),
+                _ => self.details(),
+            },
+        }
+    }
+}

@@ -1,0 +1,551 @@
+#!/usr/bin/env python3
+"""Makes seven scripts of calls in crates/replay_scripts/data: questions, adding, packing, far, opening, changes and rules.
+
+The other scripts there came with document 01. What all of them must print is what tests/scripts.rs finds over the twin; with
+ROOMS_PRINTED=FILE that test writes it there. The commands are those of crates/script.
+"""
+
+import os
+import random
+import struct
+
+random.seed(20261115)
+MOST = 2**32 - 1
+
+
+def u32(*numbers):
+    return b"".join(struct.pack(">I", n & MOST) for n in numbers)
+
+
+# ---- commands
+
+
+def new(capacity, words):
+    return b"N" + u32(capacity, words)
+
+
+def used(capacity):
+    return 160 + 114 * capacity
+
+
+def fresh(capacity, spare=3):
+    return new(capacity, used(capacity) + spare)
+
+
+def add(file):
+    return b"A" + u32(len(file)) + file
+
+
+def voxel(scene, x, y, z):
+    return b"V" + u32(scene, x, y, z)
+
+
+def cell(scene, height, x, y, z):
+    return b"C" + u32(scene, height, x, y, z)
+
+
+def box(scene, low, high):
+    return b"B" + u32(scene, *low, *high)
+
+
+def kept(height):
+    return b"K" + u32(height)
+
+
+def outline_out(scene, room):
+    return b"O" + u32(scene, room)
+
+
+def pack(scene, scratch, room):
+    return b"P" + u32(scene, scratch, room)
+
+
+def load(file):
+    return b"L" + u32(len(file)) + file
+
+
+def change(at, byte):
+    return b"X" + u32(at) + bytes([byte])
+
+
+def check(scratch):
+    return b"c" + u32(scratch)
+
+
+def packed(x, y, z):
+    return b"v" + u32(x, y, z)
+
+
+def opened(x, y, z):
+    return b"q" + u32(x, y, z)
+
+
+def word(at, n):
+    return b"W" + u32(at, n)
+
+
+STORE_SUM = b"H"
+
+# ---- files
+
+
+def record(voxels, height, x0, y0, z0):
+    """The record of the cell with this low corner, for a list of voxels."""
+    if height == 2:
+        bits = 0
+        for x, y, z in voxels:
+            bits |= 1 << ((x - x0) + 4 * (y - y0) + 16 * (z - z0))
+        return leaf(bits)
+    half = 1 << (height - 1)
+    children = [[] for _ in range(8)]
+    for x, y, z in voxels:
+        children[(x - x0) // half + 2 * ((y - y0) // half) + 4 * ((z - z0) // half)].append((x, y, z))
+    mask = 0
+    body = b""
+    for i in range(8):
+        if children[i]:
+            mask |= 1 << i
+            body += record(children[i], height - 1, x0 + (i & 1) * half, y0 + (i >> 1 & 1) * half, z0 + (i >> 2 & 1) * half)
+    return bytes([mask]) + body
+
+
+def raw(depth, body):
+    return b"\x11" + u32(6 + len(body)) + bytes([depth]) + body
+
+
+def outline(depth, voxels):
+    voxels = sorted(set(voxels))
+    return raw(depth, record(voxels, depth, 0, 0, 0) if voxels else b"")
+
+
+def leaf(bits):
+    return struct.pack(">Q", bits)
+
+
+def mirror(voxels, t, edge):
+    def turned(c, marked):
+        return edge - 1 - c if marked else c
+
+    return [(turned(x, t & 1), turned(y, t & 2), turned(z, t & 4)) for x, y, z in voxels]
+
+
+def some_voxels(depth, count):
+    edge = 1 << depth
+    return [(random.randrange(edge), random.randrange(edge), random.randrange(edge)) for _ in range(count)]
+
+
+def with_length(file):
+    return file[:1] + u32(len(file)) + file[5:]
+
+
+def packed_file(depth, root, lists):
+    """lists: for each height its size and its bytes."""
+    heights = range(depth, 1, -1)
+    sizes = b"".join(u32(lists[h][0]) for h in heights)
+    body = b"".join(lists[h][1] for h in heights)
+    return with_length(b"\x21\0\0\0\0" + bytes([depth, root]) + sizes + body)
+
+
+S1 = raw(3, b"\x03" + leaf(1) + leaf(8))
+S1_PACKED = bytes.fromhex("210000001D0300" + "00000003" + "00000001" + "0005" + "0000" + "2000" + "0000000000000001")
+ROOM_P = raw(3, b"\x03" + leaf(0x8001) + leaf(1))
+ROOM_Q = raw(3, b"\x0c" + leaf(0x1008) + leaf(0x1000))
+
+# ---- stores by hand
+
+
+def pointer(tag, number):
+    return tag << 29 | number + 1
+
+
+def by_hand(capacity, scenes, leaves, lists, spare=2):
+    """A store written word by word; lists: for each height its cells."""
+    script = fresh(capacity, spare)
+    script += word(1, len(scenes)) + word(2, len(leaves))
+    for h in lists:
+        script += word(h, len(lists[h]))
+    for i, (depth, root) in enumerate(scenes):
+        script += word(32 + 2 * i, depth) + word(33 + 2 * i, root)
+    for i, bits in enumerate(leaves):
+        script += word(160 + 2 * i, bits >> 32) + word(161 + 2 * i, bits)
+    for h in lists:
+        for n, pointers in enumerate(lists[h]):
+            for j, p in enumerate(pointers):
+                if p:
+                    script += word(160 + 2 * capacity + 8 * capacity * (h - 3) + 8 * n + j, p)
+    return script
+
+
+# ---- the scripts
+
+
+def questions():
+    """The store and its questions, nothing added: damaged words in each region, orders, odd arguments."""
+    script = b""
+    # before the first new store: a slice of no words
+    script += voxel(0, 0, 0, 0) + cell(0, 0, 0, 0, 0) + box(0, (0, 0, 0), (0, 0, 0)) + kept(2) + outline_out(0, 10) + STORE_SUM
+    for words in (0, 1, 31, 32, 159, 160, 273, 274):
+        script += new(1, words) + voxel(0, 0, 0, 0) + kept(2) + box(0, (0, 0, 0), (0, 0, 0)) + cell(0, 0, 0, 0, 0) + outline_out(0, 8)
+    for c in (0, 1, 2, 1148, 1149, 65535, 65536, 65537, MOST):
+        script += new(c, 300) + new(c, 131072) + new(c, min(131072, 160 + 114 * c)) + new(c, min(131072, max(0, 159 + 114 * c)))
+
+    base = by_hand(
+        2,
+        [(3, pointer(0, 0)), (3, pointer(5, 1)), (2, pointer(3, 1)), (16, 0), (4, pointer(7, 0))],
+        [0x8001, 2**64 - 1],
+        {
+            3: [[pointer(0, 0), 0, pointer(3, 1), 0, 0, pointer(7, 0), 0, 0], [pointer(2, 0)] * 8],
+            4: [[pointer(6, 0), pointer(1, 1), 0, 0, 0, 0, 0, pointer(0, 0)]],
+        },
+    )
+    asked = b""
+    for s in range(6):
+        for point in ((0, 0, 0), (3, 1, 2), (7, 7, 7), (8, 0, 0), (0, MOST, 0)):
+            asked += voxel(s, *point)
+        for height, point in ((0, (3, 0, 0)), (1, (1, 1, 1)), (2, (0, 0, 0)), (2, (1, 0, 0)), (3, (0, 0, 0)), (4, (0, 0, 0))):
+            asked += cell(s, height, *point)
+        asked += cell(s, 17, 0, 0, 0) + cell(s, MOST, 0, 0, 0)
+        asked += box(s, (0, 0, 0), (8, 8, 8)) + box(s, (0, 0, 0), (4, 4, 4)) + box(s, (1, 2, 3), (3, 4, 4))
+        asked += box(s, (8, 8, 8), (8, 8, 8)) + box(s, (0, 0, 0), (0, 9, 0)) + box(s, (2, 0, 0), (1, 0, 0))
+        asked += box(s, (0, 0, 0), (16, 16, 16)) + box(s, (16, 16, 16), (16, 16, 16)) + box(s, (0, 5, 0), (0, 4, 0))
+        for room in (0, 5, 6, 400):
+            asked += outline_out(s, room)
+    for h in (0, 1, 2, 3, 4, 16, 17, MOST):
+        asked += kept(h)
+    script += base + STORE_SUM + asked + STORE_SUM
+
+    # damage in each region
+    few = b""
+    for s in (0, 1, 2, 4, 5):
+        few += voxel(s, 0, 0, 0) + voxel(s, 9, 0, 0) + cell(s, 2, 0, 0, 0)
+        few += box(s, (0, 0, 0), (4, 4, 4)) + box(s, (4, 4, 4), (8, 8, 8)) + box(s, (3, 3, 3), (2, 9, 9)) + outline_out(s, 300)
+    few += kept(2) + kept(1)
+    header = [(0, 0), (0, 1), (0, 3), (0, 65537), (1, 65), (1, MOST), (2, 3), (16, 3), (16, 2), (17, 1), (31, 1)]
+    scenes = [(32, 1), (32, 17), (32, MOST), (33, 0x20000000), (33, pointer(0, 2)), (35, pointer(0, 5)), (36, 1), (37, pointer(1, 2))]
+    unused = [(42, 1), (159, 1)]
+    leaves = [(160, 0), (162, 0), (163, 0)]
+    cells = [(164, 0x20000000), (164, pointer(0, 2)), (165, pointer(0, 7)), (167, pointer(0, 2**29 - 2)), (171, 1), (172, 0)]
+    cells += [(180, pointer(0, 2)), (180, 0x40000000), (187, pointer(0, 3)), (188, 1), (387, 1), (388, 1), (389, 77)]
+    for at, n in header + scenes + unused + leaves + cells:
+        script += base + word(at, n) + few + STORE_SUM
+
+    # empty used cells answer as empty in questions, and are damage for outline out
+    script += by_hand(2, [(2, pointer(0, 0)), (3, pointer(0, 0))], [0], {3: [[0] * 8]})
+    script += voxel(0, 0, 0, 0) + cell(0, 2, 0, 0, 0) + cell(0, 1, 0, 0, 0) + cell(0, 0, 0, 0, 0)
+    script += voxel(1, 0, 0, 0) + cell(1, 3, 0, 0, 0) + cell(1, 2, 0, 0, 0) + box(1, (0, 0, 0), (8, 8, 8)) + outline_out(0, 99)
+    # the 64-voxel leaf room, box 64
+    script += by_hand(1, [(2, pointer(4, 0))], [2**64 - 1], {})
+    script += box(0, (0, 0, 0), (4, 4, 4)) + box(0, (0, 0, 0), (4, 4, 3)) + voxel(0, 3, 3, 3) + outline_out(0, 14) + outline_out(0, 13)
+    # a full room of depth 16 answers at once
+    script += by_hand(1, [(16, pointer(1, 0))], [2**64 - 1], {h: [[pointer(h % 8, 0)] * 8] for h in range(3, 17)})
+    script += box(0, (0, 0, 0), (65536, 65536, 65536)) + box(0, (1, 0, 0), (2, 65536, 1))
+    script += box(0, (32768, 32768, 32768), (65536, 65536, 65536))
+    script += voxel(0, 65535, 0, 1) + cell(0, 16, 0, 0, 0) + cell(0, 0, 65535, 65535, 65535) + outline_out(0, 65536)
+    return script
+
+
+def symmetric(height):
+    """Shapes symmetric under one axis or more together."""
+    shapes = []
+    for t in (3, 5, 6, 7, 1, 2, 4):
+        voxels = some_voxels(height, 3)
+        shapes.append(voxels + mirror(voxels, t, 1 << height))
+    return shapes
+
+
+def adding():
+    script = add(S1)  # no store yet
+    # S8, then S9 with a full store that still accepts a room without new cells
+    script += fresh(2) + add(ROOM_P) + add(ROOM_Q) + kept(3) + kept(2) + voxel(0, 0, 0, 0) + voxel(1, 3, 7, 0)
+    script += box(0, (0, 0, 0), (8, 8, 8)) + box(1, (0, 0, 0), (8, 8, 8)) + outline_out(0, 99) + outline_out(1, 99) + STORE_SUM
+    script += fresh(1) + add(ROOM_P) + STORE_SUM + add(S1) + add(ROOM_Q) + add(S1) + kept(2) + STORE_SUM
+    script += fresh(2) + add(ROOM_P) + add(outline(2, [(0, 0, 0), (1, 1, 0), (0, 1, 1)])) + add(ROOM_P) + add(ROOM_Q) + STORE_SUM
+    # 64 and 65 scenes; a broken file is 6 even then
+    script += fresh(1) + b"".join(add(raw(2 + i % 15, b"")) for i in range(65))
+    script += add(raw(3, b"\x00")) + add(S1) + add(b"") + kept(2) + voxel(63, 0, 0, 0) + voxel(64, 0, 0, 0) + STORE_SUM
+    script += fresh(3) + b"".join(add(S1) for i in range(66)) + kept(2) + kept(3) + outline_out(63, 23)
+
+    # broken outlines
+    good = outline(4, [(0, 0, 0), (15, 15, 15), (5, 6, 7), (8, 0, 3)])
+    script += fresh(9)
+    files = [b"", b"\x11", b"\x12" + good[1:], b"\x21", b"\x11\0\0\0\x05", b"\x11\0\0\0\x06"]
+    files += [raw(1, b""), raw(17, b""), raw(0, b"\x01"), raw(255, b"")]
+    files += [good[:-1], with_length(good[:-1]), with_length(good + b"\0"), good + b"\0"]
+    files += [raw(2, leaf(0)), raw(2, leaf(1)[:7]), raw(2, leaf(1) + b"\x01")]
+    files += [raw(3, b"\0"), raw(3, b"\x01"), raw(3, b"\x01" + leaf(0)), raw(3, b"\x80" + leaf(5)), raw(3, b"\x81" + leaf(5))]
+    files += [raw(4, b"\x01\x00"), raw(4, b"\x02\x01" + leaf(9)), raw(16, b"\x01" * 14 + leaf(9)), raw(16, b"\x01" * 13 + leaf(9))]
+    files += [b"\x11\xff\xff\xff\xff\x03", b"\x11" + u32(len(good) + 1) + good[5:]]
+    for file in files:
+        script += add(file)
+    script += STORE_SUM
+    for i in range(len(good)):
+        for byte in (0, 1, 0x80, 0xFF):
+            script += fresh(4, 0) + add(good[:i] + bytes([byte]) + good[i + 1 :])
+
+    # symmetric shapes at heights 2 to 4, under all mirrors, alone and eight together
+    for h in (2, 3, 4):
+        edge = 1 << h
+        for voxels in symmetric(h):
+            script += fresh(12) + add(outline(h, voxels))
+            for t in range(1, 8):
+                script += add(outline(h, mirror(voxels, t, edge)))
+            script += kept(h) + kept(2) + outline_out(3, 400) + box(5, (0, 0, 0), (edge // 2, edge, edge)) + STORE_SUM
+            eight = []
+            for i in range(8):
+                for x, y, z in mirror(voxels, (i * 3) % 8, edge):
+                    eight.append((x + edge * (i & 1), y + edge * (i >> 1 & 1), z + edge * (i >> 2 & 1)))
+            script += add(outline(h + 1, eight)) + kept(h + 1) + kept(h) + box(8, (0, 0, 0), (2 * edge, 2 * edge, 2 * edge)) + STORE_SUM
+
+    # capacity refused at each height, words as they were; then a smaller room still fits
+    for c in (1, 2, 3, 4, 5, 6, 8):
+        script += fresh(c) + add(S1) + STORE_SUM
+        for n in (2, 3, 5, 9, 14):
+            script += add(outline(5, some_voxels(5, n))) + STORE_SUM
+        script += add(ROOM_P) + add(S1) + kept(2) + kept(3) + kept(4) + kept(5)
+    # noise beyond the used words stays; a store damaged beyond is not seen
+    script += new(2, 500) + add(S1) + word(499, 7) + add(ROOM_P) + STORE_SUM
+    # stores that no call wrote: cells that match, tags not lowest
+    script += by_hand(4, [], [1, 8, 0x8001], {3: [[pointer(3, 2), 0, 0, 0, 0, 0, 0, 0], [pointer(0, 2), 0, 0, 0, 0, 0, 0, 0]]})
+    script += add(S1) + add(ROOM_P) + add(raw(3, b"\x01" + leaf(0x8001))) + add(raw(3, b"\x80" + leaf(0x8001))) + STORE_SUM
+    script += outline_out(0, 99) + outline_out(3, 99)
+    # deep rooms
+    for d in (2, 3, 7, 11, 16):
+        voxels = some_voxels(d, 12)
+        edge = 1 << d
+        script += fresh(20) + add(outline(d, voxels)) + add(outline(d, mirror(voxels, 6, edge))) + STORE_SUM
+        for h in range(2, d + 1):
+            script += kept(h)
+        for x, y, z in voxels[:4]:
+            script += voxel(0, x, y, z) + voxel(1, x, edge - 1 - y, edge - 1 - z) + voxel(0, x ^ 1, y, z)
+            script += cell(0, min(d, 3), x >> 3, y >> 3, z >> 3 if d >= 3 else 0)
+        script += box(0, (0, 0, 0), (edge, edge, edge)) + box(1, (0, 0, 0), (edge, edge // 2, edge))
+        script += outline_out(0, 65536) + outline_out(1, 65536)
+    return script
+
+
+def packing():
+    script = pack(0, 0, 0)
+    # S1 to S5
+    script += fresh(2) + add(S1) + pack(0, 120, 29) + check(29) + check(28) + check(40)
+    script += packed(7, 0, 0) + packed(4, 0, 0) + packed(0, 4, 0) + packed(8, 0, 0) + opened(7, 0, 0) + opened(8, 0, 0)
+    script += pack(0, 120, 28) + pack(0, 119, 29) + pack(0, 119, 28) + pack(0, 130, 40) + pack(1, 0, 0) + pack(0, 0, 0)
+    script += word(1, 2) + pack(0, 120, 29) + word(31, 5) + pack(7, 0, 0) + STORE_SUM
+    # an empty scene, and depth 2
+    script += fresh(1) + add(raw(7, b"")) + pack(0, 60, 7) + pack(0, 60, 6) + pack(0, 59, 7) + pack(0, 61, 9) + check(9)
+    script += packed(0, 0, 0) + packed(127, 127, 127) + packed(128, 0, 0) + opened(3, 3, 3)
+    script += fresh(2) + add(outline(2, [(1, 2, 3)])) + add(outline(2, [(2, 1, 0)])) + add(outline(2, [(0, 0, 0), (3, 3, 3)]))
+    for i in range(3):
+        script += pack(i, 120, 99) + check(99) + packed(1, 2, 3) + packed(2, 1, 0) + opened(0, 0, 0)
+    # shared cells: only a scene's own are written
+    script += fresh(40)
+    rooms = []
+    for i in range(6):
+        voxels = some_voxels(5, 6 + 3 * i) + [(1, 1, 1), (2, 1, 1)]
+        rooms.append(voxels)
+        script += add(outline(5, voxels))
+    for i in range(6):
+        script += pack(i, 2400, 3000) + check(3000) + pack(i, 2405, 3100)
+        for point in rooms[i][:3] + some_voxels(5, 3):
+            script += packed(*point) + opened(*point) + voxel(i, *point)
+        for h in range(2, 6):
+            script += kept(h)
+    # a cell named eight times by one record, one named by two
+    row = [(4 * i, 4 * j, 4 * k + 1) for i in range(2) for j in range(2) for k in range(2)]
+    named = outline(4, [(0, 0, 0)] + row + [(8, 0, 0), (12, 0, 1), (8, 8, 8), (12, 8, 9), (8, 8, 0)])
+    script += fresh(9) + add(named) + pack(0, 540, 999) + check(999)
+    for d in (3, 4, 6, 9, 16):
+        voxels = some_voxels(d, 14)
+        edge = 1 << d
+        script += fresh(30) + add(outline(d, voxels)) + add(outline(d, mirror(voxels, 5, edge)))
+        script += add(outline(d, voxels + mirror(voxels, 3, edge)))
+        for i in range(3):
+            script += pack(i, 1800, 60000) + check(60000) + check(10)
+            for point in voxels[:3] + some_voxels(d, 2):
+                script += packed(*point) + opened(*point)
+    # stores that no call wrote: packing writes what is stored, and the check says what it is
+    script += by_hand(
+        3,
+        [(3, pointer(3, 0)), (4, pointer(7, 0))],
+        [0x8001, 0x8001, 0x1008],
+        {
+            3: [
+                [pointer(3, 0), pointer(1, 1), 0, pointer(2, 2), 0, 0, 0, pointer(0, 0)],
+                [0, pointer(5, 2)] + [0] * 6,
+            ],
+            4: [[pointer(1, 1), pointer(6, 0)] + [0] * 6],
+        },
+    )
+    script += pack(0, 180, 200) + check(200) + packed(0, 0, 0) + packed(1, 1, 0)
+    script += pack(1, 180, 200) + check(200) + packed(9, 1, 1) + opened(9, 1, 1)
+    return script
+
+
+def far():
+    """A record at place 8,191 (named short), and in another room one at 8,192 (named long), at height 3."""
+    random.seed(77)
+    capacity = 1000
+    leaves = [random.getrandbits(64) | 1 for _ in range(60)]
+
+    def part(n):
+        return bytes([(1 << n) - 1]) + b"".join(leaf(random.choice(leaves)) for _ in range(n))
+
+    def build(parts, height):
+        if height == 3:
+            return parts.pop() if parts else None
+        mask = 0
+        body = b""
+        for i in range(8):
+            child = build(parts, height - 1)
+            if child is not None:
+                mask |= 1 << i
+                body += child
+        return bytes([mask]) + body if mask else None
+
+    script = b""
+    for last in (2, 3):
+        parts = [part(8) for _ in range(908)] + [part(7), part(7), part(last)] + [part(8) for _ in range(12)]
+        script += new(capacity, used(capacity)) + add(raw(7, build(parts[::-1], 7))) + pack(0, 60000, 65536)
+        for h in range(2, 8):
+            script += kept(h)
+        for point in some_voxels(7, 40):
+            script += packed(*point) + voxel(0, *point)
+        script += check(65536)
+    return script
+
+
+def opening():
+    script = packed(0, 0, 0) + opened(0, 0, 0) + check(0)
+    script += load(S1_PACKED) + packed(7, 0, 0) + opened(7, 0, 0) + check(29)
+    # byte 6 from 0 to 10 at 7 bytes and at more
+    for byte in range(0, 11):
+        file = with_length(b"\x21\0\0\0\0\x05" + bytes([byte]))
+        script += load(file) + packed(0, 0, 0) + packed(32, 0, 0) + opened(0, 0, 0) + opened(32, 0, 0) + check(7)
+        file = with_length(file + b"\0")
+        script += load(file) + packed(0, 0, 0) + packed(32, 0, 0) + opened(0, 0, 0) + check(8)
+        script += load(S1_PACKED) + change(6, byte) + packed(0, 0, 0) + packed(7, 7, 7) + opened(1, 0, 0) + check(29)
+    # depth 2 with 0, 1, 2, 3 leaves
+    for n in range(4):
+        for root in (0, 3, 8):
+            file = packed_file(2, root, {2: (n, b"".join(leaf(0x8001 + i) for i in range(n)))})
+            script += load(file) + packed(0, 0, 0) + packed(3, 3, 0) + packed(4, 0, 0) + opened(0, 0, 0) + opened(3, 3, 0)
+            script += check(len(file))
+    # sizes that overflow 32 bits
+    sizes = [(MOST, MOST), (0x80000003, 1), (3, 0x20000001), (0x80000003, 0x20000001), (0, 1), (3, 0), (7, 0), (0x7FFFFFF3, 2)]
+    for a, b in sizes:
+        script += load(S1_PACKED[:7] + u32(a, b) + S1_PACKED[15:]) + packed(7, 0, 0) + opened(7, 0, 0) + packed(9, 0, 0) + check(29)
+    # short files, lengths, versions, depths; a point outside on a broken file (10 before 6)
+    files = [b"", b"\x21", b"\x11" + S1_PACKED[1:], b"\x22" + S1_PACKED[1:], S1_PACKED[:6], with_length(S1_PACKED[:6])]
+    files += [S1_PACKED[:-1], with_length(S1_PACKED[:-1]), S1_PACKED + b"\0", with_length(S1_PACKED + b"\0")]
+    files += [with_length(S1_PACKED[:n]) for n in (10, 14, 15)]
+    files += [S1_PACKED[:5] + bytes([d]) + S1_PACKED[6:] for d in (0, 1, 2, 4, 16, 17, 255)]
+    for file in files:
+        script += load(file) + packed(7, 0, 0) + packed(8, 0, 0) + packed(MOST, 0, 0) + opened(7, 0, 0) + opened(8, 0, 0)
+        script += check(len(file)) + check(max(0, len(file) - 1)) + check(len(file) + 9)
+    return script
+
+
+def changes():
+    """Every single-byte change of S1's file: check, voxel, opened question."""
+    script = load(S1_PACKED)
+    for i in range(len(S1_PACKED)):
+        for byte in range(256):
+            if byte != S1_PACKED[i]:
+                script += change(i, byte) + check(29) + packed(7, 0, 0) + (opened(0, 0, 0) if byte % 16 == 1 else b"")
+        script += change(i, S1_PACKED[i])
+    return script
+
+
+def rules():
+    """A proper file with each rule broken alone; every single-byte change of a file of depth 4."""
+
+    def leaves(*all_bits):
+        return len(all_bits), b"".join(leaf(bits) for bits in all_bits)
+
+    def halves(*numbers):
+        return b"".join(struct.pack(">H", n) for n in numbers)
+
+    def inner(*records):
+        body = b"".join(records)
+        return len(body) // 2, body
+
+    def links(*of):
+        """A record: child, code, tag and place of each link."""
+        header = 0
+        body = b""
+        for child, code, tag, place in of:
+            header |= code << (2 * child)
+            body += struct.pack(">H", tag << 13 | place) if code == 1 else struct.pack(">I", tag << 29 | place)
+        return struct.pack(">H", header) + body
+
+    two = links((0, 1, 0, 0), (1, 1, 0, 1))
+    one = links((0, 1, 0, 0))
+    over = inner(links((0, 1, 0, 0), (1, 1, 0, 2)))
+    good = packed_file(3, 0, {3: inner(two), 2: leaves(1, 3)})
+    four = packed_file(
+        4,
+        0,
+        {
+            4: inner(links((0, 1, 0, 0), (1, 1, 0, 3))),
+            3: inner(two, links((0, 1, 0, 0), (3, 1, 1, 0))),
+            2: leaves(1, 3),
+        },
+    )
+    files = [
+        good,
+        four,
+        packed_file(3, 0, {3: inner(one, links((1, 1, 0, 0))), 2: leaves(1)}),  # two records on top
+        packed_file(3, 0, {3: (0, b""), 2: leaves(1)}),  # none
+        packed_file(3, 0, {3: inner(one + b"\0\0"), 2: leaves(1)}),  # zero header after
+        packed_file(3, 0, {3: inner(halves(3, 0)), 2: leaves(1)}),  # code 3
+        packed_file(3, 0, {3: inner(halves(5, 0)), 2: leaves(1)}),  # record past its list
+        packed_file(3, 0, {3: inner(two), 2: leaves(1, 0)}),  # a zero leaf
+        packed_file(3, 0, {3: inner(links((0, 1, 0, 0), (1, 1, 0, 2))), 2: leaves(1, 3)}),  # outside
+        packed_file(3, 0, {3: inner(links((0, 2, 0, 0), (1, 1, 0, 1))), 2: leaves(1, 3)}),  # long to a short place
+        packed_file(4, 0, {4: inner(two), 3: inner(two), 2: leaves(1, 3)}),  # names no start
+        packed_file(3, 0, {3: inner(one), 2: leaves(1, 3)}),  # not named
+        packed_file(3, 0, {3: inner(two), 2: leaves(1, 8)}),  # two leaves that match
+        packed_file(4, 0, {4: over, 3: inner(one, links((1, 1, 1, 0))), 2: leaves(1)}),  # two cells that match
+        packed_file(3, 0, {3: inner(links((0, 1, 3, 0), (1, 1, 0, 1))), 2: leaves(0x8001, 3)}),  # tag 3 means 0
+        packed_file(3, 0, {3: inner(links((0, 1, 2, 0), (1, 1, 0, 1))), 2: leaves(0x8001, 3)}),  # tag 2 means 1
+        packed_file(3, 1, {3: inner(links((0, 1, 0, 0), (1, 1, 1, 0))), 2: leaves(1)}),  # the root's tag
+        packed_file(3, 2, {3: inner(links((0, 1, 0, 0), (1, 1, 1, 0))), 2: leaves(1)}),
+        packed_file(4, 0, {4: over, 3: inner(links((0, 1, 0, 1)), two), 2: leaves(3, 1)}),  # order rises
+        packed_file(4, 0, {4: over, 3: inner(one, two), 2: leaves(3, 1)}),
+        # named eight times by one: counts once
+        packed_file(
+            4,
+            0,
+            {
+                4: inner(links((0, 1, 0, 0), (1, 1, 0, 9))),
+                3: inner(links(*[(i, 1, 0, 0) for i in range(8)]), links((0, 1, 0, 1))),
+                2: leaves(3, 1),
+            },
+        ),
+        packed_file(2, 1, {2: leaves(0x8001)}),
+        packed_file(2, 3, {2: leaves(0x8001)}),
+        packed_file(2, 0, {2: leaves(0x8001)}),
+        packed_file(2, 0, {2: leaves(0)}),
+        packed_file(2, 0, {2: leaves(1, 3)}),
+    ]
+    script = b""
+    for file in files:
+        n = len(file)
+        script += load(file) + check(n) + check(n - 1) + check(n + 13) + packed(0, 0, 0) + packed(4, 0, 0) + opened(0, 0, 0)
+    script += load(four)
+    for i in range(len(four)):
+        for byte in range(0, 256, 1 if i >= 5 else 16):
+            if byte != four[i]:
+                script += change(i, byte) + check(len(four))
+        script += change(i, four[i])
+    return script
+
+
+def main():
+    folder = os.path.join(os.path.dirname(os.path.abspath(__file__)), "../../../crates/replay_scripts/data")
+    # one row of random numbers serves all, so their order matters
+    for make in (questions, adding, packing, far, opening, changes, rules):
+        with open(os.path.join(folder, make.__name__ + ".script"), "wb") as file:
+            file.write(make())
+
+
+main()
