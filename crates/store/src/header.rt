@@ -53,7 +53,7 @@ pub fn size_bad(capacity: u32, words: usize) -> bool
     words < used_words(capacity)
 }
 
-// Whether a list's count is above the capacity.
+// Whether a list's count is above the capacity. Here and below no early exit: so it compiles to vector instructions.
 fn counts_bad(store: &[u32]) -> bool
     requires { ⌜ scenePlace mostScenes ≤ length (now store) ⌝ }
     ensures { λ r. ⌜ r ≡ not (allBelow heights (λ k. leb (keptCount (now (store .entry)) k) (capacityOf (now (store .entry))))) ⌝ }

@@ -254,21 +254,24 @@ fn count_wholes(store: &[u32], k: u32, cell: [u32; 8], left: u32, found: u64) ->
     requires { ⌜ found + wholesSolid (keptOf (now store)) k cell left ≤ mostSolid ⌝ }
     ensures { λ r. ⌜ r ≡ wholesIn (keptOf (now (store .entry))) k cell left found ⌝ }
 {
-    if left == 0 {
-        return Tally::Solid(found);
-    }
-    let p = cell[(left - 1) as usize];
-    if p == 0 {
-        return count_wholes(store, k, cell, left - 1, found);
-    }
-    let number = cell_number(p);
-    match count_whole(store, k, number) {
-        Tally::Damaged => Tally::Damaged,
-        Tally::Solid(n) => {
-            let times = times_named(cell, left, number);
-            count_wholes(store, k, without(cell, number), left - 1, found + times * n)
+    let mut rest = cell;
+    let mut i = left;
+    let mut sum = found;
+    while i != 0 {
+        i -= 1;
+        let p = rest[i as usize];
+        if p == 0 {
+            continue;
         }
+        let number = cell_number(p);
+        let Tally::Solid(n) = count_whole(store, k, number) else {
+            return Tally::Damaged;
+        };
+        let times = times_named(rest, i + 1, number);
+        rest = without(rest, number);
+        sum += times * n;
     }
+    Tally::Solid(sum)
 }
 
 // The solid voxels of a cell of list k, seen under a mirror, in a box.
@@ -320,23 +323,25 @@ fn count_children(
     requires { ⌜ found + childrenSolid (keptOf (now store)) k cell mirror left (at low) (at high) ≤ mostSolid ⌝ }
     ensures { λ r. ⌜ r ≡ childrenIn (keptOf (now (store .entry))) k cell mirror left (at low) (at high) found ⌝ }
 {
-    if left == 0 {
-        return Tally::Solid(found);
-    }
-    let i = left - 1;
     let side = edge(k);
-    let p = cell[(i ^ mirror) as usize];
-    match count_pointer(
-        store,
-        k,
-        p,
-        mirror,
-        clipped(side, i, low),
-        clipped(side, i, high),
-    ) {
-        Tally::Damaged => Tally::Damaged,
-        Tally::Solid(n) => count_children(store, k, cell, mirror, low, high, i, found + n),
+    let mut i = left;
+    let mut sum = found;
+    while i != 0 {
+        i -= 1;
+        let p = cell[(i ^ mirror) as usize];
+        let Tally::Solid(n) = count_pointer(
+            store,
+            k,
+            p,
+            mirror,
+            clipped(side, i, low),
+            clipped(side, i, high),
+        ) else {
+            return Tally::Damaged;
+        };
+        sum += n;
     }
+    Tally::Solid(sum)
 }
 
 // The solid voxels of what a pointer of list k stands for, seen under a mirror, in a box; its tag joins the mirror.

@@ -1,13 +1,15 @@
--- `walk::boxes::count_whole` and `count_wholes` meet their contracts, each using the other's one list down or at fewer children: a leaf by its bits, a
--- cell by its children, and the children that name one cell by that cell's count. By the laws of whole cells at the tests passed. Assumes nothing.
-use mathlib.Core.Path.{sym, ap, ap₂, _∙_}
+-- `walk::boxes::count_whole` and `count_wholes` meet their contracts, each using the other's at or below its list: a leaf by its bits, a cell by its
+-- children, and the children that name one cell by that cell's count. The invariant: the children left, with what is found, tally as all did. By the
+-- laws of whole cells at the tests passed. Assumes nothing.
+use mathlib.Core.Path.{_≡_, refl, sym, ap, ap₂, _∙_}
+use mathlib.Core.Bool.{false}
 use Prim.Native.Nat.{ℕ, _+_, _-_, _*_, _<_, _≤_}
 use native.Mathlib.Omega.{arith}
 use Rattle.paper.specs.Rooms.{mirrored, boxCount}
 use Rattle.paper.specs.Leaf.{leafVoxel}
 use Rattle.paper.specs.Store.{Cell, keptCount, keptOf, anyBad}
 use Rattle.laws.proofs.Boxes.{origin, far}
-use Rattle.walk.specs.Box.{mostSolid, wholesSolid, wholesIn}
+use Rattle.walk.specs.Box.{mostSolid, wholesSolid, wholesIn, timesNamed}
 use Rattle.walk.specs.declared.boxes.Tally.the-variants.{Solid}
 use Rattle.walk.proofs.BoxWays.{without-bad, whole-leaf, whole-bad, whole-wholes, wholes-fit, last-kept, child-damaged, counted-solid, counted-tally}
 use Rattle.walk.proofs.Wholes.{wholes-none, wholes-absent, solid-absent}
@@ -35,7 +37,7 @@ abbrev μ-count-whole : Measures 1 count-whole-kinds.ps ℕ
 μ-count-whole κs a = 10 * a .1 .0
 
 abbrev μ-count-wholes : Measures 1 count-wholes-kinds.ps ℕ
-μ-count-wholes κs a = 10 * a .1 .0 + a .1 .1 .1 .0 + 1
+μ-count-wholes κs a = 10 * a .1 .0 + 1
 
 abbrev count-whole-at : ℕ → In 1 count-whole-kinds.ps
 count-whole-at t = and 1 count-whole-kinds.ps (is 1 count-whole-kinds.ps μ-count-whole t) count-whole.Pre
@@ -53,17 +55,36 @@ abbrev count-whole-known : ℕ → count-whole-lts.Claims
 count-whole-known t = (leaf-at-reads.Asked, leaf-at-reads.Learnt, count-leaf-reads.Asked, count-leaf-reads.Learnt, cell-at-reads.Asked, cell-at-reads.Learnt, kept-count-reads.Asked, kept-count-reads.Learnt, any-bad-reads.Asked, any-bad-reads.Learnt, count-wholes-below t, count-wholes.Post)
 
 abbrev count-wholes-known : ℕ → count-wholes-lts.Claims
-count-wholes-known t = (count-wholes-below t, count-wholes.Post, cell-number-reads.Asked, cell-number-reads.Learnt, count-whole-below t, count-whole.Post, times-named-reads.Asked, times-named-reads.Learnt, without-reads.Asked, without-reads.Learnt)
+count-wholes-known t = (cell-number-reads.Asked, cell-number-reads.Learnt, count-whole-below t, count-whole.Post, times-named-reads.Asked, times-named-reads.Learnt, without-reads.Asked, without-reads.Learnt)
+
+abbrev Inv-loop : count-wholes-lts.InvT-loop
+Inv-loop store k left found rest₀ i₀ sum₀ rest i sum =
+    (i ≤ 8) × (anyBad (keptCount store k) rest ≡ false) × (sum + wholesSolid (keptOf store) k rest i ≤ mostSolid)
+    × (wholesIn (keptOf store) k rest i sum ≡ wholesIn (keptOf store) k rest₀ i₀ sum₀)
+
+abbrev μ-loop : count-wholes-lts.MeasureT-loop
+μ-loop store k left found rest₀ i₀ sum₀ rest i sum = i
+
+one-back : (n : ℕ) → (n ≡ 0 → ⊥) → n - 1 + 1 ≡ n
+one-back n z = omega arith
+
+times-is : (t : ℕ) (c : count-wholes-lts.After-without (count-wholes-known t) (count-wholes-at t) count-wholes.Post Inv-loop μ-loop) → (let l = c .before .before .before .before .before .before .before .before .before .loop in
+    c .before .times-named .result ≡ timesNamed (l .rest) (l .i) (c .before .before .before .before .before .before .cell-number .result))
+times-is t c =
+    let l = c .before .before .before .before .before .before .before .before .before .loop in
+    c .before .times-named .ensures ∙ ap (λ (n : ℕ). timesNamed (l .rest) n (c .before .before .before .before .before .before .cell-number .result)) (one-back (l .i) (c .before .before .before .before .before .before .before .before .loop-test .taken))
 
 -- what is found with the cell's count, and what is left to find, fit
-fits : (t : ℕ) (c : count-wholes-lts.After-without (count-wholes-known t) (count-wholes-at t) count-wholes.Post)
-    → c .before .before .before .before .before .before .before .before .before .before .args .found + (c .before .times-named .result * c .before .before .before .n .given .0 .0 + wholesSolid (keptOf (c .before .before .before .before .before .before .before .before .before .before .args .store .now)) (c .before .before .before .before .before .before .before .before .before .before .args .k) (c .without .result) (c .before .before .before .before .before .before .before .before .before .before .args .left - 1)) ≤ mostSolid
+fits : (t : ℕ) (c : count-wholes-lts.After-without (count-wholes-known t) (count-wholes-at t) count-wholes.Post Inv-loop μ-loop) → (let l = c .before .before .before .before .before .before .before .before .before .loop in
+    let a = c .before .before .before .before .before .before .before .before .before .before .before .args in
+    l .sum + (c .before .times-named .result * c .before .before .before .n .given .0 .0 + wholesSolid (keptOf (a .store .now)) (a .k) (c .without .result) (l .i - 1)) ≤ mostSolid)
 fits t c =
-    let b = c .before .before .before .before .before .before .before .before .before .before in
+    let l = c .before .before .before .before .before .before .before .before .before .loop in
+    let b = c .before .before .before .before .before .before .before .before .before .before .before in
     let a = b .args in
-    rw (counted-solid (a .store .now) (a .k) (a .t3) (a .left) (b .pre .1 .1 .0 .0) (c .before .before .before .before .before .before .before .before .if1 .left) (b .pre .1 .1 .0 .1) (b .pre .1 .1 .0 .2) (c .before .before .before .before .before .before .cell-number .result) (c .before .before .before .n .given .0 .0)
-    (c .before .times-named .result) (c .without .result) (c .before .before .before .before .before .before .before .if2 .left) (c .before .before .before .before .before .before .cell-number .ensures) (sym (c .before .before .before .before .before .count-whole .ensures) ∙ c .before .before .before .n .given .1)
-    (c .before .times-named .ensures) (c .without .ensures)) at (b .pre .1 .1 .1)
+    rw (counted-solid (a .store .now) (a .k) (l .rest) (l .i) (b .pre .1 .1 .0 .0) (c .before .before .before .before .before .before .before .before .loop-test .taken) (l .inv .0) (l .inv .1) (c .before .before .before .before .before .before .cell-number .result) (c .before .before .before .n .given .0 .0)
+    (c .before .times-named .result) (c .without .result) (c .before .before .before .before .before .before .before .if1 .left) (c .before .before .before .before .before .before .cell-number .ensures) (sym (c .before .before .before .before .before .count-whole .ensures) ∙ c .before .before .before .n .given .1)
+    (times-is t c) (c .without .ensures)) at (l .inv .2)
 
 count-whole-leaf-at-requires : (t : ℕ) → count-whole-lts.Need-leaf-at-requires (count-whole-known t) (count-whole-at t) count-whole.Post
 count-whole-leaf-at-requires t c κs = let b = c .before .before in (b .pre .1 .0, rw (c .if1 .taken) at (b .pre .1 .1 .1))
@@ -100,66 +121,55 @@ count-whole-returns-3 t c =
     ∙ ap (λ (l : Cell). wholesIn (keptOf s) (b .args .k - 1) l 8 0) (c .before .before .before .before .cell-at .ensures)
     ∙ whole-wholes s (b .args .k) (b .args .number) (b .pre .1 .1 .0) (c .before .before .before .before .before .if1 .left)
 
-count-wholes-returns : (t : ℕ) → count-wholes-lts.Need-returns (count-wholes-known t) (count-wholes-at t) count-wholes.Post
-count-wholes-returns t c =
-    let b = c .before .before .args in
-    sym (wholes-none (keptOf (b .store .now)) (b .k) (b .t3) (b .left) (b .found) (c .if1 .taken))
+count-wholes-loop-holds : (t : ℕ) → count-wholes-lts.Need-loop-holds (count-wholes-known t) (count-wholes-at t) count-wholes.Post Inv-loop μ-loop
+count-wholes-loop-holds t c = let p = c .before .pre .1 .1 in (p .0 .1, p .0 .2, p .1, refl)
 
-count-wholes-count-wholes-requires : (t : ℕ) → count-wholes-lts.Need-count-wholes-requires (count-wholes-known t) (count-wholes-at t) count-wholes.Post
-count-wholes-count-wholes-requires t c κs =
-    let b = c .before .before .before in
-    let a = b .args in
-    let e = solid-absent (keptOf (a .store .now)) (a .k) (a .t3) (a .left) (c .before .if1 .left) (c .if2 .taken) in
-    (omega arith, (b .pre .1 .0, ((b .pre .1 .1 .0 .0, omega arith, b .pre .1 .1 .0 .2), omega (arith, e, b .pre .1 .1 .1))))
-
-count-wholes-returns-2 : (t : ℕ) → count-wholes-lts.Need-returns-2 (count-wholes-known t) (count-wholes-at t) count-wholes.Post
-count-wholes-returns-2 t c =
+-- an absent child
+count-wholes-loop-again : (t : ℕ) → count-wholes-lts.Need-loop-again (count-wholes-known t) (count-wholes-at t) count-wholes.Post Inv-loop μ-loop
+count-wholes-loop-again t c =
+    let l = c .before .before .loop in
     let a = c .before .before .before .before .args in
-    c .count-wholes .ensures ∙ sym (wholes-absent (keptOf (a .store .now)) (a .k) (a .t3) (a .left) (c .before .before .if1 .left) (a .found) (c .before .if2 .taken))
+    let z = c .before .loop-test .taken in
+    let e = solid-absent (keptOf (a .store .now)) (a .k) (l .rest) (l .i) z (c .if1 .taken) in
+    (omega (arith, l .inv .0), l .inv .1, omega (arith, e, l .inv .2), sym (wholes-absent (keptOf (a .store .now)) (a .k) (l .rest) (l .i) z (l .sum) (c .if1 .taken)) ∙ l .inv .3)
 
-count-wholes-count-whole-requires : (t : ℕ) → count-wholes-lts.Need-count-whole-requires (count-wholes-known t) (count-wholes-at t) count-wholes.Post
+count-wholes-count-whole-requires : (t : ℕ) → count-wholes-lts.Need-count-whole-requires (count-wholes-known t) (count-wholes-at t) count-wholes.Post Inv-loop μ-loop
 count-wholes-count-whole-requires t c κs =
-    let b = c .before .before .before .before in
+    let l = c .before .before .before .loop in
+    let b = c .before .before .before .before .before in
     let a = b .args in
-    let l = last-kept (a .store .now) (a .k) (a .t3) (a .left) (b .pre .1 .1 .0 .0) (c .before .before .if1 .left) (b .pre .1 .1 .0 .1) (b .pre .1 .1 .0 .2) (c .before .if2 .left) in
-    (omega arith, (b .pre .1 .0, (b .pre .1 .1 .0 .0, omega (arith, c .cell-number .ensures, l))))
+    let n = last-kept (a .store .now) (a .k) (l .rest) (l .i) (b .pre .1 .1 .0 .0) (c .before .before .loop-test .taken) (l .inv .0) (l .inv .1) (c .before .if1 .left) in
+    (omega arith, (b .pre .1 .0, (b .pre .1 .1 .0 .0, omega (arith, c .cell-number .ensures, n))))
 
-count-wholes-mul-count-wholes : (t : ℕ) → count-wholes-lts.Need-mul-count-wholes (count-wholes-known t) (count-wholes-at t) count-wholes.Post
-count-wholes-mul-count-wholes t c = omega (arith, fits t c)
-
-count-wholes-add-count-wholes : (t : ℕ) → count-wholes-lts.Need-add-count-wholes (count-wholes-known t) (count-wholes-at t) count-wholes.Post
-count-wholes-add-count-wholes t c = omega (arith, fits t c)
-
-count-wholes-count-wholes-requires-2 : (t : ℕ) → count-wholes-lts.Need-count-wholes-requires-2 (count-wholes-known t) (count-wholes-at t) count-wholes.Post
-count-wholes-count-wholes-requires-2 t c κs =
-    let b = c .before .before .before .before .before .before .before .before .before .before in
-    let a = b .args in (
-      omega arith,
-      (
-        b .pre .1 .0,
-        (
-          (b .pre .1 .1 .0 .0, omega arith, without-bad (keptCount (a .store .now) (a .k)) (c .before .before .before .before .before .before .cell-number .result) (a .t3) (c .without .result) (b .pre .1 .1 .0 .2) (c .without .ensures)),
-          omega (arith, fits t c),
-        ),
-      ),
-    )
-
-count-wholes-returns-3 : (t : ℕ) → count-wholes-lts.Need-returns-3 (count-wholes-known t) (count-wholes-at t) count-wholes.Post
-count-wholes-returns-3 t c =
-    let b = c .before .before .before .before .before .before .before in
+count-wholes-returns : (t : ℕ) → count-wholes-lts.Need-returns (count-wholes-known t) (count-wholes-at t) count-wholes.Post Inv-loop μ-loop
+count-wholes-returns t c =
+    let l = c .before .before .before .before .before .before .loop in
+    let b = c .before .before .before .before .before .before .before .before in
     let a = b .args in
     sym
-    (child-damaged (a .store .now) (a .k) (a .t3) (a .left) (b .pre .1 .1 .0 .0) (c .before .before .before .before .before .if1 .left) (b .pre .1 .1 .0 .1) (b .pre .1 .1 .0 .2) (a .found) (c .before .before .before .cell-number .result)
-    (c .before .before .before .before .if2 .left) (c .before .before .before .cell-number .ensures) (sym (c .before .before .count-whole .ensures) ∙ c .enum-told .given .1))
+    (child-damaged (a .store .now) (a .k) (l .rest) (l .i) (b .pre .1 .1 .0 .0) (c .before .before .before .before .before .loop-test .taken) (l .inv .0) (l .inv .1) (l .sum) (c .before .before .before .cell-number .result)
+    (c .before .before .before .before .if1 .left) (c .before .before .before .cell-number .ensures) (sym (c .before .before .count-whole .ensures) ∙ c .enum-told .given .1))
+    ∙ l .inv .3
 
-count-wholes-returns-4 : (t : ℕ) → count-wholes-lts.Need-returns-4 (count-wholes-known t) (count-wholes-at t) count-wholes.Post
-count-wholes-returns-4 t c =
+-- the children that name one cell
+count-wholes-loop-again-2 : (t : ℕ) → count-wholes-lts.Need-loop-again-2 (count-wholes-known t) (count-wholes-at t) count-wholes.Post Inv-loop μ-loop
+count-wholes-loop-again-2 t c =
+    let l = c .before .before .before .before .before .before .before .before .before .loop in
     let b = c .before .before .before .before .before .before .before .before .before .before .before in
-    let a = b .args in
-    c .count-wholes2 .ensures
-    ∙ counted-tally (a .store .now) (a .k) (a .t3) (a .left) (b .pre .1 .1 .0 .0) (c .before .before .before .before .before .before .before .before .before .if1 .left) (b .pre .1 .1 .0 .1) (b .pre .1 .1 .0 .2) (c .before .before .before .before .before .before .before .cell-number .result) (c .before .before .before .before .n .given .0 .0)
-    (c .before .before .times-named .result) (c .before .without .result) (c .before .before .before .before .before .before .before .before .if2 .left) (c .before .before .before .before .before .before .before .cell-number .ensures) (sym (c .before .before .before .before .before .before .count-whole .ensures) ∙ c .before .before .before .before .n .given .1)
-    (c .before .before .times-named .ensures) (c .before .without .ensures) (a .found)
+    let a = b .args in (
+      omega (arith, l .inv .0),
+      without-bad (keptCount (a .store .now) (a .k)) (c .before .before .before .before .before .before .cell-number .result) (l .rest) (c .without .result) (l .inv .1) (c .without .ensures),
+      omega (arith, fits t c),
+      counted-tally (a .store .now) (a .k) (l .rest) (l .i) (b .pre .1 .1 .0 .0) (c .before .before .before .before .before .before .before .before .loop-test .taken) (l .inv .0) (l .inv .1) (c .before .before .before .before .before .before .cell-number .result) (c .before .before .before .n .given .0 .0)
+          (c .before .times-named .result) (c .without .result) (c .before .before .before .before .before .before .before .if1 .left) (c .before .before .before .before .before .before .cell-number .ensures) (sym (c .before .before .before .before .before .count-whole .ensures) ∙ c .before .before .before .n .given .1)
+          (times-is t c) (c .without .ensures) (l .sum) ∙ l .inv .3,
+    )
+
+count-wholes-returns-2 : (t : ℕ) → count-wholes-lts.Need-returns-2 (count-wholes-known t) (count-wholes-at t) count-wholes.Post Inv-loop μ-loop
+count-wholes-returns-2 t c =
+    let l = c .before .loop in
+    let a = c .before .before .before .args in
+    sym (wholes-none (keptOf (a .store .now)) (a .k) (l .rest) (l .i) (l .sum) (c .loop-test .left)) ∙ l .inv .3
 
 pub +count-whole+count-wholes-spec : {M : Type 1} → statement M
 +count-whole+count-wholes-spec =
@@ -177,23 +187,25 @@ pub +count-whole+count-wholes-spec : {M : Type 1} → statement M
     (count-whole-count-wholes-requires t)
     (count-whole-returns-3 t))
     (λ t. count-wholes-lts.spec (count-wholes-known t) (count-wholes-at t) count-wholes.Post
-    (count-wholes-returns t)
+    Inv-loop
+    μ-loop
+    (count-wholes-loop-holds t)
     (λ c. search needs)
     (λ c. search needs)
     (λ c. search needs)
     (λ c. search needs)
     (λ c. search needs)
-    (count-wholes-count-wholes-requires t)
-    (count-wholes-returns-2 t)
+    (count-wholes-loop-again t)
     (λ c κs. search needs)
     (count-wholes-count-whole-requires t)
     (λ c. search needs)
     (λ c. search needs)
-    (λ c κs. search needs)
-    (λ c κs. search needs)
+    (count-wholes-returns t)
     (λ c. search needs)
-    (count-wholes-mul-count-wholes t)
-    (count-wholes-add-count-wholes t)
-    (count-wholes-count-wholes-requires-2 t)
-    (count-wholes-returns-3 t)
-    (count-wholes-returns-4 t))
+    (λ c κs. search needs)
+    (λ c κs. search needs)
+    (λ c. omega (arith, fits t c))
+    (λ c. omega (arith, fits t c))
+    (λ c. search needs)
+    (count-wholes-loop-again-2 t)
+    (count-wholes-returns-2 t))
