@@ -4,5 +4,5 @@ pub mod Header
 pub mod Records
 pub mod Seen
 pub mod Steps
-pub mod Parts
+pub mod Lists
 pub mod Ways

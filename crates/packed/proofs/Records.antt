@@ -1,19 +1,20 @@
 -- One record read by its header: the code of child i, the half-words before its pointer, the pointer itself, and the ways through the tests.
 -- By taking one child's two bits off the header at a time. Assumes nothing.
 use mathlib.Core.Path.{_≡_, refl, sym, _∙_, ap, ap₂, subst}
-use mathlib.Core.Bool.{Bool, true, false, not, _&&_, and-false}
+use mathlib.Core.Bool.{Bool, true, false, false≢true, cond, not, _&&_, _||_, and-false}
 use mathlib.Core.List.{List}
 use Prim.Native.Nat.{ℕ, zero, suc, _+_, _-_, _*_, _/_, _%_, _^_, _≤_, _<_}
 use native.Mathlib.Nat.{le-of-suc-le-suc, not-suc-le-zero, pow-succ', div-div-eq-div-mul, div-one}
 use native.Mathlib.Omega.{arith}
 use borrow.Author.Tests.{lt-ltb, le-ltb, le-leb, lt-leb, eq-eqb, ne-eqb, eqb-true, eqb-false}
-use lib.Dec.{T, eqb, leb, ltb, eqb→eq, leb→le}
+use lib.Bits.{bitAnd, and-zero-r, and-shr, and-mod}
+use lib.Dec.{T, eqb, leb, ltb, eqb→eq, leb→le, eqb·suc-zero}
 use lib.ListN.{length, drop, getD, drop-of-length-le}
 use lib.Seq.{drop-drop}
-use Rattle.paper.specs.Numbers.{be, num}
+use Rattle.paper.specs.Numbers.{be, num, bitFor}
 use Rattle.paper.specs.Store.{leafNo}
 use Rattle.paper.specs.Packed.{Link, linkOf, noLink, headerAt, halves, codesOk, readLinks, linksAt, recordOk, leafAt, farthestShort}
-use Rattle.laws.proofs.Tests.{and-left, and-right, all-at}
+use Rattle.laws.proofs.Tests.{and-left, and-right, all-at, all-at2}
 use Rattle.packed.specs.Records.{codeAt, takenOk}
 use Rattle.packed.proofs.Reading.{ltb-not}
 
@@ -48,10 +49,6 @@ halves-room zero h i l = absurd (not-suc-le-zero l)
 halves-room (suc n) h zero l = omega (arith, halves-one n (h / 4), div-one h)
 halves-room (suc n) h (suc i) l = omega (arith, halves-room n (h / 4) i (le-of-suc-le-suc l), code-suc i h)
 
-pub codes-none : (h : ℕ) → codesOk 0 h ≡ true
-unfolding codesOk
-codes-none h = refl
-
 pub codes-three : (n h : ℕ) → 0 < n → h % 4 ≡ 3 → codesOk n h ≡ false
 unfolding codesOk
 codes-three zero h l e = absurd (not-suc-le-zero l)
@@ -75,6 +72,61 @@ codes-at (suc n) h i l t e = go (eqb (h % 4) 3) refl i l e (codes-at n (h / 4))
         ih i (le-of-suc-le-suc l)
         (subst T (codes-less (suc n) h (omega arith) (eqb-false (h % 4) 3 q) ∙ ap (λ (m : ℕ). codesOk m (h / 4)) n1) t)
         (sym (code-suc i h) ∙ e)
+
+-- the low bits of n codes
+abbrev pub lowBits : ℕ → ℕ
+lowBits zero = 0
+lowBits (suc n) = let r = lowBits n in r * 4 + 1
+
+-- a code with both bits set, and the bit above, as code finds it: 1 exactly where the code is 3
+both-bits : (h : ℕ) → bitAnd (bitAnd (h % 4) (h / 2 % 4)) 1 ≡ bitFor (eqb (h % 4) 3)
+both-bits h =
+    let next : h / 2 % 4 % 2 ≡ h % 4 / 2 = omega arith in
+    let test : ℕ → ℕ → Bool = λ c e. not (eqb (e % 2) (c / 2)) || eqb (bitAnd (bitAnd c e) 1) (bitFor (eqb c 3)) in
+    let t : T (not (eqb (h / 2 % 4 % 2) (h % 4 / 2)) || eqb (bitAnd (bitAnd (h % 4) (h / 2 % 4)) 1) (bitFor (eqb (h % 4) 3))) = all-at2 4 4 test tt (h % 4) (h / 2 % 4) (omega arith) (omega arith) in
+    eqb→eq (bitAnd (bitAnd (h % 4) (h / 2 % 4)) 1) (bitFor (eqb (h % 4) 3)) (rw (eq-eqb (h / 2 % 4 % 2) (h % 4 / 2) next) at t)
+
+-- both bits of a code, for the lowest n codes at once
+threes : ℕ → ℕ → ℕ
+threes n h = bitAnd (bitAnd h (h / 2)) (lowBits n)
+
+threes-less : (n h : ℕ) → threes (suc n) h ≡ threes n (h / 4) * 4 + bitFor (eqb (h % 4) 3)
+unfolding threes
+threes-less n h =
+    let x : ℕ = bitAnd (bitAnd h (h / 2)) (lowBits n * 4 + 1) in
+    let swap : h / 2 / 4 ≡ h / 4 / 2 = omega arith in
+    let above : (lowBits n * 4 + 1) / 4 ≡ lowBits n = omega arith in
+    let lowest : (lowBits n * 4 + 1) % 4 ≡ 1 = omega arith in
+    let high : x / 4 ≡ bitAnd (bitAnd (h / 4) (h / 4 / 2)) (lowBits n) =
+    and-shr (bitAnd h (h / 2)) (lowBits n * 4 + 1) 2 ∙ ap₂ bitAnd (and-shr h (h / 2) 2 ∙ ap (bitAnd (h / 4)) swap) above in
+    let low : x % 4 ≡ bitFor (eqb (h % 4) 3) =
+    and-mod (bitAnd h (h / 2)) (lowBits n * 4 + 1) 2 ∙ ap₂ bitAnd (and-mod h (h / 2) 2) lowest ∙ both-bits h in
+    omega (arith, high, low)
+
+pub codes-bits : (n h : ℕ) → eqb (bitAnd (bitAnd h (h / 2)) (lowBits n)) 0 ≡ codesOk n h
+unfolding codesOk threes
+codes-bits zero h = rw (and-zero-r (bitAnd h (h / 2))) refl
+codes-bits (suc n) h = go (eqb (h % 4) 3) refl (codes-bits n (h / 4))
+  where
+    go : (b : Bool) → eqb (h % 4) 3 ≡ b → eqb (threes n (h / 4)) 0 ≡ codesOk n (h / 4) → eqb (threes (suc n) h) 0 ≡ cond b false (codesOk n (h / 4))
+    go true q ih = let e : threes (suc n) h ≡ threes n (h / 4) * 4 + 1 = threes-less n h ∙ ap (λ (b : Bool). threes n (h / 4) * 4 + bitFor b) q in ne-eqb (threes (suc n) h) 0 (λ z. omega (arith, e, z))
+    go false q ih =
+        let e : threes (suc n) h ≡ threes n (h / 4) * 4 + 0 = threes-less n h ∙ ap (λ (b : Bool). threes n (h / 4) * 4 + bitFor b) q in
+        same-zero (threes (suc n) h) (threes n (h / 4)) e ∙ ih
+      where
+        same-zero : (x y : ℕ) → x ≡ y * 4 + 0 → eqb x 0 ≡ eqb y 0
+        same-zero x zero e = eq-eqb x 0 (omega (arith, e))
+        same-zero x (suc y) e = ne-eqb x 0 (λ z. omega (arith, e, z)) ∙ sym (eqb·suc-zero y)
+
+-- no code is more than 2
+pub halves-most : (n h : ℕ) → codesOk n h ≡ true → halves n h ≤ 1 + 2 * n
+unfolding halves codesOk
+halves-most zero h t = omega arith
+halves-most (suc n) h t = go (eqb (h % 4) 3) refl t (halves-most n (h / 4))
+  where
+    go : (b : Bool) → eqb (h % 4) 3 ≡ b → cond b false (codesOk n (h / 4)) ≡ true → (codesOk n (h / 4) ≡ true → halves n (h / 4) ≤ 1 + 2 * n) → h % 4 + halves n (h / 4) ≤ 1 + 2 * suc n
+    go true q e ih = absurd (false≢true e)
+    go false q e ih = omega (arith, ih e, eqb-false (h % 4) 3 q)
 
 -- ---- the pointer of child i
 
@@ -128,6 +180,12 @@ module _ (l : List ℕ) (p : ℕ) where
   pub record-code : codesOk 8 (headerAt l p) ≡ false → true ≡ not (recordOk l p)
   unfolding recordOk
   record-code e = rw (e, and-false (ltb 0 (headerAt l p))) refl
+
+  pub record-roomy : (headerAt l p ≡ 0 → ⊥) → codesOk 8 (headerAt l p) ≡ true → 2 * p + 34 ≤ length l → false ≡ not (recordOk l p)
+  unfolding recordOk
+  record-roomy n e m =
+      let w : 2 * (p + halves 8 (headerAt l p)) ≤ length l = omega (arith, halves-most 8 (headerAt l p) e) in
+      rw (lt-ltb 0 (headerAt l p) (omega (arith, n)), e, le-leb (2 * (p + halves 8 (headerAt l p))) (length l) w) refl
 
   pub record-room : (headerAt l p ≡ 0 → ⊥) → codesOk 8 (headerAt l p) ≡ true → ltb (length l) (2 * p + 2 * halves 8 (headerAt l p)) ≡ not (recordOk l p)
   unfolding recordOk

@@ -3,13 +3,13 @@
 use mathlib.Core.Path.{_≡_, refl, sym, _∙_, ap, ap₂}
 use mathlib.Core.Bool.{Bool, true, false, cond}
 use mathlib.Core.List.{List}
-use Prim.Native.Nat.{ℕ, zero, suc, _+_, _-_, _/_, _<_, _≤_}
+use Prim.Native.Nat.{ℕ, zero, suc, _+_, _-_, _<_}
 use native.Mathlib.Nat.{not-suc-le-zero, add-assoc, zero-add}
 use native.Mathlib.Omega.{arith}
 use borrow.Author.Tests.{eq-eqb, ne-eqb, lt-ltb}
 use lib.Bits.{bitXor}
 use lib.Dec.{eqb}
-use lib.ListN.{length, take, drop, getD}
+use lib.ListN.{getD}
 use Rattle.paper.specs.Rooms.{Point, mirror}
 use Rattle.paper.specs.Leaf.{leafVoxel}
 use Rattle.paper.specs.Outline.{edge}
@@ -18,7 +18,7 @@ use Rattle.paper.specs.Packed.{Link, noLink, linksAt, leafAt, recordOk, leafOk}
 use Rattle.packed.specs.declared.Reached.{Reached}
 use Rattle.packed.specs.declared.Reached.the-variants.{Broken, Solid, Empty}
 use Rattle.packed.specs.Records.{takenOk}
-use Rattle.packed.specs.Walk.{ends, plus, if-ok, seenAt, octant, leafEnd, wayAt, startOf, listIn, sizeIn, Cut}
+use Rattle.packed.specs.Walk.{ends, plus, if-ok, seenAt, octant, leafEnd, wayAt}
 use Rattle.packed.proofs.Seen.{child-seen, in-seen, tag-seen}
 
 pub plus-one : (n : ℕ) (r : Reached) → plus (n + 1) r ≡ plus n (plus 1 r)
@@ -48,7 +48,7 @@ module _ (l : List ℕ) (p n : ℕ) (w : Point) where
 
 -- ---- one step of the walk
 
-less-one : (j : ℕ) → suc j - 1 ≡ j
+pub less-one : (j : ℕ) → suc j - 1 ≡ j
 less-one j = omega arith
 
 module _ (L : ℕ → List ℕ) (N : ℕ → ℕ) (p m : ℕ) (v : Point) (hm : m < 8) where
@@ -78,7 +78,7 @@ module _ (L : ℕ → List ℕ) (N : ℕ → ℕ) (p m : ℕ) (v : Point) (hm : 
   broken-at zero w h e = absurd (not-suc-le-zero h)
   broken-at (suc j) w h e = rw e refl
 
-  -- ---- the ways through `down`, n records being read before
+  -- ---- the ways through a turn of the walk, n records being read before
 
   module _ (n k : ℕ) (h : 0 < k) where
     pub way-broken : recordOk (L k) p ≡ false → Broken ≡ plus n (wayAt L N k p (seenAt k m v))
@@ -105,35 +105,8 @@ module _ (L : ℕ → List ℕ) (N : ℕ → ℕ) (p m : ℕ) (v : Point) (hm : 
           let e : on (k - 1) q ≡ plus 1 r = rw (ne-eqb (q .code) 0 c, t) refl in
           plus-one n r ∙ sym (ap (plus n) (on-is ∙ e))
 
--- ---- lists and sizes of the two parts
+-- ---- at the leaves
 
 pub leaves-end : (L : ℕ → List ℕ) (N : ℕ → ℕ) (k p : ℕ) (m : ℕ) (v : Point) → k ≡ 0 → leafEnd (L 0) p (seenAt 0 m v) ≡ wayAt L N k p (seenAt k m v)
 unfolding wayAt
 leaves-end L N k p m v e = rw e refl
-
-pub list-inner : (starts inner leaves : List ℕ) (k : ℕ) → 0 < k
-    → take (startOf starts (k - 1) - startOf starts k) (drop (startOf starts k) inner) ≡ listIn starts inner leaves k
-list-inner starts inner leaves zero h = absurd (not-suc-le-zero h)
-list-inner starts inner leaves (suc j) h = rw (less-one j) refl
-
-pub size-leaves : (starts leaves : List ℕ) (k : ℕ) → k ≡ 0 → length leaves / 8 ≡ sizeIn starts leaves k
-size-leaves starts leaves k e = rw e refl
-
-pub size-inner : (starts leaves : List ℕ) (k : ℕ) → (k ≡ 0 → ⊥) → (startOf starts (k - 1) - startOf starts k) / 2 ≡ sizeIn starts leaves k
-size-inner starts leaves zero n = absurd (n refl)
-size-inner starts leaves (suc j) n = rw (less-one j) refl
-
--- ---- what the parts hold
-
-module _ {starts inner leaves : List ℕ} where
-  pub cut-less : (k : ℕ) → Cut k starts inner leaves → Cut (k - 1) starts inner leaves
-  cut-less k c = record { falling = λ j l. c .falling j (omega arith); whole = c .whole; eights = c .eights; few = c .few }
-
-  -- a list starts no later than the one after it, and all of them before the leaves
-  pub cut-falls : (k : ℕ) → Cut k starts inner leaves → startOf starts k ≤ startOf starts (k - 1)
-  cut-falls zero c = omega arith
-  cut-falls (suc j) c = rw (less-one j) (c .falling j (omega arith))
-
-  pub cut-in : (k j : ℕ) → Cut k starts inner leaves → j ≤ k → startOf starts j ≤ length inner
-  cut-in k zero c l = c .whole
-  cut-in k (suc j) c l = omega (arith, c .falling j l, cut-in k j c (omega arith))

@@ -1,11 +1,10 @@
--- The packed walk as code does it: over the inner part and the leaf part, by numbers. It reads no coordinate anew: a voxel is seen under the
+-- The packed walk as code does it: over the lists, by numbers. It reads no coordinate anew: a voxel is seen under the
 -- mirror in force, and each link's tag joins that mirror. Definitions only.
-use mathlib.Core.Path.{_≡_}
 use mathlib.Core.Bool.{Bool, true, false, cond}
-use mathlib.Core.List.{List, map}
-use Prim.Native.Nat.{ℕ, zero, suc, _+_, _-_, _*_, _/_, _%_, _^_, _≤_, _<_}
+use mathlib.Core.List.{List}
+use Prim.Native.Nat.{ℕ, zero, suc, _+_, _*_, _/_, _%_}
 use lib.Dec.{eqb}
-use lib.ListN.{length, take, drop, getD}
+use lib.ListN.{length, getD}
 use Rattle.paper.specs.Rooms.{Point, mirror, childNo, inChild}
 use Rattle.paper.specs.Leaf.{leafVoxel}
 use Rattle.paper.specs.Outline.{edge}
@@ -55,27 +54,3 @@ wayAt L N (suc k) p w =
     let on : Reached = plus 1 (wayAt L N k (q .place) (mirror (q .tag) (edge k) (inChild (edge k) w))) in
     let to : Reached = if-ok (takenOk (N k) q) on in
     if-ok (recordOk (L (suc k)) p) (cond (eqb (q .code) 0) (Empty 1) to)
-
--- ---- the lists cut from the two parts; `starts` counts from the inner part's first byte
-
-abbrev pub startOf : List ℕ → ℕ → ℕ
-startOf starts k = getD starts k 0
-
--- starts counted from a base, 0 where one lies before that
-abbrev pub within : ℕ → List ℕ → List ℕ
-within base starts = map (λ s. s - base) starts
-
-abbrev pub listIn : List ℕ → List ℕ → List ℕ → ℕ → List ℕ
-listIn starts inner leaves zero = leaves
-listIn starts inner leaves (suc k) = take (startOf starts k - startOf starts (suc k)) (drop (startOf starts (suc k)) inner)
-
-abbrev pub sizeIn : List ℕ → List ℕ → ℕ → ℕ
-sizeIn starts leaves zero = length leaves / 8
-sizeIn starts leaves (suc k) = (startOf starts k - startOf starts (suc k)) / 2
-
--- the parts hold the lists up to list n
-pub record Cut (n : ℕ) (starts inner leaves : List ℕ) : Type 0 where
-  pub falling : (k : ℕ) → k < n → startOf starts (suc k) ≤ startOf starts k
-  pub whole : startOf starts 0 ≤ length inner
-  pub eights : length leaves % 8 ≡ 0
-  pub few : length leaves < 2 ^ 32

@@ -1,5 +1,4 @@
-// Packed bytes read: the header and its sizes, one record, and the walk of a packed voxel question, over the inner part and
-// the leaf part as two slices.
+// Packed bytes read: the header and its sizes, one record, and the walk of a packed voxel question.
 ghost use mathlib.Core.Path.{_≡_};
 ghost use mathlib.Core.Bool.{false, not};
 ghost use mathlib.Core.List.{[]};
@@ -10,12 +9,12 @@ ghost use Rattle.paper.specs.Numbers.{num};
 ghost use Rattle.paper.specs.Rooms.{point, flip};
 ghost use Rattle.paper.specs.Leaf.{leafVoxel};
 ghost use Rattle.paper.specs.Store.{leafNo};
-ghost use Rattle.paper.specs.Packed.{topOf, sizeAt, headOk, startsOf, halves, codesOk, recordOk, linksAt, noLink, leafAt, wayIn};
+ghost use Rattle.paper.specs.Packed.{emptyMark, rootTag, topOf, sizeAt, listAt, headOk, startsOf, halves, codesOk, recordOk, linksAt, noLink, leafAt, wayIn};
 ghost use Rattle.paper.specs.Answers.{outcome, found};
 ghost use Rattle.paper.specs.Calls.{packedOutside, packedVoxelOutcome};
 ghost use Rattle.packed.specs.Header.{Tested, Sized, Opens, shareAt, lastLists};
 ghost use Rattle.packed.specs.Records.{linkIs, takenOk};
-ghost use Rattle.packed.specs.Walk.{reached, plus, leafEnd, seenAt, octant, wayAt, startOf, within, listIn, sizeIn, Cut};
+ghost use Rattle.packed.specs.Walk.{reached, plus, leafEnd, seenAt, octant, wayAt};
 use numbers::be32;
 use numbers::wide;
 use outline::depth;
@@ -34,6 +33,12 @@ const EMPTY_MARK: u8 = 8;
 
 // The farthest place of a 2-byte pointer.
 const FARTHEST_SHORT: u32 = 8191;
+
+// The low bit of each of a header's eight codes.
+const LOW_BITS: u32 = 0x5555;
+
+// The bytes of a record of eight 4-byte pointers: no record is longer.
+const LONGEST: usize = 34;
 
 // A child's pointer: its code (0 none, 1 of 2 bytes, 2 of 4), its mirror, and the child's place.
 pub struct Pointer {
@@ -177,20 +182,11 @@ fn halves(n: u32, header: u32) -> u32
     sum
 }
 
-// Whether one of the eight codes is 3.
+// Whether one of the eight codes is 3: both its bits are set.
 fn codes_bad(header: u32) -> bool
     ensures { λ r. ⌜ r ≡ not (codesOk 8 header) ⌝ }
 {
-    let mut rest = header;
-    let mut left = 8u32;
-    while 0 < left {
-        if rest % 4 == 3 {
-            return true;
-        }
-        rest = rest / 4;
-        left -= 1;
-    }
-    false
+    header & (header >> 1) & LOW_BITS != 0
 }
 
 // Whether the record at a place breaks a rule: header zero, a code 3, or no room in its list.
@@ -207,6 +203,9 @@ pub fn record_bad(list: &[u8], place: u32) -> bool
     }
     if codes_bad(header) {
         return true;
+    }
+    if at + LONGEST <= list.len() {
+        return false;
     }
     list.len() < at + 2 * (halves(8, header) as usize)
 }
@@ -313,110 +312,41 @@ fn in_leaf(leaves: &[u8], place: u32, mirror: u32, x: u32, y: u32, z: u32, read:
     Reached::Empty(read + 1)
 }
 
-// A start counted from a base, 0 where it lies before that.
-fn past(start: u32, base: u32) -> u32
-    ensures { λ r. ⌜ r ≡ start - base ⌝ }
+// The walk from the root, list by list: each list starts where the one above it ends.
+fn walk(file: &[u8], x: u32, y: u32, z: u32) -> Reached
+    requires { ⌜ Opens (now file) ⌝ }
+    requires { ⌜ (rootTag (now file) ≡ emptyMark → ⊥) ⌝ }
+    ensures { λ r. ⌜ r ≡ wayAt (listAt (now (file .entry))) (sizeAt (now (file .entry))) (topOf (now (file .entry))) 0 (seenAt (topOf (now (file .entry))) (rootTag (now (file .entry))) (point x y z)) ⌝ }
 {
-    if start < base {
-        return 0;
+    let top = wide(file[5]) - 2;
+    let mut k = top;
+    let mut start = HEAD + 4 * ((top + 1) as usize);
+    let mut place = 0u32;
+    let mut mirror = wide(file[6]);
+    while 0 < k {
+        let end = start + 2 * (size(file, k) as usize);
+        let list = &file[start..end];
+        if record_bad(list, place) {
+            return Reached::Broken;
+        }
+        let taken = pointer_at(list, place, octant(k + 1, x, y, z) ^ mirror);
+        if taken.code == 0 {
+            return Reached::Empty(top - k + 1);
+        }
+        if taken_bad(size(file, k - 1), taken) {
+            return Reached::Broken;
+        }
+        place = taken.place;
+        mirror = taken.tag ^ mirror;
+        start = end;
+        k -= 1;
     }
-    start - base
+    let leaves = &file[start..];
+    in_leaf(leaves, place, mirror, x, y, z, top)
 }
 
-// The list starts counted from a base, the inner part's start.
-fn within(base: u32, starts: [u32; 15]) -> [u32; 15]
-    ensures { λ r. ⌜ r ≡ within base starts ⌝ }
-{
-    let mut out = [0u32; 15];
-    let mut k = 0usize;
-    while k < 15 {
-        out[k] = past(starts[k], base);
-        k += 1;
-    }
-    out
-}
-
-// The size of list k, by the list starts and the leaf part.
-fn size_in(starts: [u32; 15], leaves: &[u8], k: u32) -> u32
-    requires { ⌜ k < 15 ⌝ }
-    requires { ⌜ length (now leaves) < 2 ^ 32 ⌝ }
-    requires { ⌜ startOf starts k ≤ startOf starts (k - 1) ⌝ }
-    ensures { λ r. ⌜ r ≡ sizeIn starts (now (leaves .entry)) k ⌝ }
-{
-    if k == 0 {
-        return (leaves.len() / 8) as u32;
-    }
-    (starts[(k - 1) as usize] - starts[k as usize]) / 2
-}
-
-// The walk on from the record at a place of list k, under the mirror in force, after `read` records.
-fn down(
-    inner: &[u8],
-    leaves: &[u8],
-    starts: [u32; 15],
-    k: u32,
-    place: u32,
-    mirror: u32,
-    x: u32,
-    y: u32,
-    z: u32,
-    read: u32,
-) -> Reached
-    requires { ⌜ Cut k starts (now inner) (now leaves) ⌝ }
-    requires { ⌜ (k < 15) × (mirror < 8) × (read + k < 16) ⌝ }
-    ensures { λ r. ⌜ r ≡ plus read (wayAt (listIn starts (now (inner .entry)) (now (leaves .entry))) (sizeIn starts (now (leaves .entry))) k place (seenAt k mirror (point x y z))) ⌝ }
-{
-    if k == 0 {
-        return in_leaf(leaves, place, mirror, x, y, z, read);
-    }
-    let a = starts[k as usize] as usize;
-    let b = starts[(k - 1) as usize] as usize;
-    let list = &inner[a..b];
-    if record_bad(list, place) {
-        return Reached::Broken;
-    }
-    let taken = pointer_at(list, place, octant(k + 1, x, y, z) ^ mirror);
-    if taken.code == 0 {
-        return Reached::Empty(read + 1);
-    }
-    if taken_bad(size_in(starts, leaves, k - 1), taken) {
-        return Reached::Broken;
-    }
-    down(
-        inner,
-        leaves,
-        starts,
-        k - 1,
-        taken.place,
-        taken.tag ^ mirror,
-        x,
-        y,
-        z,
-        read + 1,
-    )
-}
-
-// The walk from the root: over the inner part and the leaf part of a file of this depth, with its root's mirror and where its
-// lists start within the inner part.
-pub fn walk(
-    depth: u32,
-    mirror: u32,
-    starts: [u32; 15],
-    inner: &[u8],
-    leaves: &[u8],
-    x: u32,
-    y: u32,
-    z: u32,
-) -> Reached
-    requires { ⌜ (2 ≤ depth) × (depth ≤ 16) × (mirror < 8) ⌝ }
-    requires { ⌜ Cut (depth - 2) starts (now inner) (now leaves) ⌝ }
-    ensures { λ r. ⌜ r ≡ wayAt (listIn starts (now (inner .entry)) (now (leaves .entry))) (sizeIn starts (now (leaves .entry))) (depth - 2) 0 (seenAt (depth - 2) mirror (point x y z)) ⌝ }
-{
-    down(inner, leaves, starts, depth - 2, 0, mirror, x, y, z, 0)
-}
-
-// The walk to a point inside, over the two parts cut from the file; an empty scene reads nothing.
-pub fn way_in(file: &[u8], x: u32, y: u32, z: u32) -> Reached
+// The walk to a point inside; an empty scene reads nothing.
+fn way_in(file: &[u8], x: u32, y: u32, z: u32) -> Reached
     requires { ⌜ Opens (now file) ⌝ }
     requires { ⌜ packedOutside (now file) (point x y z) ≡ false ⌝ }
     ensures { λ r. ⌜ r ≡ reached (wayIn (now (file .entry)) (point x y z)) ⌝ }
@@ -424,16 +354,7 @@ pub fn way_in(file: &[u8], x: u32, y: u32, z: u32) -> Reached
     if file[6] == EMPTY_MARK {
         return Reached::Empty(0);
     }
-    let depth = wide(file[5]);
-    let mirror = wide(file[6]);
-    let begins = starts(file);
-    let base = begins[(depth - 2) as usize];
-    let a = base as usize;
-    let b = begins[0] as usize;
-    let inner = &file[a..b];
-    let leaves = &file[b..];
-    let lists = within(base, begins);
-    walk(depth, mirror, lists, inner, leaves, x, y, z)
+    walk(file, x, y, z)
 }
 
 // Packed voxel: whether a point is solid, with the number of records read; refused by 3, 4, 5, 10, 6.

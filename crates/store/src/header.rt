@@ -53,19 +53,18 @@ pub fn size_bad(capacity: u32, words: usize) -> bool
     words < used_words(capacity)
 }
 
-// Whether a list's count is above the capacity.
+// Whether a list's count is above the capacity. Here and below no early exit: so it compiles to vector instructions.
 fn counts_bad(store: &[u32]) -> bool
     requires { ⌜ scenePlace mostScenes ≤ length (now store) ⌝ }
     ensures { λ r. ⌜ r ≡ not (allBelow heights (λ k. leb (keptCount (now (store .entry)) k) (capacityOf (now (store .entry))))) ⌝ }
 {
-    let mut k = HEIGHTS;
-    while k != 0 {
-        k -= 1;
-        if store[0] < store[(FIRST_COUNT + k) as usize] {
-            return true;
-        }
+    let mut bad = false;
+    let mut k = 0u32;
+    while k < HEIGHTS {
+        bad = bad | (store[0] < store[(FIRST_COUNT + k) as usize]);
+        k += 1;
     }
-    false
+    bad
 }
 
 // Whether one of n words from `at` on is not zero.
@@ -74,14 +73,13 @@ pub fn not_blank(store: &[u32], at: usize, n: usize) -> bool
     ensures { λ r. ⌜ r ≡ not (blank (now (store .entry)) at n) ⌝ }
 {
     let end = at + n;
+    let mut bad = false;
     let mut i = at;
     while i < end {
-        if store[i] != 0 {
-            return true;
-        }
+        bad = bad | (store[i] != 0);
         i += 1;
     }
-    false
+    bad
 }
 
 // Whether the header is damaged: words 0 to 31 out of range, or the slice too short.

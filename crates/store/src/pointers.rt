@@ -51,18 +51,18 @@ pub fn bad_pointer(count: u32, p: u32) -> bool
     count < low
 }
 
-// Whether one of a cell's eight pointers is bad.
+// Whether one of a cell's eight pointers is bad. All eight are tested, with no early exit: so it compiles to vector
+// instructions, and a walk tests eight pointers about as fast as it takes one.
 pub fn any_bad(count: u32, cell: [u32; 8]) -> bool
     ensures { λ r. ⌜ r ≡ anyBad count cell ⌝ }
 {
-    let mut i = CHILDREN;
-    while i != 0 {
-        i -= 1;
-        if bad_pointer(count, cell[i]) {
-            return true;
-        }
+    let mut bad = false;
+    let mut i = 0usize;
+    while i < CHILDREN {
+        bad = bad | bad_pointer(count, cell[i]);
+        i += 1;
     }
-    false
+    bad
 }
 
 // Whether none of a cell's eight children is there.

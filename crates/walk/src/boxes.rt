@@ -9,7 +9,7 @@ ghost use Rattle.paper.specs.Rooms.{inBox, mirrored, boxCount};
 ghost use Rattle.paper.specs.Leaf.{voxelOf, leafVoxel};
 ghost use Rattle.paper.specs.Outline.{edge as edge-of};
 ghost use Rattle.paper.specs.Store.{heights, mostScenes, keptCount, sceneDepth, keptOf, anyBad, headerOk, sceneOk};
-ghost use Rattle.laws.proofs.Boxes.{clip as clip-of, clipped as clipped-of};
+ghost use Rattle.laws.proofs.Boxes.{clip as clip-of, clipped as clipped-of, origin, far};
 ghost use Rattle.walk.specs.Box.{at, hasVoxel, Upto, isWhole, seenBit, leafCount, boxIn, wholeIn, pointerIn, childrenSolid, childrenIn, wholesSolid, wholesIn, mostSolid, names as names-of, timesNamed, Without, sceneBox};
 use store::any_bad;
 use store::bad_pointer;
@@ -179,25 +179,42 @@ fn count_leaf(leaf: u64, mirror: u32, low: Corner, high: Corner) -> u64
     n
 }
 
-// 1 if pointer p names cell `number`, whatever its tag.
-fn names(number: u32, p: u32) -> u64
-    ensures { λ r. ⌜ r ≡ bitFor (names-of number p) ⌝ }
+// A number of voxels as a wider number.
+fn wide(n: u32) -> u64
+    ensures { λ r. ⌜ r ≡ n ⌝ }
 {
-    if p == 0 {
-        return 0;
-    }
-    if cell_number(p) == number { 1 } else { 0 }
+    n as u64
 }
 
-// How many of the first pointers of a cell name cell `number`.
-fn times_named(cell: [u32; 8], left: u32, number: u32) -> u64
-    requires { ⌜ left ≤ 8 ⌝ }
-    ensures { λ r. ⌜ r ≡ timesNamed cell left number ⌝ }
+// The solid voxels of a leaf.
+fn whole_leaf(leaf: u64) -> u64
+    ensures { λ r. ⌜ r ≡ boxCount 4 (mirrored 0 4 (leafVoxel leaf)) origin (far 4) ⌝ }
 {
-    let mut times = 0u64;
-    let mut i = 0u32;
-    while i < left {
-        times += names(number, cell[i as usize]);
+    wide(u64::count_ones(leaf))
+}
+
+// Whether pointer p names cell `number`, whatever its tag.
+fn names(number: u32, p: u32) -> bool
+    ensures { λ r. ⌜ r ≡ names-of number p ⌝ }
+{
+    (p != 0) & (cell_number(p) == number)
+}
+
+// 1 if a test passes.
+fn bit_for(test: bool) -> u32
+    ensures { λ r. ⌜ r ≡ bitFor test ⌝ }
+{
+    if test { 1 } else { 0 }
+}
+
+// How many of the eight pointers of a cell name cell `number`.
+fn times_named(cell: [u32; 8], number: u32) -> u32
+    ensures { λ r. ⌜ r ≡ timesNamed cell 8 number ⌝ }
+{
+    let mut times = 0u32;
+    let mut i = 0usize;
+    while i < 8 {
+        times += bit_for(names(number, cell[i]));
         i += 1;
     }
     times
@@ -207,7 +224,7 @@ fn times_named(cell: [u32; 8], left: u32, number: u32) -> u64
 fn unless_named(number: u32, p: u32) -> u32
     ensures { λ r. ⌜ r ≡ cond (names-of number p) 0 p ⌝ }
 {
-    if names(number, p) == 1 { 0 } else { p }
+    if names(number, p) { 0 } else { p }
 }
 
 // A cell without the pointers that name cell `number`.
@@ -231,44 +248,41 @@ pub fn count_whole(store: &[u32], k: u32, number: u32) -> Tally
     ensures { λ r. ⌜ r ≡ wholeIn (keptOf (now (store .entry))) k number ⌝ }
 {
     if k == 0 {
-        let low = Corner { x: 0, y: 0, z: 0 };
-        let high = Corner {
-            x: LEAF_EDGE,
-            y: LEAF_EDGE,
-            z: LEAF_EDGE,
-        };
-        return Tally::Solid(count_leaf(leaf_at(store, number), 0, low, high));
+        return Tally::Solid(whole_leaf(leaf_at(store, number)));
     }
     let cell = cell_at(store, k, number);
     if any_bad(kept_count(store, k - 1), cell) {
         return Tally::Damaged;
     }
-    count_wholes(store, k - 1, cell, CHILDREN, 0)
+    count_wholes(store, k - 1, cell)
 }
 
-// All voxels of the first children of a cell, of list k, the last first: those that name one cell are counted by entering it
-// once, and go absent.
-fn count_wholes(store: &[u32], k: u32, cell: [u32; 8], left: u32, found: u64) -> Tally
+// All voxels of the children of a cell, of list k, the last first: those that name one cell are counted by entering it once,
+// and go absent.
+fn count_wholes(store: &[u32], k: u32, cell: [u32; 8]) -> Tally
     requires { ⌜ T (headerOk (now store)) ⌝ }
-    requires { ⌜ (k < heights) × (left ≤ 8) × (anyBad (keptCount (now store) k) cell ≡ false) ⌝ }
-    requires { ⌜ found + wholesSolid (keptOf (now store)) k cell left ≤ mostSolid ⌝ }
-    ensures { λ r. ⌜ r ≡ wholesIn (keptOf (now (store .entry))) k cell left found ⌝ }
+    requires { ⌜ (k < heights) × (anyBad (keptCount (now store) k) cell ≡ false) ⌝ }
+    requires { ⌜ wholesSolid (keptOf (now store)) k cell 8 ≤ mostSolid ⌝ }
+    ensures { λ r. ⌜ r ≡ wholesIn (keptOf (now (store .entry))) k cell 8 0 ⌝ }
 {
-    if left == 0 {
-        return Tally::Solid(found);
-    }
-    let p = cell[(left - 1) as usize];
-    if p == 0 {
-        return count_wholes(store, k, cell, left - 1, found);
-    }
-    let number = cell_number(p);
-    match count_whole(store, k, number) {
-        Tally::Damaged => Tally::Damaged,
-        Tally::Solid(n) => {
-            let times = times_named(cell, left, number);
-            count_wholes(store, k, without(cell, number), left - 1, found + times * n)
+    let mut rest = cell;
+    let mut i = CHILDREN;
+    let mut sum = 0u64;
+    while i != 0 {
+        i -= 1;
+        let p = rest[i as usize];
+        if p == 0 {
+            continue;
         }
+        let number = cell_number(p);
+        let Tally::Solid(n) = count_whole(store, k, number) else {
+            return Tally::Damaged;
+        };
+        let times = wide(times_named(rest, number));
+        rest = without(rest, number);
+        sum += times * n;
     }
+    Tally::Solid(sum)
 }
 
 // The solid voxels of a cell of list k, seen under a mirror, in a box.
@@ -320,23 +334,25 @@ fn count_children(
     requires { ⌜ found + childrenSolid (keptOf (now store)) k cell mirror left (at low) (at high) ≤ mostSolid ⌝ }
     ensures { λ r. ⌜ r ≡ childrenIn (keptOf (now (store .entry))) k cell mirror left (at low) (at high) found ⌝ }
 {
-    if left == 0 {
-        return Tally::Solid(found);
-    }
-    let i = left - 1;
     let side = edge(k);
-    let p = cell[(i ^ mirror) as usize];
-    match count_pointer(
-        store,
-        k,
-        p,
-        mirror,
-        clipped(side, i, low),
-        clipped(side, i, high),
-    ) {
-        Tally::Damaged => Tally::Damaged,
-        Tally::Solid(n) => count_children(store, k, cell, mirror, low, high, i, found + n),
+    let mut i = left;
+    let mut sum = found;
+    while i != 0 {
+        i -= 1;
+        let p = cell[(i ^ mirror) as usize];
+        let Tally::Solid(n) = count_pointer(
+            store,
+            k,
+            p,
+            mirror,
+            clipped(side, i, low),
+            clipped(side, i, high),
+        ) else {
+            return Tally::Damaged;
+        };
+        sum += n;
     }
+    Tally::Solid(sum)
 }
 
 // The solid voxels of what a pointer of list k stands for, seen under a mirror, in a box; its tag joins the mirror.

@@ -48,17 +48,21 @@ pub fn walk_to(
     requires { ⌜ mirror < 8 ⌝ }
     ensures { λ r. ⌜ r ≡ reachOf (keptOf (now (store .entry))) stop k number mirror (point x y z) ⌝ }
 {
-    if k <= stop {
-        return Reach::At(number, mirror);
+    let mut list = k;
+    let mut at = number;
+    let mut seen = mirror;
+    while stop < list {
+        let cell = cell_at(store, list, at);
+        if any_bad(kept_count(store, list - 1), cell) {
+            return Reach::Damaged;
+        }
+        let p = cell[(octant(list - 1, x, y, z) ^ seen) as usize];
+        if p == 0 {
+            return Reach::Absent(list - 1);
+        }
+        at = cell_number(p);
+        seen = tag(p) ^ seen;
+        list -= 1;
     }
-    let cell = cell_at(store, k, number);
-    if any_bad(kept_count(store, k - 1), cell) {
-        return Reach::Damaged;
-    }
-    let i = (octant(k - 1, x, y, z) ^ mirror) as usize;
-    let p = cell[i];
-    if p == 0 {
-        return Reach::Absent(k - 1);
-    }
-    walk_to(store, stop, k - 1, cell_number(p), tag(p) ^ mirror, x, y, z)
+    Reach::At(at, seen)
 }

@@ -1,6 +1,7 @@
--- `walk::boxes::count_box`, `count_children` and `count_pointer` meet their contracts, each using the others' one list down or at fewer children: a whole
--- cell by its own count, a leaf by its bits, any other by its children's pointers. By the laws of tallies at the tests passed. Assumes nothing.
-use mathlib.Core.Path.{_≡_, sym, ap, ap₂, _∙_, subst⁻¹}
+-- `walk::boxes::count_box`, `count_children` and `count_pointer` meet their contracts, each using the others' at or below its list: a whole cell by its
+-- own count, a leaf by its bits, any other by its children's pointers. The invariant: the children left, with what is found, tally as all did. By the
+-- laws of tallies at the tests passed. Assumes nothing.
+use mathlib.Core.Path.{_≡_, refl, sym, ap, ap₂, _∙_, subst⁻¹}
 use mathlib.Core.Bool.{false}
 use Prim.Native.Nat.{ℕ, _+_, _-_, _*_, _^_, _<_, _≤_}
 use native.Mathlib.Omega.{arith}
@@ -45,13 +46,13 @@ use Rattle.walk.proofs.boxes.+count_box+count_children+count_pointer.{s
 use Rattle.walk.proofs.boxes.+count_box+count_children+count_pointer.Tie.{close}
 
 abbrev μ-count-box : Measures 1 count-box-kinds.ps ℕ
-μ-count-box κs a = 20 * a .1 .0
+μ-count-box κs a = 10 * a .1 .0
 
 abbrev μ-count-children : Measures 1 count-children-kinds.ps ℕ
-μ-count-children κs a = 20 * a .1 .0 + a .1 .1 .1 .1 .1 .1 .0 + 2
+μ-count-children κs a = 10 * a .1 .0 + 2
 
 abbrev μ-count-pointer : Measures 1 count-pointer-kinds.ps ℕ
-μ-count-pointer κs a = 20 * a .1 .0 + 1
+μ-count-pointer κs a = 10 * a .1 .0 + 1
 
 abbrev count-box-at : ℕ → In 1 count-box-kinds.ps
 count-box-at t = and 1 count-box-kinds.ps (is 1 count-box-kinds.ps μ-count-box t) count-box.Pre
@@ -75,36 +76,45 @@ abbrev count-box-known : ℕ → count-box-lts.Claims
 count-box-known t = (edge-reads.Asked, edge-reads.Learnt, is-whole-reads.Asked, is-whole-reads.Learnt, count-whole-reads.Asked, count-whole-reads.Learnt, leaf-at-reads.Asked, leaf-at-reads.Learnt, count-leaf-reads.Asked, count-leaf-reads.Learnt, cell-at-reads.Asked, cell-at-reads.Learnt, count-children-below t, count-children.Post)
 
 abbrev count-children-known : ℕ → count-children-lts.Claims
-count-children-known t = (edge-reads.Asked, edge-reads.Learnt, clipped-reads.Asked, clipped-reads.Learnt, count-pointer-below t, count-pointer.Post, count-children-below t, count-children.Post)
+count-children-known t = (edge-reads.Asked, edge-reads.Learnt, clipped-reads.Asked, clipped-reads.Learnt, count-pointer-below t, count-pointer.Post)
 
 abbrev count-pointer-known : ℕ → count-pointer-lts.Claims
 count-pointer-known t = (has-voxel-reads.Asked, has-voxel-reads.Learnt, kept-count-reads.Asked, kept-count-reads.Learnt, bad-pointer-reads.Asked, bad-pointer-reads.Learnt, cell-number-reads.Asked, cell-number-reads.Learnt, tag-reads.Asked, tag-reads.Learnt, count-box-below t, count-box.Post)
 
+abbrev Inv-loop : count-children-lts.InvT-loop
+Inv-loop store k mirror low high left found cell side i₀ sum₀ i sum =
+    (i ≤ 8) × (sum + childrenSolid (keptOf store) k cell mirror i (at low) (at high) ≤ mostSolid)
+    × (childrenIn (keptOf store) k cell mirror i (at low) (at high) sum ≡ childrenIn (keptOf store) k cell mirror left (at low) (at high) found)
+
+abbrev μ-loop : count-children-lts.MeasureT-loop
+μ-loop store k mirror low high left found cell side i₀ sum₀ i sum = i
+
 -- the child's number under the mirror, and the child's edge
-turned : (t : ℕ) (c : count-children-lts.After-edge (count-children-known t) (count-children-at t) count-children.Post) → bitXor (c .before .before .before .args .left - 1) (c .before .before .before .args .mirror) < 8
-turned t c = xor8-lt (c .before .before .before .args .left - 1) (c .before .before .before .args .mirror) (omega arith) (c .before .before .before .pre .1 .1 .0 .1)
+turned : (t : ℕ) (c : count-children-lts.In-loop (count-children-known t) (count-children-at t) count-children.Post Inv-loop μ-loop) → bitXor (c .before .loop .i - 1) (c .before .before .before .before .args .mirror) < 8
+turned t c = xor8-lt (c .before .loop .i - 1) (c .before .before .before .before .args .mirror) (omega (arith, c .before .loop .inv .0, c .loop-test .taken)) (c .before .before .before .before .pre .1 .1 .0 .1)
 
-side-lt : (t : ℕ) (c : count-children-lts.After-edge (count-children-known t) (count-children-at t) count-children.Post) → c .edge .result < 2 ^ 31
-side-lt t c = omega (arith, c .edge .ensures, edge-lt (c .before .before .before .args .k) (c .before .before .before .pre .1 .1 .0 .0))
+side-lt : (t : ℕ) (c : count-children-lts.After-edge (count-children-known t) (count-children-at t) count-children.Post Inv-loop μ-loop) → c .edge .result < 2 ^ 31
+side-lt t c = omega (arith, c .edge .ensures, edge-lt (c .before .before .args .k) (c .before .before .pre .1 .1 .0 .0))
 
--- the last child's tally
-child : (t : ℕ) (c : count-children-lts.After-count-pointer (count-children-known t) (count-children-at t) count-children.Post) → let a = c .before .before .before .before .before .before .args in
-    c .count-pointer .result ≡ pointerIn (keptOf (a .store .now)) (a .k) (getD (a .t3) (bitXor (a .left - 1) (a .mirror)) 0) (a .mirror) (clipped (edge (a .k)) (a .left - 1) (at (a .low))) (clipped (edge (a .k)) (a .left - 1) (at (a .high)))
+-- the tally of the child at hand
+child : (t : ℕ) (c : count-children-lts.After-count-pointer (count-children-known t) (count-children-at t) count-children.Post Inv-loop μ-loop) → let a = c .before .before .before .before .before .before .before .args in let i = c .before .before .before .before .loop .i - 1 in
+    c .count-pointer .result ≡ pointerIn (keptOf (a .store .now)) (a .k) (getD (a .t3) (bitXor i (a .mirror)) 0) (a .mirror) (clipped (edge (a .k)) i (at (a .low))) (clipped (edge (a .k)) i (at (a .high)))
 child t c =
-    let a = c .before .before .before .before .before .before .args in
-    let e = c .before .before .before .edge .ensures in
+    let a = c .before .before .before .before .before .before .before .args in
+    let i = c .before .before .before .before .loop .i - 1 in
+    let e = c .before .before .before .before .before .edge .ensures in
     c .count-pointer .ensures
-    ∙ ap₂ (pointerIn (keptOf (a .store .now)) (a .k) (getD (a .t3) (bitXor (a .left - 1) (a .mirror)) 0) (a .mirror)) (c .before .before .clipped .ensures ∙ ap (λ (S : ℕ). clipped S (a .left - 1) (at (a .low))) e)
-    (c .before .clipped2 .ensures ∙ ap (λ (S : ℕ). clipped S (a .left - 1) (at (a .high))) e)
+    ∙ ap₂ (pointerIn (keptOf (a .store .now)) (a .k) (getD (a .t3) (bitXor i (a .mirror)) 0) (a .mirror)) (c .before .before .clipped .ensures ∙ ap (λ (S : ℕ). clipped S i (at (a .low))) e)
+    (c .before .clipped2 .ensures ∙ ap (λ (S : ℕ). clipped S i (at (a .high))) e)
 
 -- what is found with it, and what is left to find, fit
-more : (t : ℕ) (c : count-children-lts.After-known-told (count-children-known t) (count-children-at t) count-children.Post) → let a = c .before .before .before .before .before .before .before .before .before .args in
-    a .found + (childrenSolid (keptOf (a .store .now)) (a .k) (a .t3) (a .mirror) (a .left - 1) (at (a .low)) (at (a .high)) + c .before .n .given .0 .0) ≤ mostSolid
+more : (t : ℕ) (c : count-children-lts.After-known-told (count-children-known t) (count-children-at t) count-children.Post Inv-loop μ-loop) → let a = c .before .before .before .before .before .before .before .before .before .before .args in let l = c .before .before .before .before .before .before .before .loop in
+    l .sum + (childrenSolid (keptOf (a .store .now)) (a .k) (a .t3) (a .mirror) (l .i - 1) (at (a .low)) (at (a .high)) + c .before .n .given .0 .0) ≤ mostSolid
 more t c =
-    let b = c .before .before .before .before .before .before .before .before .before in
-    let a = b .args in
-    rw (solid-more (keptOf (a .store .now)) (a .k) (a .t3) (a .mirror) (a .left) (at (a .low)) (at (a .high)) (c .before .n .given .0 .0) (c .before .before .before .before .before .before .before .if1 .left)
-    (sym (child t (c .before .before .before)) ∙ c .before .n .given .1)) at (b .pre .1 .1 .1)
+    let a = c .before .before .before .before .before .before .before .before .before .before .args in
+    let l = c .before .before .before .before .before .before .before .loop in
+    rw (solid-more (keptOf (a .store .now)) (a .k) (a .t3) (a .mirror) (l .i) (at (a .low)) (at (a .high)) (c .before .n .given .0 .0) (c .before .before .before .before .before .before .loop-test .taken)
+    (sym (child t (c .before .before .before)) ∙ c .before .n .given .1)) at (l .inv .1)
 
 -- the pointer is not bad
 there : (t : ℕ) (c : count-pointer-lts.Else3 (count-pointer-known t) (count-pointer-at t) count-pointer.Post) → badPointer (keptCount (c .before .before .before .before .before .before .before .args .store .now) (c .before .before .before .before .before .before .before .args .k)) (c .before .before .before .before .before .before .before .args .p) ≡ false
@@ -142,55 +152,40 @@ count-box-returns-3 t c =
     ∙ ap (λ (l : Cell). childrenIn (keptOf (a .store .now)) (a .k - 1) l (a .mirror) 8 (at (a .low)) (at (a .high)) 0) (c .before .cell-at .ensures)
     ∙ children-seen (a .store .now) (a .k) (a .number) (a .mirror) (at (a .low)) (at (a .high)) (b .pre .1 .1 .0 .0) (b .pre .1 .1 .0 .1) (c .before .before .if2 .left)
 
-count-children-returns : (t : ℕ) → count-children-lts.Need-returns (count-children-known t) (count-children-at t) count-children.Post
-count-children-returns t c =
-    let a = c .before .before .args in
-    sym (children-none (keptOf (a .store .now)) (a .k) (a .t3) (a .mirror) (a .left) (at (a .low)) (at (a .high)) (a .found) (c .if1 .taken))
+count-children-loop-holds : (t : ℕ) → count-children-lts.Need-loop-holds (count-children-known t) (count-children-at t) count-children.Post Inv-loop μ-loop
+count-children-loop-holds t c = let p = c .before .before .pre .1 .1 in (p .0 .2, p .1, refl)
 
-count-children-cast-p : (t : ℕ) → count-children-lts.Need-cast-p (count-children-known t) (count-children-at t) count-children.Post
-count-children-cast-p t c = omega (arith, turned t c)
-
-count-children-mul-p : (t : ℕ) → count-children-lts.Need-mul-p (count-children-known t) (count-children-at t) count-children.Post
-count-children-mul-p t c = omega (arith, turned t c)
-
-count-children-array-read-p : (t : ℕ) → count-children-lts.Need-array-read-p (count-children-known t) (count-children-at t) count-children.Post
-count-children-array-read-p t c = turned t c
-
-count-children-clipped-requires : (t : ℕ) → count-children-lts.Need-clipped-requires (count-children-known t) (count-children-at t) count-children.Post
-count-children-clipped-requires t c κs = (omega arith, side-lt t c)
-
-count-children-clipped-requires-2 : (t : ℕ) → count-children-lts.Need-clipped-requires-2 (count-children-known t) (count-children-at t) count-children.Post
-count-children-clipped-requires-2 t c κs = (omega arith, side-lt t (c .before))
-
-count-children-count-pointer-requires : (t : ℕ) → count-children-lts.Need-count-pointer-requires (count-children-known t) (count-children-at t) count-children.Post
+count-children-count-pointer-requires : (t : ℕ) → count-children-lts.Need-count-pointer-requires (count-children-known t) (count-children-at t) count-children.Post Inv-loop μ-loop
 count-children-count-pointer-requires t c κs =
-    let b = c .before .before .before .before .before in
+    let b = c .before .before .before .before .before .before in
     let a = b .args in
-    let e = c .before .before .edge .ensures in
-    (omega arith, (b .pre .1 .0, ((b .pre .1 .1 .0 .0, b .pre .1 .1 .0 .1), subst⁻¹ (Upto (edge (a .k))) (c .clipped2 .ensures ∙ ap (λ (S : ℕ). clipped S (a .left - 1) (at (a .high))) e) (clipped-upto (edge (a .k)) (a .left - 1) (at (a .high))))))
+    let i = c .before .before .before .loop .i - 1 in
+    let e = c .before .before .before .before .edge .ensures in
+    (omega arith, (b .pre .1 .0, ((b .pre .1 .1 .0 .0, b .pre .1 .1 .0 .1), subst⁻¹ (Upto (edge (a .k))) (c .clipped2 .ensures ∙ ap (λ (S : ℕ). clipped S i (at (a .high))) e) (clipped-upto (edge (a .k)) i (at (a .high))))))
 
-count-children-add-count-children : (t : ℕ) → count-children-lts.Need-add-count-children (count-children-known t) (count-children-at t) count-children.Post
-count-children-add-count-children t c = omega (arith, more t c)
+count-children-returns : (t : ℕ) → count-children-lts.Need-returns (count-children-known t) (count-children-at t) count-children.Post Inv-loop μ-loop
+count-children-returns t c =
+    let a = c .before .before .before .before .before .before .before .before .before .args in
+    let l = c .before .before .before .before .before .before .loop in
+    sym (children-damaged (keptOf (a .store .now)) (a .k) (a .t3) (a .mirror) (l .i) (at (a .low)) (at (a .high)) (l .sum) (c .before .before .before .before .before .loop-test .taken) (sym (child t (c .before .before)) ∙ c .enum-told .given .1))
+    ∙ l .inv .2
 
-count-children-count-children-requires : (t : ℕ) → count-children-lts.Need-count-children-requires (count-children-known t) (count-children-at t) count-children.Post
-count-children-count-children-requires t c κs =
-    let b = c .before .before .before .before .before .before .before .before .before in
-    (omega arith, (b .pre .1 .0, ((b .pre .1 .1 .0 .0, b .pre .1 .1 .0 .1, omega arith), omega (arith, more t c))))
-
-count-children-returns-2 : (t : ℕ) → count-children-lts.Need-returns-2 (count-children-known t) (count-children-at t) count-children.Post
-count-children-returns-2 t c =
-    let a = c .before .before .before .before .before .before .before .before .args in
-    sym
-    (children-damaged (keptOf (a .store .now)) (a .k) (a .t3) (a .mirror) (a .left) (at (a .low)) (at (a .high)) (a .found) (c .before .before .before .before .before .before .if1 .left)
-    (sym (child t (c .before .before)) ∙ c .enum-told .given .1))
-
-count-children-returns-3 : (t : ℕ) → count-children-lts.Need-returns-3 (count-children-known t) (count-children-at t) count-children.Post
-count-children-returns-3 t c =
+count-children-loop-again : (t : ℕ) → count-children-lts.Need-loop-again (count-children-known t) (count-children-at t) count-children.Post Inv-loop μ-loop
+count-children-loop-again t c =
     let a = c .before .before .before .before .before .before .before .before .before .before .args in
-    c .count-children .ensures
-    ∙ sym
-    (children-more (keptOf (a .store .now)) (a .k) (a .t3) (a .mirror) (a .left) (at (a .low)) (at (a .high)) (c .before .before .n .given .0 .0) (c .before .before .before .before .before .before .before .before .if1 .left)
-    (sym (child t (c .before .before .before .before)) ∙ c .before .before .n .given .1) (a .found))
+    let l = c .before .before .before .before .before .before .before .loop in (
+      omega (arith, l .inv .0),
+      omega (arith, more t c),
+      sym
+          (children-more (keptOf (a .store .now)) (a .k) (a .t3) (a .mirror) (l .i) (at (a .low)) (at (a .high)) (c .before .n .given .0 .0) (c .before .before .before .before .before .before .loop-test .taken) (sym (child t (c .before .before .before)) ∙ c .before .n .given .1) (l .sum))
+          ∙ l .inv .2,
+    )
+
+count-children-returns-2 : (t : ℕ) → count-children-lts.Need-returns-2 (count-children-known t) (count-children-at t) count-children.Post Inv-loop μ-loop
+count-children-returns-2 t c =
+    let a = c .before .before .before .before .args in
+    let l = c .before .loop in
+    sym (children-none (keptOf (a .store .now)) (a .k) (a .t3) (a .mirror) (l .i) (at (a .low)) (at (a .high)) (l .sum) (c .loop-test .left)) ∙ l .inv .2
 
 count-pointer-returns : (t : ℕ) → count-pointer-lts.Need-returns (count-pointer-known t) (count-pointer-at t) count-pointer.Post
 count-pointer-returns t c =
@@ -241,21 +236,24 @@ pub +count-box+count-children+count-pointer-spec : {M : Type 1} → statement M
     (count-box-count-children-requires t)
     (count-box-returns-3 t))
     (λ t. count-children-lts.spec (count-children-known t) (count-children-at t) count-children.Post
-    (count-children-returns t)
-    (λ c. search needs)
+    Inv-loop
+    μ-loop
     (λ c κs. search needs)
-    (count-children-cast-p t)
-    (count-children-mul-p t)
-    (count-children-array-read-p t)
-    (count-children-clipped-requires t)
-    (count-children-clipped-requires-2 t)
+    (count-children-loop-holds t)
+    (λ c. search needs)
+    (λ c. omega (arith, turned t c))
+    (λ c. omega (arith, turned t c))
+    (λ c. turned t c)
+    (λ c κs. (omega (arith, c .before .loop .inv .0, c .loop-test .taken), side-lt t (c .before .before)))
+    (λ c κs. (omega (arith, c .before .before .loop .inv .0, c .before .loop-test .taken), side-lt t (c .before .before .before)))
     (count-children-count-pointer-requires t)
     (λ c. search needs)
     (λ c. search needs)
-    (count-children-add-count-children t)
-    (count-children-count-children-requires t)
-    (count-children-returns-2 t)
-    (count-children-returns-3 t))
+    (count-children-returns t)
+    (λ c. omega (arith, more t c))
+    (λ c. search needs)
+    (count-children-loop-again t)
+    (count-children-returns-2 t))
     (λ t. count-pointer-lts.spec (count-pointer-known t) (count-pointer-at t) count-pointer.Post
     (count-pointer-returns t)
     (λ c κs. search needs)

@@ -13,56 +13,39 @@ use Rattle.walk.proofs.boxes.times_named.Statement.{statement}
 use Rattle.walk.proofs.boxes.times_named.Tie as tie
 
 abbrev Inv-loop : tie.InvT-loop
-Inv-loop left number cell times₀ i₀ times i = (i ≤ left) × (times ≤ i) × (times ≡ timesNamed cell i number)
+Inv-loop number cell times₀ i₀ times i = (i ≤ 8) × (times ≤ i) × (times ≡ timesNamed cell i number)
 
 abbrev μ-loop : tie.MeasureT-loop
-μ-loop left number cell times₀ i₀ times i = left - i
+μ-loop number cell times₀ i₀ times i = 8 - i
 
 loop-holds : tie.Need-loop-holds Inv-loop μ-loop
 unfolding timesNamed sum
 loop-holds c = (omega arith, omega arith, refl)
 
-cast-names : tie.Need-cast-names Inv-loop μ-loop
-cast-names c = search needs
+-- what a turn adds
+turn-is : (c : tie.After-bit-for Inv-loop μ-loop) → c .bit-for .result ≡ bitFor (names (c .before .before .before .before .args .number) (getD (c .before .before .before .before .args .t1) (c .before .before .before .loop .i) 0))
+turn-is c = c .bit-for .ensures ∙ ap bitFor (c .before .names .ensures)
 
-mul-names : tie.Need-mul-names Inv-loop μ-loop
-mul-names c = omega arith
-
-array-read-names : tie.Need-array-read-names Inv-loop μ-loop
-array-read-names c = omega arith
-
-names-requires : tie.Need-names-requires Inv-loop μ-loop
-names-requires c κs = search needs
-
-turn : (c : tie.After-names Inv-loop μ-loop) → c .names .result ≤ 1
+turn : (c : tie.After-bit-for Inv-loop μ-loop) → c .bit-for .result ≤ 1
 turn c =
-    let a = c .before .before .before .args in
-    omega (arith, c .names .ensures, named-most (a .number) (getD (a .t1) (c .before .before .loop .i) 0))
-
-add-times : tie.Need-add-times Inv-loop μ-loop
-add-times c = omega (arith, turn c)
-
-add-i : tie.Need-add-i Inv-loop μ-loop
-add-i c = omega arith
-
-loop-less : tie.Need-loop-less Inv-loop μ-loop
-loop-less c = search needs
+    let a = c .before .before .before .before .args in
+    omega (arith, turn-is c, named-most (a .number) (getD (a .t1) (c .before .before .before .loop .i) 0))
 
 loop-again : tie.Need-loop-again Inv-loop μ-loop
 unfolding timesNamed
 loop-again c =
-    let a = c .before .before .before .args in
-    let l = c .before .before .loop in (
+    let a = c .before .before .before .before .args in
+    let l = c .before .before .before .loop in (
       omega arith,
       omega (arith, turn c),
-      ap₂ (λ (x y : ℕ). x + y) (l .inv .2) (c .names .ensures) ∙ sym (sum-next (l .i) (λ j. bitFor (names (a .number) (getD (a .t1) j 0)))),
+      ap₂ (λ (x y : ℕ). x + y) (l .inv .2) (turn-is c) ∙ sym (sum-next (l .i) (λ j. bitFor (names (a .number) (getD (a .t1) j 0)))),
     )
 
 returns : tie.Need-returns Inv-loop μ-loop
 returns c =
     let a = c .before .before .args in
     let l = c .before .loop in
-    let e : l .i ≡ a .left = omega arith in
+    let e : l .i ≡ 8 = omega arith in
     l .inv .2 ∙ ap (λ (i : ℕ). timesNamed (a .t1) i (a .number)) e
 
 pub times-named-spec : {M : Type 1} → statement M
@@ -72,12 +55,12 @@ times-named-spec =
     Inv-loop
     μ-loop
     loop-holds
-    cast-names
-    mul-names
-    array-read-names
-    names-requires
-    add-times
-    add-i
-    loop-less
+    (λ c. search needs)
+    (λ c. search needs)
+    (λ c κs. search needs)
+    (λ c κs. search needs)
+    (λ c. omega (arith, turn c))
+    (λ c. search needs)
+    (λ c. search needs)
     loop-again
     returns)

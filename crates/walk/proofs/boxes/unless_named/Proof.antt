@@ -3,7 +3,6 @@
 use mathlib.Core.Path.{sym, ap, _∙_}
 use mathlib.Core.Bool.{Bool, cond}
 use borrow.Author.Needs.{needs}
-use Rattle.walk.proofs.LeafBoxes.{named-once, unnamed-none}
 use Rattle.walk.proofs.boxes.unless_named.Statement.{statement}
 use Rattle.walk.proofs.boxes.unless_named.Tie as tie
 
@@ -13,12 +12,12 @@ names-requires c κs = search needs
 returns : tie.Need-returns
 returns c =
     let a = c .before .before .args in
-    sym (ap (λ (b : Bool). cond b 0 (a .p)) (named-once (a .number) (a .p) (sym (c .before .names .ensures) ∙ c .if1 .taken)))
+    sym (ap (λ (b : Bool). cond b 0 (a .p)) (sym (c .before .names .ensures) ∙ c .if1 .taken))
 
 returns-2 : tie.Need-returns-2
 returns-2 c =
     let a = c .before .before .args in
-    sym (ap (λ (b : Bool). cond b 0 (a .p)) (unnamed-none (a .number) (a .p) (λ e. c .if1 .left (c .before .names .ensures ∙ e))))
+    sym (ap (λ (b : Bool). cond b 0 (a .p)) (sym (c .before .names .ensures) ∙ c .if1 .left))
 
 pub unless-named-spec : {M : Type 1} → statement M
 unless-named-spec = tie.close (tie.spec names-requires returns returns-2)
