@@ -1,21 +1,55 @@
-// A leaf as a number: its mirror image. The one function that mirrors a leaf; its contract is by voxels.
+// A leaf as a number: its mirror image, and how many of its voxels are solid. The one function that mirrors a leaf; its
+// contract is by voxels.
 ghost use mathlib.Core.Path.{_≡_};
+ghost use Prim.Native.Nat.{_*_, _<_};
+ghost use lib.Dec.{T};
 ghost use Rattle.paper.specs.Leaf.{mirrorLeaf};
+ghost use Rattle.leaf.specs.Turns.{turned, swaps, axis};
 
-// The bits of a leaf.
-const BITS: u32 = 64;
+// The bits whose number lacks a step of 1, 2, 4, 8, 16 or 32: those that change places with the bit so far above.
+const BELOW_1: u64 = 0x5555555555555555;
 
-// The leaf so mirrored. A coordinate below 4 is mirrored by changing both its bits, so voxel k lies at k with the bits of
-// the marked axes changed: 3 for x, 12 for y, 48 for z.
+const BELOW_2: u64 = 0x3333333333333333;
+
+const BELOW_4: u64 = 0x0F0F0F0F0F0F0F0F;
+
+const BELOW_8: u64 = 0x00FF00FF00FF00FF;
+
+const BELOW_16: u64 = 0x0000FFFF0000FFFF;
+
+const BELOW_32: u64 = 0x00000000FFFFFFFF;
+
+// The steps of x, y and z in the number of a voxel's bit.
+const X: u32 = 1;
+
+const Y: u32 = 4;
+
+const Z: u32 = 16;
+
+// The bits that lie a step apart, in each other's places.
+fn swap(leaf: u64, below: u64, step: u32) -> u64
+    requires { ⌜ T (swaps below step) ⌝ }
+    ensures { λ r. ⌜ r ≡ turned step leaf ⌝ }
+{
+    ((leaf >> step) & below) | ((leaf & below) << step)
+}
+
+// The leaf mirrored along an axis, where this is marked: a coordinate below 4 is mirrored by changing both its bits.
+fn mirror_axis(leaf: u64, marked: u32, below: u64, step: u32, twice: u64) -> u64
+    requires { ⌜ (marked < 2) × T (axis below step twice) ⌝ }
+    ensures { λ r. ⌜ r ≡ turned (marked * (3 * step)) leaf ⌝ }
+{
+    if marked == 0 {
+        return leaf;
+    }
+    swap(swap(leaf, below, step), twice, 2 * step)
+}
+
+// The leaf so mirrored.
 pub fn mirror_leaf(leaf: u64, mirror: u32) -> u64
     ensures { λ r. ⌜ r ≡ mirrorLeaf mirror leaf ⌝ }
 {
-    let turn = mirror % 2 * 3 + mirror / 2 % 2 * 12 + mirror / 4 % 2 * 48;
-    let mut k = BITS;
-    let mut image = 0u64;
-    while k != 0 {
-        k -= 1;
-        image = 2 * image + (leaf >> (k ^ turn)) % 2;
-    }
-    image
+    let across_x = mirror_axis(leaf, mirror % 2, BELOW_1, X, BELOW_2);
+    let across_y = mirror_axis(across_x, mirror / 2 % 2, BELOW_4, Y, BELOW_8);
+    mirror_axis(across_y, mirror / 4 % 2, BELOW_16, Z, BELOW_32)
 }

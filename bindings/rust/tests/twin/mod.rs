@@ -1,9 +1,9 @@
-//! PARKED: to become the independent twin of the linked library (tests of the Rust bindings). It reproduces every script of calls that came with
-//! document 01; it gave the expected lines of our own scripts.
-//! Document 01 written once more, in plain Rust, slow and clear: the thirteen calls on slices. It shares no code and no idea of
-//! speed with the proved store; the tests compare the two.
+//! Document 01 written once more, in plain Rust, slow and clear: the thirteen calls on slices. It shares no code with the proved
+//! store; the tests compare the two.
 //!
-//! A call answers its number (0 where it is accepted) and its values (zeros on a refusal). Lent memory is changed as the page says.
+//! A call answers its values, or a refusal: its number and which clause of document 01 it was. Lent memory is changed as the
+//! page says. Where the page's words would take for ever (does a cell match itself, how many voxels has a whole cell), what was
+//! found once is remembered; nothing else is done for speed.
 
 use std::collections::{HashMap, HashSet};
 
@@ -11,7 +11,29 @@ pub type Words = [u32];
 pub type Bytes = [u8];
 type Point = [u64; 3];
 
-pub const MAX_LENGTH: u64 = 4_294_967_295;
+const MAX_LENGTH: u128 = 4_294_967_295;
+
+/// A refusal: its number, and the clause that it comes from.
+#[derive(Clone, Copy, Debug, PartialEq, Eq)]
+pub struct Refused {
+    pub number: u32,
+    pub clause: &'static str,
+}
+
+pub type Answer<T> = Result<T, Refused>;
+
+fn refused(number: u32, clause: &'static str) -> Refused {
+    Refused { number, clause }
+}
+
+/// Nothing where a clause holds, else its refusal.
+fn need(holds: bool, number: u32, clause: &'static str) -> Answer<()> {
+    if holds {
+        Ok(())
+    } else {
+        Err(refused(number, clause))
+    }
+}
 
 // ---- mirrors
 
@@ -80,6 +102,11 @@ fn low29(p: u32) -> u32 {
     p & 0x1fff_ffff
 }
 
+/// The number of the kept cell that a pointer names.
+fn number(p: u32) -> usize {
+    low29(p) as usize - 1
+}
+
 fn pointer(tag: u32, number: usize) -> u32 {
     tag << 29 | (number as u32 + 1)
 }
@@ -130,100 +157,85 @@ fn scene_ok(w: &Words, n: usize) -> bool {
     depth_ok(d) && !bad(w, d as usize, p)
 }
 
-fn store_ok(w: &Words) -> bool {
-    if !header_ok(w) {
-        return false;
-    }
+/// Add, outline and pack test all of that for the whole store, with used cells not empty and unused words zero.
+fn whole_store(w: &Words) -> Answer<()> {
+    need(header_ok(w), 2, "header")?;
     let c = w[0] as usize;
     let held = w[1] as usize;
-    if !(0..held).all(|n| scene_ok(w, n)) || !w[32 + 2 * held..160].iter().all(|&x| x == 0) {
-        return false;
-    }
+    need((0..held).all(|n| scene_ok(w, n)), 2, "scene")?;
+    need(zero(&w[32 + 2 * held..160]), 2, "unused scene words")?;
     for h in 2..=16 {
-        for n in 0..w[h] as usize {
-            let fine = if h == 2 {
-                leaf_at(w, n) != 0
+        let count = w[h] as usize;
+        for n in 0..count {
+            if h == 2 {
+                need(leaf_at(w, n) != 0, 2, "empty leaf")?;
             } else {
                 let cell = cell_at(w, h, n);
-                cell.iter().any(|&p| p != 0) && !cell.iter().any(|&p| bad(w, h - 1, p))
-            };
-            if !fine {
-                return false;
+                need(!zero(&cell), 2, "empty cell")?;
+                need(!cell.iter().any(|&p| bad(w, h - 1, p)), 2, "pointer")?;
             }
         }
-        let (from, to) = (place(w, h, w[h] as usize), place(w, h, c));
-        if !w[from..to].iter().all(|&x| x == 0) {
-            return false;
-        }
+        need(zero(&w[place(w, h, count)..place(w, h, c)]), 2, "unused words")?;
     }
-    true
+    Ok(())
+}
+
+fn zero(words: &[u32]) -> bool {
+    words.iter().all(|&x| x == 0)
 }
 
 /// New store: 1.
-pub fn new_store(w: &mut Words, c: u32) -> u32 {
-    if c < 1 || c > 65_536 || (w.len() as u64) < used(c as u64) {
-        return 1;
-    }
-    for i in 0..used(c as u64) as usize {
-        w[i] = 0;
-    }
+pub fn new_store(w: &mut Words, c: u32) -> Answer<()> {
+    need((1..=65_536).contains(&c), 1, "capacity")?;
+    need(w.len() as u64 >= used(c as u64), 1, "words")?;
+    w[..used(c as u64) as usize].fill(0);
     w[0] = c;
-    0
+    Ok(())
 }
 
 // ---- questions: 2 (header), 9, 2 (the scene's two words), 10, 2 (walk)
 
-fn asked(w: &Words, n: u32) -> Result<(usize, u32), u32> {
-    if !header_ok(w) {
-        return Err(2);
-    }
-    if n >= w[1] {
-        return Err(9);
-    }
-    if !scene_ok(w, n as usize) {
-        return Err(2);
-    }
+/// The scene's depth and root pointer.
+fn asked(w: &Words, n: u32) -> Answer<(usize, u32)> {
+    need(header_ok(w), 2, "header")?;
+    need(n < w[1], 9, "scene")?;
+    need(scene_ok(w, n as usize), 2, "scene")?;
     let (d, p) = scene(w, n as usize);
     Ok((d as usize, p))
 }
 
-fn answer<T: Default>(r: Result<T, u32>) -> (u32, T) {
-    match r {
-        Ok(v) => (0, v),
-        Err(n) => (n, T::default()),
-    }
+/// The eight pointers of a cell entered, none of them bad.
+fn entered(w: &Words, h: usize, n: usize) -> Answer<[u32; 8]> {
+    let cell = cell_at(w, h, n);
+    need(!cell.iter().any(|&q| bad(w, h - 1, q)), 2, "walk")?;
+    Ok(cell)
 }
 
-fn voxel_under(w: &Words, h: usize, p: u32, v: Point) -> Result<u32, u32> {
+fn voxel_under(w: &Words, h: usize, p: u32, v: Point) -> Answer<u32> {
     if p == 0 {
         return Ok(0);
     }
     let edge = 1u64 << h;
     let v = mirror(tag(p), edge, v);
-    let n = low29(p) as usize - 1;
+    let n = number(p);
     if h == 2 {
         return Ok(leaf_bit(leaf_at(w, n), v) as u32);
     }
-    let cell = cell_at(w, h, n);
-    if cell.iter().any(|&q| bad(w, h - 1, q)) {
-        return Err(2);
-    }
+    let cell = entered(w, h, n)?;
     let (i, u) = child_of(edge, v);
     voxel_under(w, h - 1, cell[i], u)
 }
 
-pub fn voxel(w: &Words, n: u32, x: u32, y: u32, z: u32) -> (u32, u32) {
-    answer(asked(w, n).and_then(|(d, p)| {
-        let v = [x as u64, y as u64, z as u64];
-        if v.iter().any(|&c| c >= 1 << d) {
-            return Err(10);
-        }
-        voxel_under(w, d, p, v)
-    }))
+/// Voxel: 1 for solid, 0 for empty.
+pub fn voxel(w: &Words, n: u32, x: u32, y: u32, z: u32) -> Answer<u32> {
+    let (d, p) = asked(w, n)?;
+    let v = [x as u64, y as u64, z as u64];
+    need(v.iter().all(|&c| c < 1 << d), 10, "point")?;
+    voxel_under(w, d, p, v)
 }
 
 /// The cube of height `stop` with this low corner, under a pointer of height h.
-fn cell_under(w: &Words, h: usize, p: u32, stop: usize, low: Point) -> Result<u32, u32> {
+fn cell_under(w: &Words, h: usize, p: u32, stop: usize, low: Point) -> Answer<u32> {
     if p == 0 {
         return Ok(0);
     }
@@ -234,38 +246,35 @@ fn cell_under(w: &Words, h: usize, p: u32, stop: usize, low: Point) -> Result<u3
     let size = 1u64 << stop;
     let high = [low[0] + size, low[1] + size, low[2] + size];
     let (low, high) = mirror_box(tag(p), edge, low, high);
-    let n = low29(p) as usize - 1;
+    let n = number(p);
     if h == 2 {
         let leaf = leaf_at(w, n);
         let full = (low[0]..high[0]).any(|x| (low[1]..high[1]).any(|y| (low[2]..high[2]).any(|z| leaf_bit(leaf, [x, y, z]))));
         return Ok(full as u32);
     }
-    let cell = cell_at(w, h, n);
-    if cell.iter().any(|&q| bad(w, h - 1, q)) {
-        return Err(2);
-    }
+    let cell = entered(w, h, n)?;
     let (i, u) = child_of(edge, low);
     cell_under(w, h - 1, cell[i], stop, u)
 }
 
-pub fn cell(w: &Words, n: u32, h: u32, x: u32, y: u32, z: u32) -> (u32, u32) {
-    answer(asked(w, n).and_then(|(d, p)| {
-        if h as usize > d || [x, y, z].iter().any(|&c| c as u64 >= 1 << (d - h as usize)) {
-            return Err(10);
-        }
-        let s = 1u64 << h;
-        cell_under(w, d, p, h as usize, [x as u64 * s, y as u64 * s, z as u64 * s])
-    }))
+/// Cell: 1 for non-empty, 0 for empty.
+pub fn cell(w: &Words, n: u32, h: u32, x: u32, y: u32, z: u32) -> Answer<u32> {
+    let (d, p) = asked(w, n)?;
+    need(h as usize <= d, 10, "height")?;
+    let h = h as usize;
+    let v = [x as u64, y as u64, z as u64];
+    need(v.iter().all(|&c| c < 1 << (d - h)), 10, "point")?;
+    cell_under(w, d, p, h, v.map(|c| c << h))
 }
 
-type Counts = HashMap<(usize, usize), Result<u64, u32>>;
+type Counts = HashMap<(usize, usize), Answer<u64>>;
 
-fn box_under(w: &Words, h: usize, p: u32, low: Point, high: Point, whole: &mut Counts) -> Result<u64, u32> {
+fn box_under(w: &Words, h: usize, p: u32, low: Point, high: Point, whole: &mut Counts) -> Answer<u64> {
     if p == 0 || (0..3).any(|a| low[a] >= high[a]) {
         return Ok(0);
     }
     let edge = 1u64 << h;
-    let n = low29(p) as usize - 1;
+    let n = number(p);
     let all = low == [0; 3] && high == [edge; 3];
     if all {
         if let Some(known) = whole.get(&(h, n)) {
@@ -280,7 +289,7 @@ fn box_under(w: &Words, h: usize, p: u32, low: Point, high: Point, whole: &mut C
     sum
 }
 
-fn box_in(w: &Words, h: usize, n: usize, low: Point, high: Point, whole: &mut Counts) -> Result<u64, u32> {
+fn box_in(w: &Words, h: usize, n: usize, low: Point, high: Point, whole: &mut Counts) -> Answer<u64> {
     if h == 2 {
         let leaf = leaf_at(w, n);
         let mut sum = 0;
@@ -304,9 +313,7 @@ fn box_in(w: &Words, h: usize, n: usize, low: Point, high: Point, whole: &mut Co
         })
         .filter(|(_, l, h)| (0..3).all(|a| l[a] < h[a]))
         .collect();
-    if parts.iter().any(|(p, _, _)| bad(w, h - 1, *p)) {
-        return Err(2);
-    }
+    need(!parts.iter().any(|&(p, _, _)| bad(w, h - 1, p)), 2, "walk")?;
     let mut sum = 0;
     for (p, l, g) in parts {
         sum += box_under(w, h - 1, p, l, g, whole)?;
@@ -314,43 +321,38 @@ fn box_in(w: &Words, h: usize, n: usize, low: Point, high: Point, whole: &mut Co
     Ok(sum)
 }
 
-pub fn box_count(w: &Words, n: u32, low: [u32; 3], high: [u32; 3]) -> (u32, u64) {
-    answer(asked(w, n).and_then(|(d, p)| {
-        if (0..3).any(|a| low[a] > high[a] || high[a] as u64 > 1 << d) {
-            return Err(10);
-        }
-        box_under(w, d, p, low.map(u64::from), high.map(u64::from), &mut HashMap::new())
-    }))
+/// Box: how many solid voxels v have low <= v < high on each axis.
+pub fn box_count(w: &Words, n: u32, low: [u32; 3], high: [u32; 3]) -> Answer<u64> {
+    let (d, p) = asked(w, n)?;
+    need((0..3).all(|a| low[a] <= high[a]), 10, "low above high")?;
+    need((0..3).all(|a| high[a] as u64 <= 1 << d), 10, "box")?;
+    box_under(w, d, p, low.map(u64::from), high.map(u64::from), &mut HashMap::new())
 }
 
-pub fn kept(w: &Words, h: u32) -> (u32, u32) {
-    if !header_ok(w) {
-        return (2, 0);
-    }
-    if !depth_ok(h) {
-        return (10, 0);
-    }
-    (0, w[h as usize])
+/// Kept: 2 (header), 10.
+pub fn kept(w: &Words, h: u32) -> Answer<u32> {
+    need(header_ok(w), 2, "header")?;
+    need((2..=16).contains(&h), 10, "height")?;
+    Ok(w[h as usize])
 }
 
 // ---- outlines
 
-pub enum Tree {
+enum Tree {
     Leaf(u64),
     Node([Option<Box<Tree>>; 8]),
 }
 
 /// The record of a cell of height h at a position, and the position after it.
-fn read_record(file: &Bytes, h: u32, at: usize) -> Option<(Tree, usize)> {
+fn read_record(file: &Bytes, h: u32, at: usize) -> Answer<(Tree, usize)> {
     if h == 2 {
-        let eight = file.get(at..at + 8)?;
+        let eight = file.get(at..at + 8).ok_or(refused(6, "leaf cut"))?;
         let leaf = u64::from_be_bytes(eight.try_into().unwrap());
-        return if leaf == 0 { None } else { Some((Tree::Leaf(leaf), at + 8)) };
+        need(leaf != 0, 6, "leaf zero")?;
+        return Ok((Tree::Leaf(leaf), at + 8));
     }
-    let mask = *file.get(at)?;
-    if mask == 0 {
-        return None;
-    }
+    let mask = *file.get(at).ok_or(refused(6, "mask cut"))?;
+    need(mask != 0, 6, "mask zero")?;
     let mut next = at + 1;
     let mut children: [Option<Box<Tree>>; 8] = Default::default();
     for (i, child) in children.iter_mut().enumerate() {
@@ -360,28 +362,32 @@ fn read_record(file: &Bytes, h: u32, at: usize) -> Option<(Tree, usize)> {
             next = after;
         }
     }
-    Some((Tree::Node(children), next))
+    Ok((Tree::Node(children), next))
 }
 
 /// 3, 4, 5, 6, or the depth and the root.
-pub fn read_outline(file: &Bytes) -> Result<(u32, Option<Tree>), u32> {
-    if file.is_empty() || file[0] != 0x11 {
-        return Err(3);
-    }
-    if file.len() < 6 || u32::from_be_bytes(file[1..5].try_into().unwrap()) as usize != file.len() {
-        return Err(4);
-    }
-    let d = file[5] as u32;
-    if !depth_ok(d) {
-        return Err(5);
-    }
+fn read_outline(file: &Bytes) -> Answer<(u32, Option<Tree>)> {
+    let d = front(file, 0x11, 6)?;
     if file.len() == 6 {
         return Ok((d, None));
     }
-    match read_record(file, d, 6) {
-        Some((t, end)) if end == file.len() => Ok((d, Some(t))),
-        _ => Err(6),
-    }
+    let (root, end) = read_record(file, d, 6)?;
+    need(end == file.len(), 6, "bytes follow")?;
+    Ok((d, Some(root)))
+}
+
+/// The front of a file, outline or packed: 3, 4, 5, or the depth.
+fn front(file: &Bytes, version: u8, least: usize) -> Answer<u32> {
+    need(!file.is_empty(), 3, "empty")?;
+    need(file[0] == version, 3, "version")?;
+    need(file.len() >= least, 4, "short")?;
+    need(be(&file[1..5]) == file.len() as u64, 4, "length field")?;
+    need(depth_ok(file[5] as u32), 5, "depth")?;
+    Ok(file[5] as u32)
+}
+
+fn be(bytes: &Bytes) -> u64 {
+    bytes.iter().fold(0, |n, &b| n << 8 | b as u64)
 }
 
 // ---- adding
@@ -408,13 +414,12 @@ fn self_match(w: &Words, h: usize, n: usize, t: u32, known: &mut Selves) -> bool
 fn cells_match(w: &Words, h: usize, a: [u32; 8], b: [u32; 8], t: u32, known: &mut Selves) -> bool {
     (0..8).all(|i| {
         let (p, q) = (a[i], b[i ^ t as usize]);
-        (p == 0 && q == 0)
-            || (p != 0 && q != 0 && low29(p) == low29(q) && self_match(w, h - 1, low29(p) as usize - 1, tag(p) ^ tag(q) ^ t, known))
+        (p == 0 && q == 0) || (p != 0 && q != 0 && low29(p) == low29(q) && self_match(w, h - 1, number(p), tag(p) ^ tag(q) ^ t, known))
     })
 }
 
 /// A tree of height h added: its pointer, or 8.
-fn add_tree(w: &mut Words, h: usize, tree: &Tree, known: &mut Selves) -> Result<u32, u32> {
+fn add_tree(w: &mut Words, h: usize, tree: &Tree, known: &mut Selves) -> Answer<u32> {
     match tree {
         Tree::Leaf(leaf) => {
             for n in 0..w[2] as usize {
@@ -454,42 +459,33 @@ fn add_tree(w: &mut Words, h: usize, tree: &Tree, known: &mut Selves) -> Result<
     }
 }
 
-fn room(w: &Words, h: usize) -> Result<usize, u32> {
-    if w[h] < w[0] {
-        Ok(w[h] as usize)
-    } else {
-        Err(8)
-    }
+/// The next number at a height.
+fn room(w: &Words, h: usize) -> Answer<usize> {
+    need(w[h] < w[0], 8, if h == 2 { "leaves" } else { "cells" })?;
+    Ok(w[h] as usize)
 }
 
-/// Add: 2,3,4,5,6,7,8.
-pub fn add(w: &mut Words, file: &Bytes) -> (u32, u32) {
-    if !store_ok(w) {
-        return (2, 0);
-    }
-    let (d, tree) = match read_outline(file) {
-        Ok(r) => r,
-        Err(n) => return (n, 0),
-    };
-    if w[1] >= 64 {
-        return (7, 0);
-    }
+/// Add: 2,3,4,5,6,7,8; the scene's number.
+pub fn add(w: &mut Words, file: &Bytes) -> Answer<u32> {
+    whole_store(w)?;
+    let (d, tree) = read_outline(file)?;
+    need(w[1] < 64, 7, "scenes")?;
     let before = w.to_vec();
     let root = match &tree {
         None => Ok(0),
         Some(t) => add_tree(w, d as usize, t, &mut HashMap::new()),
     };
     match root {
-        Err(n) => {
+        Err(r) => {
             w.copy_from_slice(&before);
-            (n, 0)
+            Err(r)
         }
         Ok(p) => {
             let n = w[1];
             w[32 + 2 * n as usize] = d;
             w[33 + 2 * n as usize] = p;
             w[1] += 1;
-            (0, n)
+            Ok(n)
         }
     }
 }
@@ -507,7 +503,7 @@ fn record_length(w: &Words, h: usize, n: usize, known: &mut HashMap<(usize, usiz
     let mut sum = 1;
     for p in cell {
         if p != 0 {
-            sum += record_length(w, h - 1, low29(p) as usize - 1, known);
+            sum += record_length(w, h - 1, number(p), known);
         }
     }
     known.insert((h, n), sum);
@@ -517,7 +513,7 @@ fn record_length(w: &Words, h: usize, n: usize, known: &mut HashMap<(usize, usiz
 /// The record of what a pointer names, mirrored by t besides: child i of a mirrored cell is the mirrored child (i xor t).
 fn write_record(w: &Words, h: usize, p: u32, t: u32, out: &mut Vec<u8>) {
     let m = tag(p) ^ t;
-    let n = low29(p) as usize - 1;
+    let n = number(p);
     if h == 2 {
         out.extend(mirror_leaf(m, leaf_at(w, n)).to_be_bytes());
         return;
@@ -532,19 +528,14 @@ fn write_record(w: &Words, h: usize, p: u32, t: u32, out: &mut Vec<u8>) {
     }
 }
 
-/// Outline out: 2, 9, 12.
-pub fn outline_out(w: &Words, n: u32, out: &mut Bytes) -> (u32, u32) {
-    if !store_ok(w) {
-        return (2, 0);
-    }
-    if n >= w[1] {
-        return (9, 0);
-    }
+/// Outline out: 2, 9, 12; the length written.
+pub fn outline(w: &Words, n: u32, out: &mut Bytes) -> Answer<u32> {
+    whole_store(w)?;
+    need(n < w[1], 9, "scene")?;
     let (d, p) = scene(w, n as usize);
-    let length = 6 + if p == 0 { 0 } else { record_length(w, d as usize, low29(p) as usize - 1, &mut HashMap::new()) };
-    if length > out.len() as u128 || length > MAX_LENGTH as u128 {
-        return (12, 0);
-    }
+    let length = 6 + if p == 0 { 0 } else { record_length(w, d as usize, number(p), &mut HashMap::new()) };
+    need(length <= MAX_LENGTH, 12, "length field")?;
+    need(length <= out.len() as u128, 12, "output")?;
     let mut file = vec![0x11];
     file.extend((length as u32).to_be_bytes());
     file.push(d as u8);
@@ -552,7 +543,7 @@ pub fn outline_out(w: &Words, n: u32, out: &mut Bytes) -> (u32, u32) {
         write_record(w, d as usize, p, 0, &mut file);
     }
     out[..file.len()].copy_from_slice(&file);
-    (0, length as u32)
+    Ok(length as u32)
 }
 
 // ---- packing
@@ -570,11 +561,11 @@ fn packed_scene(w: &Words, d: usize, p: u32) -> Vec<u8> {
     if p != 0 {
         // from the root down: the cells of each height in their order
         let mut lists: HashMap<usize, Vec<usize>> = HashMap::new();
-        lists.insert(d, vec![low29(p) as usize - 1]);
+        lists.insert(d, vec![number(p)]);
         for h in (2..d).rev() {
             let mut popularity: HashMap<usize, u32> = HashMap::new();
             for &n in &lists[&(h + 1)] {
-                let named: HashSet<usize> = cell_at(w, h + 1, n).iter().filter(|&&q| q != 0).map(|&q| low29(q) as usize - 1).collect();
+                let named: HashSet<usize> = cell_at(w, h + 1, n).iter().filter(|&&q| q != 0).map(|&q| number(q)).collect();
                 for q in named {
                     *popularity.entry(q).or_insert(0) += 1;
                 }
@@ -603,7 +594,7 @@ fn packed_scene(w: &Words, d: usize, p: u32) -> Vec<u8> {
                     if q == 0 {
                         continue;
                     }
-                    let at = places[&(h - 1, low29(q) as usize - 1)];
+                    let at = places[&(h - 1, number(q))];
                     header |= (code(at) as u16) << (2 * i);
                     if code(at) == 1 {
                         rest.extend(((tag(q) as u16) << 13 | at as u16).to_be_bytes());
@@ -629,26 +620,18 @@ fn packed_scene(w: &Words, d: usize, p: u32) -> Vec<u8> {
     file
 }
 
-/// Pack: 2,9,11,12.
-pub fn pack(w: &Words, n: u32, scratch: &mut Words, out: &mut Bytes) -> (u32, u32) {
-    if !store_ok(w) {
-        return (2, 0);
-    }
-    if n >= w[1] {
-        return (9, 0);
-    }
-    let need = 60 * w[0] as usize;
-    if scratch.len() < need {
-        return (11, 0);
-    }
-    scratch[..need].fill(0);
+/// Pack: 2,9,11,12; the length written.
+pub fn pack(w: &Words, n: u32, scratch: &mut Words, out: &mut Bytes) -> Answer<u32> {
+    whole_store(w)?;
+    need(n < w[1], 9, "scene")?;
+    let size = 60 * w[0] as usize;
+    need(scratch.len() >= size, 11, "scratch")?;
+    scratch[..size].fill(0);
     let (d, p) = scene(w, n as usize);
     let file = packed_scene(w, d as usize, p);
-    if file.len() > out.len() {
-        return (12, 0);
-    }
+    need(file.len() <= out.len(), 12, "output")?;
     out[..file.len()].copy_from_slice(&file);
-    (0, file.len() as u32)
+    Ok(file.len() as u32)
 }
 
 // ---- packed bytes
@@ -666,23 +649,13 @@ struct Packed<'a> {
     root: u8,
 }
 
-fn be(bytes: &Bytes) -> u64 {
-    bytes.iter().fold(0, |n, &b| n << 8 | b as u64)
-}
+type Known = HashMap<(usize, u64, u32), bool>;
 
 impl<'a> Packed<'a> {
     /// 3, 4, 5, or the file by its first bytes.
-    fn front(file: &'a Bytes) -> Result<Packed<'a>, u32> {
-        if file.is_empty() || file[0] != 0x21 {
-            return Err(3);
-        }
-        if file.len() < 7 || be(&file[1..5]) != file.len() as u64 {
-            return Err(4);
-        }
-        if !depth_ok(file[5] as u32) {
-            return Err(5);
-        }
-        Ok(Packed { file, depth: file[5] as usize, root: file[6] })
+    fn front(file: &'a Bytes) -> Answer<Packed<'a>> {
+        let depth = front(file, 0x21, 7)? as usize;
+        Ok(Packed { file, depth, root: file[6] })
     }
 
     fn empty(&self) -> bool {
@@ -690,19 +663,15 @@ impl<'a> Packed<'a> {
     }
 
     /// Byte 6 (at most 8; 8 only at 7 bytes), and the sizes against the length.
-    fn head_ok(&self) -> bool {
-        if self.root > 8 {
-            return false;
-        }
+    fn head(&self) -> Answer<()> {
+        need(self.root <= 8, 6, "byte 6")?;
         if self.empty() {
-            return self.file.len() == 7;
+            return need(self.file.len() == 7, 6, "byte 6 is 8");
         }
-        let lists = self.depth - 1;
-        if self.file.len() < 7 + 4 * lists {
-            return false;
-        }
-        let body: u128 = (2..=self.depth).map(|h| self.size(h) as u128 * self.unit(h) as u128).sum();
-        7 + 4 * lists as u128 + body == self.file.len() as u128
+        let sizes = 4 * (self.depth - 1);
+        need(self.file.len() >= 7 + sizes, 6, "sizes cut")?;
+        let body: u64 = (2..=self.depth).map(|h| self.size(h) * self.unit(h)).sum();
+        need(7 + sizes as u64 + body == self.file.len() as u64, 6, "sizes")
     }
 
     fn unit(&self, h: usize) -> u64 {
@@ -727,22 +696,18 @@ impl<'a> Packed<'a> {
         &self.file[from..from + (self.size(h) * self.unit(h)) as usize]
     }
 
-    /// The eight links of the record at a place, and its half-words; none where header or room is broken.
-    fn record(&self, h: usize, place: u64) -> Option<([Link; 8], u64)> {
+    /// The eight links of the record at a place, and its half-words.
+    fn record(&self, h: usize, place: u64) -> Answer<([Link; 8], u64)> {
         let list = self.list(h);
         let at = 2 * place as usize;
-        let header = be(list.get(at..at + 2)?) as u32;
-        if header == 0 {
-            return None;
-        }
+        let header = be(list.get(at..at + 2).ok_or(refused(6, "header cut"))?) as u32;
+        need(header != 0, 6, "header zero")?;
+        need((0..8).all(|i| header >> (2 * i) & 3 != 3), 6, "code 3")?;
         let mut links = [Link::default(); 8];
         let mut next = at + 2;
         for (i, link) in links.iter_mut().enumerate() {
             let code = header >> (2 * i) & 3;
-            if code == 3 {
-                return None;
-            }
-            let v = be(list.get(next..next + 2 * code as usize)?) as u32;
+            let v = be(list.get(next..next + 2 * code as usize).ok_or(refused(6, "record cut"))?) as u32;
             next += 2 * code as usize;
             *link = match code {
                 0 => Link::default(),
@@ -750,7 +715,7 @@ impl<'a> Packed<'a> {
                 _ => Link { code, tag: v >> 29, place: v & 0x1fff_ffff },
             };
         }
-        Some((links, ((next - at) / 2) as u64))
+        Ok((links, ((next - at) / 2) as u64))
     }
 
     fn leaf(&self, n: u64) -> u64 {
@@ -758,33 +723,31 @@ impl<'a> Packed<'a> {
     }
 
     /// From the record at a place, seen under a mirror: solid, and the records read.
-    fn walk(&self, h: usize, place: u64, t: u32, v: Point) -> Result<(u32, u32), u32> {
+    fn walk(&self, h: usize, place: u64, t: u32, v: Point) -> Answer<(u32, u32)> {
         let edge = 1u64 << h;
         let v = mirror(t, edge, v);
         if h == 2 {
             // a leaf's room in its list: only the root of a file of depth 2 can miss it
-            if place >= self.size(2) || self.leaf(place) == 0 {
-                return Err(6);
-            }
+            need(place < self.size(2), 6, "no leaf")?;
+            need(self.leaf(place) != 0, 6, "leaf zero")?;
             return Ok((leaf_bit(self.leaf(place), v) as u32, 1));
         }
-        let (links, _) = self.record(h, place).ok_or(6u32)?;
+        let (links, _) = self.record(h, place)?;
         let (i, u) = child_of(edge, v);
         let link = links[i];
         if link.code == 0 {
             return Ok((0, 1));
         }
-        if link.place as u64 >= self.size(h - 1) || link.code != code(link.place) {
-            return Err(6);
-        }
+        need((link.place as u64) < self.size(h - 1), 6, "place outside")?;
+        need(link.code == code(link.place), 6, "width")?;
         let (solid, read) = self.walk(h - 1, link.place as u64, link.tag, u)?;
         Ok((solid, read + 1))
     }
 
-    /// The places at which records start; none where the list doesn't divide into whole records.
-    fn starts(&self, h: usize) -> Option<Vec<u64>> {
+    /// The places at which records start, where the list divides into whole records.
+    fn starts(&self, h: usize) -> Answer<Vec<u64>> {
         if h == 2 {
-            return Some((0..self.size(2)).collect());
+            return Ok((0..self.size(2)).collect());
         }
         let mut at = 0;
         let mut all = Vec::new();
@@ -793,10 +756,10 @@ impl<'a> Packed<'a> {
             all.push(at);
             at += halves;
         }
-        Some(all)
+        Ok(all)
     }
 
-    fn match_self(&self, h: usize, place: u64, t: u32, known: &mut HashMap<(usize, u64, u32), bool>) -> bool {
+    fn self_match(&self, h: usize, place: u64, t: u32, known: &mut Known) -> bool {
         if let Some(&b) = known.get(&(h, place, t)) {
             return b;
         }
@@ -805,7 +768,8 @@ impl<'a> Packed<'a> {
         b
     }
 
-    fn records_match(&self, h: usize, a: u64, b: u64, t: u32, known: &mut HashMap<(usize, u64, u32), bool>) -> bool {
+    /// The match rule for two records of height h.
+    fn records_match(&self, h: usize, a: u64, b: u64, t: u32, known: &mut Known) -> bool {
         if h == 2 {
             return self.leaf(a) == mirror_leaf(t, self.leaf(b));
         }
@@ -814,24 +778,29 @@ impl<'a> Packed<'a> {
         (0..8).all(|i| {
             let (x, y) = (p[i], q[i ^ t as usize]);
             (x.code == 0 && y.code == 0)
-                || (x.code != 0 && y.code != 0 && x.place == y.place && self.match_self(h - 1, x.place as u64, x.tag ^ y.tag ^ t, known))
+                || (x.code != 0 && y.code != 0 && x.place == y.place && self.self_match(h - 1, x.place as u64, x.tag ^ y.tag ^ t, known))
         })
     }
 
-    fn proper(&self) -> bool {
-        self.head_ok() && (self.empty() || self.rules().is_some())
+    /// Is this tag the lowest with the same meaning?
+    fn lowest(&self, h: usize, place: u64, tag: u32, known: &mut Known) -> bool {
+        !(0..tag).any(|u| self.self_match(h, place, u ^ tag, known))
     }
 
-    fn rules(&self) -> Option<()> {
-        let need = |b: bool| if b { Some(()) } else { None };
+    /// A file is proper when: the rules in the page's order.
+    fn proper(&self) -> Answer<()> {
+        self.head()?;
+        if self.empty() {
+            return Ok(());
+        }
         let mut starts: HashMap<usize, Vec<u64>> = HashMap::new();
         for h in 2..=self.depth {
             starts.insert(h, self.starts(h)?);
         }
-        need(starts[&self.depth].len() == 1)?;
-        for &n in &starts[&2] {
-            need(self.leaf(n) != 0)?;
-        }
+        need(starts[&self.depth].len() == 1, 6, "one record on top")?;
+        need(starts[&2].iter().all(|&n| self.leaf(n) != 0), 6, "leaf zero")?;
+
+        // how many records one height up name a record
         let mut named: HashMap<(usize, u64), u32> = HashMap::new();
         for h in 3..=self.depth {
             let below: HashSet<u64> = starts[&(h - 1)].iter().copied().collect();
@@ -839,7 +808,8 @@ impl<'a> Packed<'a> {
                 let (links, _) = self.record(h, s)?;
                 let mut once = HashSet::new();
                 for l in links.iter().filter(|l| l.code != 0) {
-                    need(below.contains(&(l.place as u64)) && l.code == code(l.place))?;
+                    need(below.contains(&(l.place as u64)), 6, "names no start")?;
+                    need(l.code == code(l.place), 6, "width")?;
                     once.insert(l.place as u64);
                 }
                 for place in once {
@@ -847,126 +817,107 @@ impl<'a> Packed<'a> {
                 }
             }
         }
+        for h in 2..self.depth {
+            need(starts[&h].iter().all(|&s| named.contains_key(&(h, s))), 6, "not named")?;
+        }
+
         let mut known = HashMap::new();
         for h in 2..=self.depth {
             let list = &starts[&h];
             for i in 0..list.len() {
                 for j in 0..i {
                     for t in 0..8 {
-                        need(!self.records_match(h, list[i], list[j], t, &mut known))?;
+                        let clause = if h == 2 { "two leaves match" } else { "two cells match" };
+                        need(!self.records_match(h, list[i], list[j], t, &mut known), 6, clause)?;
                     }
                 }
             }
         }
-        let mut low = |h: usize, place: u64, tag: u32| (0..tag).all(|u| !self.match_self(h, place, u ^ tag, &mut known));
         for h in 3..=self.depth {
             for &s in &starts[&h] {
                 let (links, _) = self.record(h, s)?;
                 for l in links.iter().filter(|l| l.code != 0) {
-                    need(low(h - 1, l.place as u64, l.tag))?;
+                    need(self.lowest(h - 1, l.place as u64, l.tag, &mut known), 6, "tag not lowest")?;
                 }
             }
         }
-        need(low(self.depth, 0, self.root as u32))?;
+        need(self.lowest(self.depth, 0, self.root as u32, &mut known), 6, "root's tag not lowest")?;
         for h in 2..self.depth {
-            let counts: Vec<u32> = starts[&h].iter().map(|&s| named.get(&(h, s)).copied().unwrap_or(0)).collect();
-            need(counts.iter().all(|&c| c > 0))?;
-            need(counts.windows(2).all(|p| p[0] >= p[1]))?;
+            let counts: Vec<u32> = starts[&h].iter().map(|&s| named[&(h, s)]).collect();
+            need(counts.windows(2).all(|p| p[0] >= p[1]), 6, "order rises")?;
         }
-        Some(())
+        Ok(())
     }
 }
 
-/// Packed check: 11,3,4,5,6.
-pub fn check(file: &Bytes, scratch: &mut Bytes) -> (u32, u32) {
-    if scratch.len() < file.len() {
-        return (11, 0);
-    }
-    let p = match Packed::front(file) {
-        Ok(p) => p,
-        Err(n) => return (n, 0),
-    };
+/// Packed check: 11,3,4,5,6; the depth.
+pub fn check(file: &Bytes, scratch: &mut Bytes) -> Answer<u32> {
+    need(scratch.len() >= file.len(), 11, "scratch")?;
+    let p = Packed::front(file)?;
     scratch[..file.len()].fill(0);
-    if p.proper() {
-        (0, p.depth as u32)
-    } else {
-        (6, 0)
-    }
+    p.proper()?;
+    Ok(p.depth as u32)
 }
 
-fn packed_answer(file: &Bytes, x: u32, y: u32, z: u32) -> Result<(u32, u32), u32> {
+/// Packed voxel: 3,4,5,10,6; solid, records read.
+pub fn packed_voxel(file: &Bytes, x: u32, y: u32, z: u32) -> Answer<(u32, u32)> {
     let p = Packed::front(file)?;
     let v = [x as u64, y as u64, z as u64];
-    if v.iter().any(|&c| c >= 1 << p.depth) {
-        return Err(10);
-    }
-    if !p.head_ok() {
-        return Err(6);
-    }
+    need(v.iter().all(|&c| c < 1 << p.depth), 10, "point")?;
+    p.head()?;
     if p.empty() {
         return Ok((0, 0));
     }
     p.walk(p.depth, 0, p.root as u32, v)
 }
 
-/// Packed voxel: 3,4,5,10,6; solid, records read.
-pub fn packed_voxel(file: &Bytes, x: u32, y: u32, z: u32) -> (u32, (u32, u32)) {
-    answer(packed_answer(file, x, y, z))
+/// Opening: 3,4,5,6; the numbers of the header: depth, then list starts by height, 0 above the depth and for an empty scene.
+fn header(file: &Bytes) -> Answer<[u32; 16]> {
+    let p = Packed::front(file)?;
+    p.head()?;
+    let mut numbers = [0; 16];
+    numbers[0] = p.depth as u32;
+    if !p.empty() {
+        for h in 2..=p.depth {
+            numbers[h - 1] = p.start(h) as u32;
+        }
+    }
+    Ok(numbers)
 }
 
-/// Opening: 3,4,5,6; depth and list starts (starts[k]: height k + 2, 0 above the depth and for an empty scene).
-pub fn open(file: &Bytes) -> (u32, (u32, [u32; 15])) {
-    answer(Packed::front(file).and_then(|p| {
-        if !p.head_ok() {
-            return Err(6);
-        }
-        let mut starts = [0; 15];
-        if !p.empty() {
-            for h in 2..=p.depth {
-                starts[h - 2] = p.start(h) as u32;
-            }
-        }
-        Ok((p.depth as u32, starts))
-    }))
+/// Opening, the numbers written: 12 for fewer than 16 comes after the page's refusals.
+pub fn open(file: &Bytes, numbers: &mut Words) -> Answer<()> {
+    let found = header(file)?;
+    need(numbers.len() >= 16, 12, "numbers")?;
+    numbers[..16].copy_from_slice(&found);
+    Ok(())
 }
 
 /// A question on an opened scene: 6 (its bytes don't open to its numbers), then as packed voxel.
-pub fn ask(file: &Bytes, depth: u32, starts: [u32; 15], x: u32, y: u32, z: u32) -> (u32, (u32, u32)) {
-    if open(file) != (0, (depth, starts)) {
-        return (6, (0, 0));
-    }
+pub fn ask(file: &Bytes, numbers: &Words, x: u32, y: u32, z: u32) -> Answer<(u32, u32)> {
+    need(numbers.len() >= 16, 6, "numbers")?;
+    let found = header(file).map_err(|_| refused(6, "doesn't open"))?;
+    need(found == numbers[..16], 6, "other numbers")?;
     packed_voxel(file, x, y, z)
 }
 
 // ---- detail
 
-pub enum Wish {
-    EveryVoxel,
-    WidestEdge(f64),
-    Distance(f64, f64),
-}
-
-/// Detail: 5,13. In these ranges a power of two times a factor is exact.
-pub fn detail(depth: u32, wish: Wish) -> (u32, u32) {
-    if !depth_ok(depth) {
-        return (5, 0);
+/// Detail: 5,13; the height. Kind 0 is every voxel, 1 a widest edge a, 2 a distance a with its factor b; another is no wish. A
+/// power of two up to 2^16 times a factor in its range is exact in f64.
+pub fn detail(depth: u32, kind: u32, a: f64, b: f64) -> Answer<u32> {
+    need(depth_ok(depth), 5, "depth")?;
+    need(kind <= 2, 13, "kind")?;
+    let (two30, two40) = ((1u64 << 30) as f64, (1u64 << 40) as f64);
+    let powers = || (0..=depth).map(|h| (h, (1u64 << h) as f64));
+    if kind == 1 {
+        need((1.0..=two40).contains(&a), 13, "edge")?;
+        return Ok(powers().filter(|&(_, s)| s <= a).map(|(h, _)| h).max().unwrap());
     }
-    let two40 = (1u64 << 40) as f64;
-    let two30 = (1u64 << 30) as f64;
-    let greatest = |fits: &dyn Fn(f64) -> bool| (0..=depth).filter(|&h| fits((1u64 << h) as f64)).max().unwrap_or(0);
-    match wish {
-        Wish::EveryVoxel => (0, 0),
-        Wish::WidestEdge(e) => {
-            if !(1.0..=two40).contains(&e) {
-                return (13, 0);
-            }
-            (0, greatest(&|s| s <= e))
-        }
-        Wish::Distance(far, factor) => {
-            if !(0.0..=two40).contains(&far) || !(1.0 / two30..=two30).contains(&factor) {
-                return (13, 0);
-            }
-            (0, greatest(&|s| s * factor <= far))
-        }
+    if kind == 2 {
+        need((0.0..=two40).contains(&a), 13, "distance")?;
+        need((1.0 / two30..=two30).contains(&b), 13, "factor")?;
+        return Ok(powers().filter(|&(_, s)| s * b <= a).map(|(h, _)| h).max().unwrap_or(0));
     }
+    Ok(0)
 }

@@ -1,0 +1,413 @@
+//! The tables: sizes, ratios with their goals, the check's growth, what damage tests and the search for equal cells take.
+use crate::growth::{KINDS, SIZES};
+use crate::measure::Results;
+
+/// What was measured: by the clock, and by instructions.
+pub struct Measured {
+    pub times: Results,
+    pub counts: Results,
+    pub rooms: Vec<String>,
+}
+
+/// A ratio for one room, by instructions or, where these weren't counted, by the clock.
+#[derive(Clone, Copy)]
+pub struct Ratio {
+    pub value: f64,
+    pub counted: bool,
+}
+
+/// A row of ratios, and the goal for a room where there is one.
+pub struct Row {
+    pub name: &'static str,
+    pub of: fn(&Measured, &str) -> Option<Ratio>,
+    pub time: fn(&Measured, &str) -> Option<f64>,
+    pub goal: fn(&str) -> Option<f64>,
+}
+
+impl Measured {
+    fn get(results: &Results, item: &str, room: &str, who: &str) -> Option<f64> {
+        let key = (item.to_string(), room.to_string(), who.to_string());
+        results
+            .get(&key)
+            .map(|&(questions, sum)| sum / questions as f64)
+    }
+
+    /// A number that isn't measured.
+    pub fn told(&self, item: &str, room: &str, who: &str) -> Option<f64> {
+        Self::get(&self.times, item, room, who)
+    }
+
+    /// Instructions a question, the loop's own taken off.
+    pub fn instructions(&self, item: &str, room: &str, who: &str) -> Option<f64> {
+        let all = Self::get(&self.counts, item, room, who)?;
+        let asked = ["voxel", "cell", "opened question", "packed voxel"];
+        let single = asked
+            .iter()
+            .any(|kind| item.split(',').next() == Some(kind));
+        let own = if single {
+            Self::get(&self.counts, "loop, uniform", room, "loop")?
+        } else {
+            0.0
+        };
+        Some(all - own)
+    }
+
+    fn by_time(&self, (a, b): (&str, &str), (c, d): (&str, &str), room: &str) -> Option<f64> {
+        Some(self.told(a, room, b)? / self.told(c, room, d)?)
+    }
+
+    fn ratio(&self, (a, b): (&str, &str), (c, d): (&str, &str), room: &str) -> Option<Ratio> {
+        let counted = self
+            .instructions(a, room, b)
+            .zip(self.instructions(c, room, d));
+        if let Some((over, under)) = counted {
+            return Some(Ratio {
+                value: over / under,
+                counted: true,
+            });
+        }
+        let value = self.by_time((a, b), (c, d), room)?;
+        Some(Ratio {
+            value,
+            counted: false,
+        })
+    }
+}
+
+/// A row of one piece of work over another.
+macro_rules! row {
+    ($name:expr, $over:expr, $under:expr, $goal:expr) => {
+        Row {
+            name: $name,
+            of: |all, room| all.ratio($over, $under, room),
+            time: |all, room| all.by_time($over, $under, room),
+            goal: $goal,
+        }
+    };
+}
+
+/// A row of the store's work over the plain graph's.
+macro_rules! beside_graph {
+    ($item:expr, $base:expr, $goal:expr) => {
+        row!($item, ($item, "store"), ($base, "graph"), $goal)
+    };
+}
+
+pub fn rows() -> Vec<Row> {
+    vec![
+        beside_graph!("voxel, uniform", "voxel, uniform", |_| Some(3.0)),
+        beside_graph!("voxel, near surfaces", "voxel, near surfaces", |_| Some(
+            3.0
+        )),
+        beside_graph!("packed voxel, uniform", "voxel, uniform", |_| Some(2.5)),
+        beside_graph!(
+            "packed voxel, near surfaces",
+            "voxel, near surfaces",
+            |_| Some(2.5)
+        ),
+        beside_graph!("opened question, uniform", "voxel, uniform", |_| None),
+        beside_graph!(
+            "opened question, near surfaces",
+            "voxel, near surfaces",
+            |_| None
+        ),
+        beside_graph!("cell", "cell", |_| None),
+        beside_graph!("small box, uniform", "small box, uniform", |_| Some(2.5)),
+        beside_graph!(
+            "small box, near surfaces",
+            "small box, near surfaces",
+            |_| Some(2.5)
+        ),
+        beside_graph!("large box", "large box", |_| None),
+        beside_graph!("whole room's box", "whole room's box", |_| Some(1.0)),
+        beside_graph!("outline out", "outline out", |_| None),
+        beside_graph!("add", "add", |_| None),
+        row!("pack / add", ("pack", "store"), ("add", "store"), |_| Some(
+            1.0
+        )),
+        row!(
+            "check / pack",
+            ("check", "store"),
+            ("pack", "store"),
+            |room| { room.contains("d9-n20").then_some(20.0) }
+        ),
+        Row {
+            name: "packed bytes / graph's bytes",
+            of: |all, room| {
+                let packed = all.told("packed bytes", room, "store")?;
+                let value = packed / all.told("bytes", room, "graph")?;
+                Some(Ratio {
+                    value,
+                    counted: true,
+                })
+            },
+            time: |_, _| None,
+            goal: |room| match room {
+                "plant-d9-n0" => Some(0.35),
+                "plant-d9-n20" => Some(0.57),
+                _ => None,
+            },
+        },
+    ]
+}
+
+/// A number with three digits or so.
+pub fn short(value: f64) -> String {
+    match value {
+        v if v >= 1e10 => format!("{:.0} G", v / 1e9),
+        v if v >= 1e7 => format!("{:.0} M", v / 1e6),
+        v if v >= 1e4 => format!("{:.0} k", v / 1e3),
+        v if v >= 100.0 => format!("{v:.0}"),
+        v if v >= 10.0 => format!("{v:.1}"),
+        v if v >= 0.1 => format!("{v:.2}"),
+        v => format!("{v:.4}"),
+    }
+}
+
+fn cell(value: Option<f64>) -> String {
+    value.map_or("-".to_string(), short)
+}
+
+fn print_row(fields: impl IntoIterator<Item = String>) {
+    println!("| {} |", fields.into_iter().collect::<Vec<_>>().join(" | "));
+}
+
+fn print_head(fields: &[&str]) {
+    print_row(fields.iter().map(|field| field.to_string()));
+    print_row(fields.iter().map(|_| "---".to_string()));
+}
+
+pub fn print(all: &Measured) {
+    println!("Buffers lent to the store (its words, scratch, output) are written with zeros before each measured call; the plain");
+    println!("structures allocate within theirs. Times are processor time of the thread, the fastest of five rounds (one above 0.5 s).");
+    println!("Instructions are callgrind's, the loop's own taken off. All answers were compared and agree.");
+    sizes(all);
+    ratios(all);
+    for room in &all.rooms {
+        questions(all, room);
+    }
+    whole_calls(all);
+    growth(all);
+    shares(all);
+}
+
+fn sizes(all: &Measured) {
+    println!("\n## Sizes\n");
+    println!("Cells: kept with images once (store), with equal cells once (graph), without sharing (octree). Bytes: 8 a leaf, 32 an inner cell.\n");
+    print_head(&[
+        "room",
+        "solid voxels",
+        "cells: store",
+        "graph",
+        "octree",
+        "bytes: store",
+        "graph",
+        "octree",
+        "bitmap",
+        "capacity",
+        "packed bytes",
+        "of the graph's",
+        "bits a solid voxel",
+    ]);
+    for room in &all.rooms {
+        let told = |item, who| all.told(item, room, who);
+        let whole = |value: Option<f64>| value.map_or("-".to_string(), |v| format!("{v:.0}"));
+        let packed = told("packed bytes", "store");
+        let solid = told("solid voxels", "room");
+        let part = packed
+            .zip(told("bytes", "graph"))
+            .map(|(a, b)| format!("{:.1} %", 100.0 * a / b));
+        let bits = packed.zip(solid).map(|(a, b)| 8.0 * a / b);
+        print_row([
+            room.clone(),
+            whole(solid),
+            whole(told("cells kept", "store")),
+            whole(told("cells kept", "graph")),
+            whole(told("cells kept", "octree")),
+            whole(told("bytes", "store")),
+            whole(told("bytes", "graph")),
+            whole(told("bytes", "octree")),
+            whole(told("bytes", "bitmap")),
+            whole(told("capacity", "store")),
+            whole(packed),
+            part.unwrap_or("-".to_string()),
+            cell(bits),
+        ]);
+    }
+}
+
+fn ratios(all: &Measured) {
+    println!("\n## Ratios: the store over the plain graph, by instructions (in brackets by time; * by time alone)\n");
+    let mut head = vec!["question", "goal"];
+    head.extend(all.rooms.iter().map(String::as_str));
+    print_head(&head);
+    for row in rows() {
+        let goals: Vec<f64> = all
+            .rooms
+            .iter()
+            .filter_map(|room| (row.goal)(room))
+            .collect();
+        let mut fields = vec![row.name.to_string()];
+        let mut texts: Vec<String> = goals.iter().map(|goal| short(*goal)).collect();
+        texts.dedup();
+        fields.push(if texts.is_empty() {
+            "-".to_string()
+        } else {
+            texts.join(", ")
+        });
+        for room in &all.rooms {
+            let Some(ratio) = (row.of)(all, room) else {
+                fields.push("-".to_string());
+                continue;
+            };
+            let time = (row.time)(all, room).filter(|_| ratio.counted);
+            let time = time.map_or(String::new(), |time| format!(" ({})", short(time)));
+            let star = if ratio.counted { "" } else { "*" };
+            let over = (row.goal)(room).is_some_and(|goal| ratio.value > goal);
+            let mark = if over { " over" } else { "" };
+            fields.push(format!("{}{star}{time}{mark}", short(ratio.value)));
+        }
+        print_row(fields);
+    }
+}
+
+fn questions(all: &Measured, room: &str) {
+    println!("\n## {room}: a question's instructions, and nanoseconds\n");
+    print_head(&["question", "store", "graph", "octree", "bitmap"]);
+    let items = [
+        ("voxel, uniform", "voxel, uniform"),
+        ("voxel, near surfaces", "voxel, near surfaces"),
+        ("packed voxel, uniform", "voxel, uniform"),
+        ("packed voxel, near surfaces", "voxel, near surfaces"),
+        ("opened question, uniform", "voxel, uniform"),
+        ("opened question, near surfaces", "voxel, near surfaces"),
+        ("cell", "cell"),
+        ("small box, uniform", "small box, uniform"),
+        ("small box, near surfaces", "small box, near surfaces"),
+        ("large box", "large box"),
+        ("whole room's box", "whole room's box"),
+    ];
+    for (item, base) in items {
+        let mut fields = vec![item.to_string()];
+        for (item, who) in [
+            (item, "store"),
+            (base, "graph"),
+            (base, "octree"),
+            (base, "bitmap"),
+        ] {
+            let count = all.instructions(item, room, who);
+            let time = all.told(item, room, who);
+            fields.push(format!("{}, {} ns", cell(count), cell(time)));
+        }
+        print_row(fields);
+    }
+}
+
+fn whole_calls(all: &Measured) {
+    println!("\n## Calls on a whole room: microseconds, and instructions where counted\n");
+    let mut head = vec!["call"];
+    head.extend(all.rooms.iter().map(String::as_str));
+    print_head(&head);
+    let calls = [
+        ("add", "store"),
+        ("add", "graph"),
+        ("add", "octree"),
+        ("add", "bitmap"),
+        ("outline out", "store"),
+        ("outline out", "graph"),
+        ("outline out", "octree"),
+        ("outline out", "bitmap"),
+        ("pack", "store"),
+        ("pack", "graph"),
+        ("check", "store"),
+    ];
+    for (item, who) in calls {
+        let mut fields = vec![format!("{item}, {who}")];
+        for room in &all.rooms {
+            let time = all.told(item, room, who).map(|time| time / 1000.0);
+            let count = all.instructions(item, room, who);
+            let count = count.map_or(String::new(), |count| format!(", {}", short(count)));
+            fields.push(format!("{}{count}", cell(time)));
+        }
+        print_row(fields);
+    }
+}
+
+fn growth(all: &Measured) {
+    println!("\n## Check: work a record as files grow, instructions (microseconds); a step's growth over ten times n log n\n");
+    let mut head = vec!["file".to_string()];
+    head.extend(SIZES.iter().map(|size| format!("{size} records")));
+    head.extend(
+        SIZES
+            .windows(2)
+            .map(|step| format!("{} to {}", step[0], step[1])),
+    );
+    print_head(&head.iter().map(String::as_str).collect::<Vec<_>>());
+    for (kind, _) in KINDS {
+        let rooms = SIZES.map(|size| format!("{kind} {size}"));
+        let records = |room: &str| all.told("records", room, "room");
+        let mut fields = vec![kind.to_string()];
+        for room in &rooms {
+            let each = |sum: Option<f64>| sum.zip(records(room)).map(|(sum, n)| sum / n);
+            let count = each(all.instructions("check", room, "store"));
+            let time = each(all.told("check", room, "store")).map(|time| time / 1000.0);
+            fields.push(match time {
+                Some(time) => format!("{} ({time:.2})", cell(count)),
+                None => "left out: too long".to_string(),
+            });
+        }
+        for step in rooms.windows(2) {
+            let work = |room: &str| {
+                let n = records(room)?;
+                let counted = all.instructions("check", room, "store");
+                let sum = counted.or(all.told("check", room, "store"))?;
+                Some(sum / (n * n.log2()))
+            };
+            fields.push(cell(work(&step[1]).zip(work(&step[0])).map(|(b, a)| b / a)));
+        }
+        print_row(fields);
+    }
+}
+
+fn shares(all: &Measured) {
+    println!(
+        "\n## What damage tests take of a voxel question near surfaces, and the search of adding\n"
+    );
+    println!("Header: instructions of a question on a scene that isn't there, which tests the header and refuses. The walk's tests: the same");
+    println!("walk in Rust over the same words, with all damage tests and without. Search: what adding takes more than adding the same");
+    println!("records with every leaf full, where few cells are kept.\n");
+    print_head(&[
+        "room",
+        "voxel",
+        "header tests",
+        "in Rust with tests",
+        "without",
+        "tests' share in Rust",
+        "search's share of adding",
+    ]);
+    for room in &all.rooms {
+        let item = "voxel, near surfaces";
+        let count = |who| all.instructions(item, room, who);
+        let (with, without) = (count("twin"), count("twin without tests"));
+        let part = |with: Option<f64>, without: Option<f64>| {
+            let share = with
+                .zip(without)
+                .map(|(a, b)| format!("{:.0} %", 100.0 * (1.0 - b / a)));
+            share.unwrap_or("-".to_string())
+        };
+        let add = |who| {
+            let both = all.instructions("add", room, "store").is_some();
+            let counted = all.instructions("add", room, who).filter(|_| both);
+            counted.or(all.told("add", room, who))
+        };
+        print_row([
+            room.clone(),
+            cell(count("store")),
+            cell(count("no such scene")),
+            cell(with),
+            cell(without),
+            part(with, without),
+            part(add("store"), add("equal leaves")),
+        ]);
+    }
+}

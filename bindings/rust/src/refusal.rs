@@ -1,0 +1,90 @@
+//! The refusals of document 01's table.
+
+use std::error::Error;
+use std::fmt;
+
+/// Why a call was refused; its number in the table is `number()`.
+#[derive(Clone, Copy, Debug, PartialEq, Eq, Hash)]
+#[repr(u32)]
+pub enum Refusal {
+    /// New store: capacity out of range or too few words.
+    BadSize = 1,
+    /// Damaged store.
+    DamagedStore = 2,
+    /// File empty or wrong version byte.
+    BadVersion = 3,
+    /// Outline under 6 bytes, packed under 7, or length field not the slice's length.
+    BadLength = 4,
+    /// Depth not 2 to 16.
+    BadDepth = 5,
+    /// A record or list breaks its file's rules.
+    BrokenRules = 6,
+    /// 64 scenes held.
+    ScenesFull = 7,
+    /// A height would keep more cells than the capacity.
+    CellsFull = 8,
+    /// No such scene.
+    NoScene = 9,
+    /// Point, height or box outside, or low above high.
+    Outside = 10,
+    /// Scratch too short.
+    ScratchShort = 11,
+    /// Output too short.
+    OutputShort = 12,
+    /// Wish out of range, NaN or infinite.
+    BadWish = 13,
+}
+
+impl Refusal {
+    /// All thirteen, by number.
+    pub const ALL: [Refusal; 13] = [
+        Refusal::BadSize,
+        Refusal::DamagedStore,
+        Refusal::BadVersion,
+        Refusal::BadLength,
+        Refusal::BadDepth,
+        Refusal::BrokenRules,
+        Refusal::ScenesFull,
+        Refusal::CellsFull,
+        Refusal::NoScene,
+        Refusal::Outside,
+        Refusal::ScratchShort,
+        Refusal::OutputShort,
+        Refusal::BadWish,
+    ];
+
+    /// Its number in the table, 1 to 13.
+    pub fn number(self) -> u32 {
+        self as u32
+    }
+}
+
+impl fmt::Display for Refusal {
+    fn fmt(&self, f: &mut fmt::Formatter<'_>) -> fmt::Result {
+        f.write_str(match self {
+            Refusal::BadSize => "new store: capacity out of range or too few words",
+            Refusal::DamagedStore => "damaged store",
+            Refusal::BadVersion => "file empty or wrong version byte",
+            Refusal::BadLength => "outline under 6 bytes, packed under 7, or length field not the slice's length",
+            Refusal::BadDepth => "depth not 2 to 16",
+            Refusal::BrokenRules => "a record or list breaks its file's rules",
+            Refusal::ScenesFull => "64 scenes held",
+            Refusal::CellsFull => "a height would keep more cells than the capacity",
+            Refusal::NoScene => "no such scene",
+            Refusal::Outside => "point, height or box outside, or low above high",
+            Refusal::ScratchShort => "scratch too short",
+            Refusal::OutputShort => "output too short",
+            Refusal::BadWish => "wish out of range, NaN or infinite",
+        })
+    }
+}
+
+impl Error for Refusal {}
+
+/// The value where the number is 0, else the refusal of that number.
+pub(crate) fn accepted<T>(number: u32, value: T) -> Result<T, Refusal> {
+    if number == 0 {
+        return Ok(value);
+    }
+    Err(Refusal::ALL[number as usize - 1])
+}

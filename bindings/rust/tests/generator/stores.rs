@@ -1,0 +1,208 @@
+//! Stores that no call wrote: put together by hand, damaged, of noise. And what a test has to know of a store to ask it well.
+
+use super::Random;
+
+pub fn used(capacity: usize) -> usize {
+    160 + 114 * capacity
+}
+
+fn place(capacity: usize, height: usize, n: usize) -> usize {
+    match height {
+        2 => 160 + 2 * n,
+        _ => 160 + 2 * capacity + 8 * capacity * (height - 3) + 8 * n,
+    }
+}
+
+/// A pointer to one of so many cells, or none.
+fn pointer(random: &mut Random, count: u32) -> u32 {
+    match count {
+        0 => 0,
+        _ => random.mirror() << 29 | (random.below(count as usize) as u32 + 1),
+    }
+}
+
+/// A store with cells, tags and scenes as they come: undamaged, but for what chance leaves empty.
+pub fn by_hand(random: &mut Random, capacity: usize, spare: usize) -> Vec<u32> {
+    let mut w = vec![0; used(capacity)];
+    w[0] = capacity as u32;
+    let most = if random.once_in(4) { 16 } else { 7 };
+    let top = random.from_to(2, most);
+    let many = random.from_to(1, if top > 7 { 3 } else { 6 });
+    let alike = random.once_in(3);
+    for h in 2..=top {
+        let count = random.from_to(1, capacity);
+        w[h] = count as u32;
+        for n in 0..count {
+            let at = place(capacity, h, n);
+            if h == 2 {
+                let leaf = if alike { random.pick(&[1, 8, 0x8001, 0x1008, u64::MAX]) } else { random.next() };
+                w[at] = (leaf >> 32) as u32;
+                w[at + 1] = leaf as u32;
+            } else {
+                for _ in 0..random.from_to(1, many) {
+                    let i = random.below(8);
+                    w[at + i] = pointer(random, w[h - 1]);
+                }
+                if random.once_in(40) {
+                    // a full cell of one child
+                    let p = pointer(random, w[h - 1]);
+                    w[at..at + 8].fill(p);
+                }
+            }
+        }
+    }
+    let held = if random.once_in(10) { random.from_to(0, 64) } else { random.from_to(1, 6) };
+    w[1] = held as u32;
+    for n in 0..held {
+        let depth = random.from_to(2, 16.min(top + 1));
+        w[32 + 2 * n] = depth as u32;
+        w[33 + 2 * n] = if random.once_in(8) { 0 } else { pointer(random, w[depth]) };
+    }
+    let spare = random.words(spare);
+    w.extend(spare);
+    w
+}
+
+/// A full room of depth 16 under each of a few mirrors, one cell a height.
+pub fn full_by_hand(random: &mut Random) -> Vec<u32> {
+    let mut w = vec![0; used(1)];
+    w[0] = 1;
+    w[1] = 3;
+    for n in 0..3 {
+        w[32 + 2 * n] = 16 - n as u32;
+        w[33 + 2 * n] = random.mirror() << 29 | 1;
+    }
+    w[2] = 1;
+    w[160..162].fill(u32::MAX);
+    for h in 3..=16 {
+        w[h] = 1;
+        for i in 0..8 {
+            w[place(1, h, 0) + i] = random.mirror() << 29 | 1;
+        }
+    }
+    w
+}
+
+/// One word of a store changed; answers its position.
+pub fn damage(random: &mut Random, w: &mut [u32]) -> usize {
+    let capacity = (w[0] as usize).min(w.len() / 114);
+    let at = match random.below(24) {
+        0 => random.below(32),
+        1 => random.from_to(1, 16),
+        2..=4 => random.from_to(32, 43),
+        5 => random.from_to(32, 159),
+        6 | 7 => random.from_to(160, 160 + 2 * capacity - 1),
+        8..=20 => {
+            // a word of a kept cell, where there is one
+            let h = random.from_to(3, 9);
+            let count = (w[h] as usize).min(capacity);
+            place(capacity, h, random.below(count.max(1))) + random.below(8)
+        }
+        _ => random.below(w.len()),
+    };
+    let at = at.min(w.len() - 1);
+    w[at] = match random.below(9) {
+        0 => 0,
+        1 => w[at].wrapping_add(1),
+        2 => w[at].wrapping_sub(1),
+        3 => w[at] ^ random.mirror() << 29,
+        4 => random.mirror() << 29,
+        5 => random.word(),
+        6 => random.mirror() << 29 | (random.from_to(1, capacity + 2) as u32),
+        7 => random.pick(&[1, 2, 16, 17, 64, 65, 65_536, 65_537, u32::MAX, 1 << 29, (1 << 29) - 1]),
+        _ => w[at] ^ 1 << random.below(32),
+    };
+    at
+}
+
+/// A kept cell's words, or a leaf's, made zero.
+pub fn empty_a_cell(random: &mut Random, w: &mut [u32]) {
+    let capacity = w[0] as usize;
+    let height = if random.once_in(3) { 2 } else { random.from_to(3, 6) };
+    if w[height] > 0 && w[height] <= w[0] {
+        let at = place(capacity, height, random.below(w[height] as usize));
+        let size = if height == 2 { 2 } else { 8 };
+        w[at..at + size].fill(0);
+    }
+}
+
+/// Words of noise, some with a header that looks right.
+pub fn noise(random: &mut Random) -> Vec<u32> {
+    let capacity = random.from_to(1, 4);
+    let length = match random.below(12) {
+        0 => random.below(200),
+        1 => used(capacity) - 1,
+        _ => used(capacity) + random.below(3),
+    };
+    let mut w = random.words(length);
+    if !random.once_in(8) && length > 32 {
+        w[0] = capacity as u32;
+        w[1] = random.below(65) as u32;
+        for h in 2..=16 {
+            w[h] = random.below(capacity + 1) as u32;
+        }
+        w[17..32].fill(0);
+        // scenes that look right, over cells of noise or of small numbers
+        for n in 0..64.min((length - 32) / 2) {
+            if random.once_in(2) {
+                w[32 + 2 * n] = random.from_to(2, 16) as u32;
+                w[33 + 2 * n] = random.mirror() << 29 | random.from_to(0, 2) as u32;
+            }
+        }
+        if random.once_in(2) {
+            for word in w[160.min(length)..].iter_mut() {
+                *word = random.mirror() << 29 | random.below(capacity + 1) as u32;
+                if *word & 0x1fff_ffff == 0 && !random.once_in(30) {
+                    *word = 0;
+                }
+            }
+        }
+    }
+    w
+}
+
+fn cell(w: &[u32], height: usize, p: u32) -> Option<&[u32]> {
+    let n = (p & 0x1fff_ffff).checked_sub(1)? as usize;
+    let capacity = *w.first()? as usize;
+    let at = (n < capacity && capacity <= 65_536).then(|| place(capacity, height, n))?;
+    w.get(at..at + if height == 2 { 2 } else { 8 })
+}
+
+/// About how many cells a walk through all of a scene enters.
+pub fn weight(w: &[u32], height: usize, p: u32, limit: u64) -> u64 {
+    let Some(words) = cell(w, height, p) else { return 0 };
+    let mut sum = 1;
+    if height > 2 {
+        for &q in words {
+            if sum < limit {
+                sum += weight(w, height - 1, q, limit - sum);
+            }
+        }
+    }
+    sum
+}
+
+/// The words of a scene, where it has a depth: depth and root pointer.
+pub fn scene(w: &[u32], n: u32) -> Option<(u32, u32)> {
+    let at = 32 + 2 * n as usize;
+    let words = (n < 64).then(|| w.get(at..at + 2)).flatten()?;
+    (2..=16).contains(&words[0]).then_some((words[0], words[1]))
+}
+
+/// A solid voxel under a pointer, by a random way down.
+pub fn solid(random: &mut Random, w: &[u32], height: usize, p: u32) -> Option<[u32; 3]> {
+    let words = cell(w, height, p)?;
+    let edge = 1u32 << height;
+    let inside = if height == 2 {
+        let leaf = (words[0] as u64) << 32 | words[1] as u64;
+        let bits: Vec<u32> = (0..64).filter(|bit| leaf >> bit & 1 == 1).collect();
+        let bit = if bits.is_empty() { return None } else { random.pick(&bits) };
+        [bit % 4, bit / 4 % 4, bit / 16]
+    } else {
+        let full: Vec<usize> = (0..8).filter(|&i| words[i] != 0).collect();
+        let i = if full.is_empty() { return None } else { random.pick(&full) };
+        let inner = solid(random, w, height - 1, words[i])?;
+        std::array::from_fn(|axis| inner[axis] + (i as u32 >> axis & 1) * edge / 2)
+    };
+    Some(std::array::from_fn(|axis| if p >> (29 + axis) & 1 == 1 { edge - 1 - inside[axis] } else { inside[axis] }))
+}

@@ -1,0 +1,102 @@
+-- One outcome: for each of the thirteen exports, two results that meet its promise on the same input are equal: the number, every value written and
+-- every slice lent for writing. They are parts of an outcome, and both outcomes are the one that the promise names. Assumes nothing.
+use mathlib.Core.Path.{_≡_, sym, ap, _∙_}
+use mathlib.Core.List.{List, [], _∷_}
+use Prim.Native.Nat.{ℕ}
+use lib.Ieee.{Float}
+use lib.ListN.{getD}
+use Rattle.paper.specs.Rooms.{Point}
+use Rattle.paper.specs.Answers.{Outcome, told, outcome}
+use Rattle.paper.specs.Calls.{newOutcome, addOutcome, voxelOutcome, cellOutcome, boxOutcome, keptOutcome, outlineOutcome, packOutcome, checkOutcome, packedVoxelOutcome}
+use Rattle.rooms_c.specs.Exports.{openCOutcome, askCOutcome, detailCOutcome}
+
+-- ---- the parts of equal outcomes
+
+module _ {n m : ℕ} {vs ws : List ℕ} {ls ms : List (List ℕ)} {o : Outcome} (a : outcome (told n vs) ls ≡ o) (b : outcome (told m ws) ms ≡ o) where
+  same-number : n ≡ m
+  same-number = ap (λ (p : Outcome). p .number) (a ∙ sym b)
+
+  same-value : (i : ℕ) → getD vs i 0 ≡ getD ws i 0
+  same-value i = ap (λ (p : Outcome). getD (p .values) i 0) (a ∙ sym b)
+
+  same-lent : (i : ℕ) → getD ls i [] ≡ getD ms i []
+  same-lent i = ap (λ (p : Outcome). getD (p .lent) i []) (a ∙ sym b)
+
+-- an export that writes one value and is lent nothing for writing, whatever its outcome
+one-value : {n m v w : ℕ} {o : Outcome} → outcome (told n (v ∷ [])) [] ≡ o → outcome (told m (w ∷ [])) [] ≡ o → (n ≡ m) × (v ≡ w)
+one-value a b = (same-number a b, same-value a b 0)
+
+-- one value and one slice
+one-slice : {n m v w : ℕ} {xs ys : List ℕ} {o : Outcome} → outcome (told n (v ∷ [])) (xs ∷ []) ≡ o → outcome (told m (w ∷ [])) (ys ∷ []) ≡ o
+    → (n ≡ m) × (v ≡ w) × (xs ≡ ys)
+one-slice a b = (same-number a b, same-value a b 0, same-lent a b 0)
+
+-- one slice and no value
+slice-only : {n m : ℕ} {xs ys : List ℕ} {o : Outcome} → outcome (told n []) (xs ∷ []) ≡ o → outcome (told m []) (ys ∷ []) ≡ o → (n ≡ m) × (xs ≡ ys)
+slice-only a b = (same-number a b, same-lent a b 0)
+
+-- two values
+two-values : {n m v w s t : ℕ} {o : Outcome} → outcome (told n (v ∷ s ∷ [])) [] ≡ o → outcome (told m (w ∷ t ∷ [])) [] ≡ o → (n ≡ m) × (v ≡ w) × (s ≡ t)
+two-values a b = (same-number a b, same-value a b 0, same-value a b 1)
+
+-- ---- the thirteen exports
+
+pub rooms-new : (C : ℕ) (ws : List ℕ) {n m : ℕ} {xs ys : List ℕ}
+    → outcome (told n []) (xs ∷ []) ≡ newOutcome C ws → outcome (told m []) (ys ∷ []) ≡ newOutcome C ws → (n ≡ m) × (xs ≡ ys)
+rooms-new C ws a b = slice-only a b
+
+pub rooms-add : (ws file : List ℕ) {n m scene scene′ : ℕ} {xs ys : List ℕ}
+    → outcome (told n (scene ∷ [])) (xs ∷ []) ≡ addOutcome ws file → outcome (told m (scene′ ∷ [])) (ys ∷ []) ≡ addOutcome ws file
+    → (n ≡ m) × (scene ≡ scene′) × (xs ≡ ys)
+rooms-add ws file a b = one-slice a b
+
+pub rooms-voxel : (ws : List ℕ) (scene : ℕ) (v : Point) {n m solid solid′ : ℕ}
+    → outcome (told n (solid ∷ [])) [] ≡ voxelOutcome ws scene v → outcome (told m (solid′ ∷ [])) [] ≡ voxelOutcome ws scene v → (n ≡ m) × (solid ≡ solid′)
+rooms-voxel ws scene v a b = one-value a b
+
+pub rooms-cell : (ws : List ℕ) (scene h : ℕ) (c : Point) {n m full full′ : ℕ}
+    → outcome (told n (full ∷ [])) [] ≡ cellOutcome ws scene h c → outcome (told m (full′ ∷ [])) [] ≡ cellOutcome ws scene h c → (n ≡ m) × (full ≡ full′)
+rooms-cell ws scene h c a b = one-value a b
+
+pub rooms-box : (ws : List ℕ) (scene : ℕ) (low high : Point) {n m count count′ : ℕ}
+    → outcome (told n (count ∷ [])) [] ≡ boxOutcome ws scene low high → outcome (told m (count′ ∷ [])) [] ≡ boxOutcome ws scene low high
+    → (n ≡ m) × (count ≡ count′)
+rooms-box ws scene low high a b = one-value a b
+
+pub rooms-kept : (ws : List ℕ) (h : ℕ) {n m count count′ : ℕ}
+    → outcome (told n (count ∷ [])) [] ≡ keptOutcome ws h → outcome (told m (count′ ∷ [])) [] ≡ keptOutcome ws h → (n ≡ m) × (count ≡ count′)
+rooms-kept ws h a b = one-value a b
+
+pub rooms-outline : (ws : List ℕ) (scene : ℕ) (out : List ℕ) {n m len len′ : ℕ} {xs ys : List ℕ}
+    → outcome (told n (len ∷ [])) (xs ∷ []) ≡ outlineOutcome ws scene out → outcome (told m (len′ ∷ [])) (ys ∷ []) ≡ outlineOutcome ws scene out
+    → (n ≡ m) × (len ≡ len′) × (xs ≡ ys)
+rooms-outline ws scene out a b = one-slice a b
+
+pub rooms-pack : (ws : List ℕ) (scene : ℕ) (scratch out : List ℕ) {n m len len′ : ℕ} {xs ys us vs : List ℕ}
+    → outcome (told n (len ∷ [])) (xs ∷ us ∷ []) ≡ packOutcome ws scene scratch out → outcome (told m (len′ ∷ [])) (ys ∷ vs ∷ []) ≡ packOutcome ws scene scratch out
+    → (n ≡ m) × (len ≡ len′) × (xs ≡ ys) × (us ≡ vs)
+rooms-pack ws scene scratch out a b = (same-number a b, same-value a b 0, same-lent a b 0, same-lent a b 1)
+
+pub rooms-check : (file scratch : List ℕ) {n m depth depth′ : ℕ} {xs ys : List ℕ}
+    → outcome (told n (depth ∷ [])) (xs ∷ []) ≡ checkOutcome file scratch → outcome (told m (depth′ ∷ [])) (ys ∷ []) ≡ checkOutcome file scratch
+    → (n ≡ m) × (depth ≡ depth′) × (xs ≡ ys)
+rooms-check file scratch a b = one-slice a b
+
+pub rooms-packed-voxel : (file : List ℕ) (v : Point) {n m solid solid′ records records′ : ℕ}
+    → outcome (told n (solid ∷ records ∷ [])) [] ≡ packedVoxelOutcome file v → outcome (told m (solid′ ∷ records′ ∷ [])) [] ≡ packedVoxelOutcome file v
+    → (n ≡ m) × (solid ≡ solid′) × (records ≡ records′)
+rooms-packed-voxel file v a b = two-values a b
+
+pub rooms-open : (file ns : List ℕ) {n m : ℕ} {xs ys : List ℕ}
+    → outcome (told n []) (xs ∷ []) ≡ openCOutcome file ns → outcome (told m []) (ys ∷ []) ≡ openCOutcome file ns → (n ≡ m) × (xs ≡ ys)
+rooms-open file ns a b = slice-only a b
+
+pub rooms-ask : (file ns : List ℕ) (v : Point) {n m solid solid′ records records′ : ℕ}
+    → outcome (told n (solid ∷ records ∷ [])) [] ≡ askCOutcome file ns v → outcome (told m (solid′ ∷ records′ ∷ [])) [] ≡ askCOutcome file ns v
+    → (n ≡ m) × (solid ≡ solid′) × (records ≡ records′)
+rooms-ask file ns v a b = two-values a b
+
+pub rooms-detail : (depth kind : ℕ) (a b : Float) {n m height height′ : ℕ}
+    → outcome (told n (height ∷ [])) [] ≡ detailCOutcome depth kind a b → outcome (told m (height′ ∷ [])) [] ≡ detailCOutcome depth kind a b
+    → (n ≡ m) × (height ≡ height′)
+rooms-detail depth kind a b e f = one-value e f

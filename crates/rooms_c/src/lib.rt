@@ -1,0 +1,254 @@
+// The public calls for C. A slice is a pointer and a length, the answer is document 01's number, 0 where the call is accepted, and the
+// values are written through the last parameters, zeros on a refusal. Each promise is one equation, on the same outcome as the call of
+// `rooms`; where C passes numbers in the place of a struct or of a wish, specs/Exports.antt says which. No call asks anything of its caller.
+ghost use mathlib.Core.Path.{_≡_};
+ghost use mathlib.Core.List.{[], _∷_};
+ghost use Prim.Native.Nat.{_≤_};
+ghost use lib.ListN.{length, take, drop};
+ghost use Rattle.paper.specs.Rooms.{point};
+ghost use Rattle.paper.specs.Answers.{outcome, told};
+ghost use Rattle.paper.specs.Calls.{over, newOutcome, addOutcome, voxelOutcome, cellOutcome, boxOutcome, keptOutcome, outlineOutcome, packOutcome, checkOutcome, packedVoxelOutcome};
+ghost use Rattle.rooms_c.specs.Exports.{openedNumbers, startsHeld, openCOutcome, askCOutcome, detailCOutcome, wishGiven};
+use paper::Sight;
+use paper::Wish;
+
+// The numbers of an opened scene: the depth, then the fifteen list starts.
+const OPENED_NUMBERS: usize = 16;
+
+const STARTS: usize = 15;
+
+// New store.
+#[no_mangle]
+pub extern "C" fn rooms_new(store: &mut [u32], capacity: u32) -> u32
+    ensures { λ r. ⌜ outcome (told r []) (now (store .exit) ∷ []) ≡ newOutcome capacity (now (store .entry)) ⌝ }
+{
+    let answer = rooms::new_store(store, capacity);
+    answer.number()
+}
+
+// Add: the scene's number.
+#[no_mangle]
+pub extern "C" fn rooms_add(store: &mut [u32], file: &[u8], scene: &mut u32) -> u32
+    ensures { λ r. ⌜ outcome (told r (now (scene .exit) ∷ [])) (now (store .exit) ∷ []) ≡ addOutcome (now (store .entry)) (now (file .entry)) ⌝ }
+{
+    let answer = rooms::add(store, file);
+    *scene = answer.value();
+    answer.number()
+}
+
+// Voxel: 1 for solid, 0 for empty.
+#[no_mangle]
+pub extern "C" fn rooms_voxel(
+    store: &[u32],
+    scene: u32,
+    x: u32,
+    y: u32,
+    z: u32,
+    solid: &mut u32,
+) -> u32
+    ensures { λ r. ⌜ outcome (told r (now (solid .exit) ∷ [])) [] ≡ voxelOutcome (now (store .entry)) scene (point x y z) ⌝ }
+{
+    let answer = rooms::voxel(store, scene, x, y, z);
+    *solid = answer.value();
+    answer.number()
+}
+
+// Cell: 1 for non-empty, 0 for empty, x, y and z counted in cells of its height.
+#[no_mangle]
+pub extern "C" fn rooms_cell(
+    store: &[u32],
+    scene: u32,
+    height: u32,
+    x: u32,
+    y: u32,
+    z: u32,
+    full: &mut u32,
+) -> u32
+    ensures { λ r. ⌜ outcome (told r (now (full .exit) ∷ [])) [] ≡ cellOutcome (now (store .entry)) scene height (point x y z) ⌝ }
+{
+    let answer = rooms::cell(store, scene, height, x, y, z);
+    *full = answer.value();
+    answer.number()
+}
+
+// Box: how many solid voxels v have low <= v < high on each axis.
+#[no_mangle]
+pub extern "C" fn rooms_box(
+    store: &[u32],
+    scene: u32,
+    lowx: u32,
+    lowy: u32,
+    lowz: u32,
+    highx: u32,
+    highy: u32,
+    highz: u32,
+    count: &mut u64,
+) -> u32
+    ensures { λ r. ⌜ outcome (told r (now (count .exit) ∷ [])) [] ≡ boxOutcome (now (store .entry)) scene (point lowx lowy lowz) (point highx highy highz) ⌝ }
+{
+    let answer = rooms::box_count(store, scene, lowx, lowy, lowz, highx, highy, highz);
+    *count = answer.value();
+    answer.number()
+}
+
+// Kept: the cells kept at a height.
+#[no_mangle]
+pub extern "C" fn rooms_kept(store: &[u32], height: u32, count: &mut u32) -> u32
+    ensures { λ r. ⌜ outcome (told r (now (count .exit) ∷ [])) [] ≡ keptOutcome (now (store .entry)) height ⌝ }
+{
+    let answer = rooms::kept(store, height);
+    *count = answer.value();
+    answer.number()
+}
+
+// Outline out: the outline of a scene, and its length.
+#[no_mangle]
+pub extern "C" fn rooms_outline(store: &[u32], scene: u32, out: &mut [u8], length: &mut u32) -> u32
+    ensures { λ r. ⌜ outcome (told r (now (length .exit) ∷ [])) (now (out .exit) ∷ []) ≡ outlineOutcome (now (store .entry)) scene (now (out .entry)) ⌝ }
+{
+    let answer = rooms::outline_out(store, scene, out);
+    *length = answer.value();
+    answer.number()
+}
+
+// Pack: a scene as a packed file, and its length.
+#[no_mangle]
+pub extern "C" fn rooms_pack(
+    store: &[u32],
+    scene: u32,
+    scratch: &mut [u32],
+    out: &mut [u8],
+    length: &mut u32,
+) -> u32
+    ensures { λ r. ⌜ outcome (told r (now (length .exit) ∷ [])) (now (scratch .exit) ∷ now (out .exit) ∷ []) ≡ packOutcome (now (store .entry)) scene (now (scratch .entry)) (now (out .entry)) ⌝ }
+{
+    let answer = rooms::pack(store, scene, scratch, out);
+    *length = answer.value();
+    answer.number()
+}
+
+// Packed check: the depth of a proper file.
+#[no_mangle]
+pub extern "C" fn rooms_check(file: &[u8], scratch: &mut [u8], depth: &mut u32) -> u32
+    ensures { λ r. ⌜ outcome (told r (now (depth .exit) ∷ [])) (now (scratch .exit) ∷ []) ≡ checkOutcome (now (file .entry)) (now (scratch .entry)) ⌝ }
+{
+    let answer = rooms::check(file, scratch);
+    *depth = answer.value();
+    answer.number()
+}
+
+// Packed voxel: 1 for solid, 0 for empty, and the number of records read on the way.
+#[no_mangle]
+pub extern "C" fn rooms_packed_voxel(
+    file: &[u8],
+    x: u32,
+    y: u32,
+    z: u32,
+    solid: &mut u32,
+    records: &mut u32,
+) -> u32
+    ensures { λ r. ⌜ outcome (told r (now (solid .exit) ∷ now (records .exit) ∷ [])) [] ≡ packedVoxelOutcome (now (file .entry)) (point x y z) ⌝ }
+{
+    let answer = rooms::packed_voxel(file, x, y, z);
+    *solid = answer.value();
+    *records = answer.records();
+    answer.number()
+}
+
+// Opening: the depth and the fifteen list starts, written to the first sixteen numbers; by 3, 4, 5, 6, then 12 where there are fewer.
+#[no_mangle]
+pub extern "C" fn rooms_open(file: &[u8], numbers: &mut [u32]) -> u32
+    ensures { λ r. ⌜ outcome (told r []) (now (numbers .exit) ∷ []) ≡ openCOutcome (now (file .entry)) (now (numbers .entry)) ⌝ }
+{
+    let header = opened::read_header(file);
+    if header.number != 0 {
+        return header.number;
+    }
+    let room = numbers.len();
+    if room < OPENED_NUMBERS {
+        return 12;
+    }
+    let starts = header.starts;
+    write_numbers(numbers, header.depth, starts);
+    0
+}
+
+// A question on bytes held beside the numbers that an opening wrote: 6 where there are fewer than sixteen, then as on an opened scene.
+#[no_mangle]
+pub extern "C" fn rooms_ask(
+    file: &[u8],
+    numbers: &[u32],
+    x: u32,
+    y: u32,
+    z: u32,
+    solid: &mut u32,
+    records: &mut u32,
+) -> u32
+    ensures { λ r. ⌜ outcome (told r (now (solid .exit) ∷ now (records .exit) ∷ [])) [] ≡ askCOutcome (now (file .entry)) (now (numbers .entry)) (point x y z) ⌝ }
+{
+    if numbers.len() < OPENED_NUMBERS {
+        *solid = 0;
+        *records = 0;
+        return 6;
+    }
+    let answer = opened::ask_bytes(file, numbers[0], read_starts(numbers), x, y, z);
+    *solid = answer.value();
+    *records = answer.records();
+    answer.number()
+}
+
+// Detail: the height at which to draw a scene of this depth; the wish is given by its kind and two numbers.
+#[no_mangle]
+pub extern "C" fn rooms_detail(depth: u32, kind: u32, a: f64, b: f64, height: &mut u32) -> u32
+    ensures { λ r. ⌜ outcome (told r (now (height .exit) ∷ [])) [] ≡ detailCOutcome depth kind a b ⌝ }
+{
+    let answer = rooms::detail(depth, wish_of(kind, a, b));
+    *height = answer.value();
+    answer.number()
+}
+
+// The wish of a kind: 0 every voxel, 1 a widest edge, 2 a distance with its factor; for another kind a wish that is out of range.
+fn wish_of(kind: u32, a: f64, b: f64) -> Wish
+    ensures { λ r. ⌜ r ≡ wishGiven kind a b ⌝ }
+{
+    if kind == 0 {
+        return Wish::EveryVoxel;
+    }
+    if kind == 1 {
+        return Wish::WidestEdge(a);
+    }
+    if kind == 2 {
+        return Wish::Distance(Sight {
+            distance: a,
+            factor: b,
+        });
+    }
+    Wish::WidestEdge(0.0)
+}
+
+// The depth and the list starts, written to the first sixteen numbers.
+fn write_numbers(numbers: &mut [u32], depth: u32, starts: [u32; 15])
+    requires { ⌜ openedNumbers ≤ length (now numbers) ⌝ }
+    ensures { λ r. ⌜ now (numbers .exit) ≡ over (depth ∷ starts) (now (numbers .entry)) ⌝ }
+{
+    numbers[0] = depth;
+    let mut k = 0usize;
+    while k < STARTS {
+        numbers[k + 1] = starts[k];
+        k += 1;
+    }
+}
+
+// The list starts among the numbers: those after the first.
+fn read_starts(numbers: &[u32]) -> [u32; 15]
+    requires { ⌜ openedNumbers ≤ length (now numbers) ⌝ }
+    ensures { λ r. ⌜ r ≡ startsHeld (now (numbers .entry)) ⌝ }
+{
+    let mut starts = [0u32; 15];
+    let mut k = 0usize;
+    while k < STARTS {
+        starts[k] = numbers[k + 1];
+        k += 1;
+    }
+    starts
+}

@@ -1,0 +1,198 @@
+/*
+ * rooms.h: the room store, for C.
+ *
+ * A room is a cube of voxels with a depth D, 2 to 16, and edge 2^D. A store keeps up to 64 scenes and each differing cell
+ * of theirs once, mirror images included. The thirteen calls below work on memory that the caller lends: they allocate nothing,
+ * keep nothing between calls, print nothing and start nothing. Link target/staticlib/librooms_c.a; of the C library it
+ * needs memset and memcpy at most.
+ *
+ * What a call answers
+ *   Each call returns 0 where it is accepted, or the number of its refusal (ROOMS_..., below). The refusals of a call are
+ *   judged in the order given at the call: the first that applies is returned. Values go to out parameters, which are
+ *   written by every call: on a refusal they are zero.
+ *
+ * What it asks of the caller
+ *   A slice is a pointer and a length, in this order; the length counts elements, words of 4 bytes or bytes.
+ *   - Of a length above 0, the pointer points to so many elements, aligned for their type (4 bytes for a word). Of
+ *     length 0, the pointer may be anything, a null pointer too.
+ *   - What a call may write (a slice that is not const, an out parameter) overlaps with nothing else lent to that call, and no
+ *     other thread reads or writes it meanwhile. What it only reads (const) may be shared and may overlap.
+ *   - An out parameter is not a null pointer.
+ *   That is all. Any words and any bytes may stand in a slice, of any length: noise, a damaged store, half a file. Such input
+ *   gets a refusal; it never makes a call fault, loop without end or write outside what it was lent.
+ *
+ * What happens to lent memory
+ *   A call that is refused leaves store and output as they were. Output past the length written, words of a store past
+ *   ROOMS_STORE_WORDS and scratch past the size needed are never changed.
+ *
+ * Nothing is promised of time or of the stack. A box whose faces lie off the grid can enter each cell that they cut.
+ */
+#ifndef ROOMS_H
+#define ROOMS_H
+
+#include <stddef.h>
+#include <stdint.h>
+
+#ifdef __cplusplus
+extern "C" {
+#endif
+
+/* ---- refusals ---- */
+
+#define ROOMS_OK 0u
+#define ROOMS_BAD_SIZE 1u       /* new store: capacity out of range or too few words */
+#define ROOMS_DAMAGED_STORE 2u  /* damaged store */
+#define ROOMS_BAD_VERSION 3u    /* file empty or wrong version byte */
+#define ROOMS_BAD_LENGTH 4u     /* outline under 6 bytes, packed under 7, or length field not the slice's length */
+#define ROOMS_BAD_DEPTH 5u      /* depth not 2 to 16 */
+#define ROOMS_BROKEN_RULES 6u   /* a record or list breaks its file's rules */
+#define ROOMS_SCENES_FULL 7u    /* 64 scenes held */
+#define ROOMS_CELLS_FULL 8u     /* a height would keep more than the capacity */
+#define ROOMS_NO_SCENE 9u       /* no such scene */
+#define ROOMS_OUTSIDE 10u       /* point, height or box outside, or low above high */
+#define ROOMS_SCRATCH_SHORT 11u /* scratch too short */
+#define ROOMS_OUTPUT_SHORT 12u  /* output too short */
+#define ROOMS_BAD_WISH 13u      /* wish out of range, NaN or infinite */
+
+/* ---- sizes ---- */
+
+#define ROOMS_MIN_DEPTH 2u
+#define ROOMS_MAX_DEPTH 16u
+#define ROOMS_MAX_SCENES 64u
+#define ROOMS_MAX_CAPACITY 65536u
+
+/* Words of a store that keeps up to `capacity` cells at each height, 1 to ROOMS_MAX_CAPACITY. */
+#define ROOMS_STORE_WORDS(capacity) ((size_t)160 + (size_t)114 * (size_t)(capacity))
+
+/* Words of scratch that rooms_pack takes for a store of this capacity. */
+#define ROOMS_PACK_SCRATCH_WORDS(capacity) ((size_t)60 * (size_t)(capacity))
+
+/* Bytes of scratch that rooms_check takes for a file of this length. */
+#define ROOMS_CHECK_SCRATCH_BYTES(file_length) ((size_t)(file_length))
+
+/* Bytes of an empty scene's outline and of its packed file: no file is shorter. */
+#define ROOMS_OUTLINE_MIN_BYTES 6u
+#define ROOMS_PACKED_MIN_BYTES 7u
+
+/*
+ * Bytes that hold any packed scene of a store of this capacity: header, 15 sizes, a root, and at each height below it at most
+ * `capacity` records of at most 34 bytes.
+ */
+#define ROOMS_PACKED_MAX_BYTES(capacity) ((size_t)7 + 60 + 34 + (size_t)(8 + 34 * 13) * (size_t)(capacity))
+
+/* Words that rooms_open writes and rooms_ask reads. */
+#define ROOMS_OPENED_NUMBERS 16u
+
+/* ---- the store ---- */
+
+/*
+ * New store: zeroes the first ROOMS_STORE_WORDS(capacity) words, then sets word 0 to the capacity.
+ * Whatever the words held before is lost. Refusals: 1 (the words are as they were).
+ */
+uint32_t rooms_new(uint32_t *store, size_t store_words, uint32_t capacity);
+
+/*
+ * Add the room of an outline file: its cells are merged into those kept. *scene is the scene's number, the count of
+ * scenes before; an empty scene, and one added twice, takes a number too.
+ * Refusals, in order: 2 (the whole store is tested), 3, 4, 5, 6 (the file), 7, 8. The store is then as it was.
+ */
+uint32_t rooms_add(uint32_t *store, size_t store_words, const uint8_t *file, size_t file_bytes, uint32_t *scene);
+
+/*
+ * Voxel (x, y, z) of a scene: *solid is 1 for solid, 0 for empty.
+ * Refusals, in order: 2 (the store's header), 9, 2 (the scene's two words), 10, 2 (a bad pointer in a cell entered).
+ */
+uint32_t rooms_voxel(const uint32_t *store, size_t store_words, uint32_t scene, uint32_t x, uint32_t y, uint32_t z,
+                     uint32_t *solid);
+
+/*
+ * Cell of a height, 0 to D, with x, y and z counted in cells of that height: *full is 1 where it has a solid voxel, else 0.
+ * Refusals: as for a voxel.
+ */
+uint32_t rooms_cell(const uint32_t *store, size_t store_words, uint32_t scene, uint32_t height, uint32_t x, uint32_t y,
+                    uint32_t z, uint32_t *full);
+
+/*
+ * Box: *count is the number of solid voxels v with low <= v < high on each axis. Where low = high on an axis it is 0.
+ * Refusals: as for a voxel; 10 where on any axis low is above high, or high is above the edge 2^D. The last 2 is given
+ * only for pointers to children that share a voxel with the box.
+ */
+uint32_t rooms_box(const uint32_t *store, size_t store_words, uint32_t scene, uint32_t low_x, uint32_t low_y,
+                   uint32_t low_z, uint32_t high_x, uint32_t high_y, uint32_t high_z, uint64_t *count);
+
+/*
+ * Kept: *count is the number of cells kept at a height, 2 to 16.
+ * Refusals, in order: 2 (the store's header), 10.
+ */
+uint32_t rooms_kept(const uint32_t *store, size_t store_words, uint32_t height, uint32_t *count);
+
+/* ---- files written ---- */
+
+/*
+ * Outline of a scene, written to out; *length is its length in bytes.
+ * Refusals, in order: 2 (the whole store is tested), 9, 12 (also past 4,294,967,295 bytes). out is then as it was.
+ */
+uint32_t rooms_outline(const uint32_t *store, size_t store_words, uint32_t scene, uint8_t *out, size_t out_bytes,
+                       uint32_t *length);
+
+/*
+ * Packed file of a scene, written to out; *length is its length in bytes. scratch may hold anything.
+ * Refusals, in order: 2 (the whole store is tested), 9, 11 (fewer than ROOMS_PACK_SCRATCH_WORDS(capacity) words), 12.
+ * out is then as it was. After 0 and 12 the scratch needed is zero; after 2, 9 and 11 it is as it was.
+ */
+uint32_t rooms_pack(const uint32_t *store, size_t store_words, uint32_t scene, uint32_t *scratch, size_t scratch_words,
+                    uint8_t *out, size_t out_bytes, uint32_t *length);
+
+/* ---- packed files read: they need no store and no trust ---- */
+
+/*
+ * Check of a packed file: accepted exactly where every rule of a proper file holds; *depth is then its depth.
+ * Refusals, in order: 11 (scratch shorter than the file), 3, 4, 5, 6.
+ * After 0 and 6 the first file_bytes bytes of scratch are zero; otherwise scratch is as it was.
+ */
+uint32_t rooms_check(const uint8_t *file, size_t file_bytes, uint8_t *scratch, size_t scratch_bytes, uint32_t *depth);
+
+/*
+ * Voxel (x, y, z) of a packed file: *solid is 1 for solid, 0 for empty; *records is the number of records read on the
+ * way, the root's and a leaf's included, 0 for an empty scene. Tested are the header, the sizes and what lies on the path:
+ * on a proper file no point inside is refused.
+ * Refusals, in order: 3, 4, 5, 10, 6.
+ */
+uint32_t rooms_packed_voxel(const uint8_t *file, size_t file_bytes, uint32_t x, uint32_t y, uint32_t z, uint32_t *solid,
+                            uint32_t *records);
+
+/*
+ * Opening a packed file for many questions. Accepted, it writes ROOMS_OPENED_NUMBERS words: numbers[0] is the depth, and
+ * numbers[k + 1] the position in the file of the list of height k + 2, 0 above the depth and for an empty scene.
+ * Refusals, in order: 3, 4, 5, 6 (byte 6 and the sizes), 12 (fewer than 16 numbers). The numbers are then as they were.
+ */
+uint32_t rooms_open(const uint8_t *file, size_t file_bytes, uint32_t *numbers, size_t numbers_words);
+
+/*
+ * Voxel (x, y, z) of an opened packed file: as rooms_packed_voxel, for the numbers that rooms_open wrote.
+ * Refusals, in order: 6 (fewer than 16 numbers, or the file doesn't open to them), then as rooms_packed_voxel: 10, 6.
+ */
+uint32_t rooms_ask(const uint8_t *file, size_t file_bytes, const uint32_t *numbers, size_t numbers_words, uint32_t x,
+                   uint32_t y, uint32_t z, uint32_t *solid, uint32_t *records);
+
+/* ---- detail ---- */
+
+#define ROOMS_EVERY_VOXEL 0u /* a and b are not looked at */
+#define ROOMS_WIDEST_EDGE 1u /* a: the widest edge, 1 to 2^40; b is not looked at */
+#define ROOMS_DISTANCE 2u    /* a: the distance, 0 to 2^40; b: the factor, 2^-30 to 2^30 */
+
+/*
+ * Detail: *height is the height at which to draw a room of this depth.
+ *   ROOMS_EVERY_VOXEL: 0.
+ *   ROOMS_WIDEST_EDGE: the greatest h <= depth with 2^h <= a.
+ *   ROOMS_DISTANCE: the greatest h <= depth with 2^h times b <= a, or 0 if there is none.
+ * Values are compared exactly; -0 counts as 0.
+ * Refusals, in order: 5, 13 (also for another kind).
+ */
+uint32_t rooms_detail(uint32_t depth, uint32_t kind, double a, double b, uint32_t *height);
+
+#ifdef __cplusplus
+}
+#endif
+
+#endif
