@@ -1,18 +1,18 @@
 -- A leaf mirrored bit by bit: voxel k of the image is the leaf's at k with the bits of the marked axes changed. One computed test over the eight
--- mirrors and 64 voxels; and a number gathered from its last bit down. Assumes nothing.
-use mathlib.Core.Path.{_≡_, refl, ap, _∙_}
+-- mirrors and 64 voxels. Assumes nothing.
+use mathlib.Core.Path.{_≡_, ap, _∙_}
 use mathlib.Core.Bool.{Bool}
-use Prim.Native.Nat.{ℕ, zero, suc, _+_, _-_, _*_, _/_, _%_, _^_, _<_, _≤_, zero-le, suc-le-suc}
-use native.Mathlib.Nat.{mod-lt, pow-succ'}
+use Prim.Native.Nat.{ℕ, _+_, _-_, _*_, _/_, _%_, _<_, zero-le, suc-le-suc}
+use native.Mathlib.Nat.{mod-lt}
 use native.Mathlib.Omega.{arith}
 use lib.Bits.{bitXor, xor-lt}
 use lib.Dec.{T, eqb, eqb→eq}
-use lib.Pow.{pow-mono}
 use Rattle.paper.specs.Numbers.{allBelow, bit, bitFor, gather}
 use Rattle.paper.specs.Rooms.{point, flip, mirror}
 use Rattle.paper.specs.Leaf.{bitOf, voxelOf, leafVoxel, leafOf, mirrorLeaf}
 use Rattle.laws.proofs.Tests.{all-at}
-use Rattle.laws.proofs.Bits.{bit-lt, test-bitFor, gather-same, gather-lt}
+use Rattle.laws.proofs.Bits.{bit-lt, test-bitFor, gather-same}
+pub use Rattle.laws.proofs.Bits.{gather-none, gather-down, gather-room}
 
 -- the bits that mirror t changes
 abbrev pub turnOf : ℕ → ℕ
@@ -44,22 +44,3 @@ mirror-by-bits t n =
     gather-same 0 64 (λ k. bitFor (leafVoxel n (mirror t 4 (voxelOf k)))) (λ k. bit n (bitXor k (turnOf t)))
     (λ k h. test-bitFor (bit n (bitOf (mirror t 4 (voxelOf k)))) (bit-lt n (bitOf (mirror t 4 (voxelOf k))))
     ∙ ap (bit n) (image-turned (t % 2) (t / 2 % 2) (t / 4 % 2) k (mod-lt t two-pos) (mod-lt (t / 2) two-pos) (mod-lt (t / 4) two-pos) h))
-
--- ---- gathered from the last bit down
-
--- no bit yet, and one bit more below those gathered
-pub gather-none : (n : ℕ) (f : ℕ → ℕ) → gather n (n - n) f ≡ 0
-unfolding gather
-gather-none n f = let e : n - n ≡ 0 = omega arith in rw e
-
-pub gather-down : (n k : ℕ) (f : ℕ → ℕ) → (k ≡ 0 → ⊥) → k ≤ n → gather (k - 1) (n - (k - 1)) f ≡ f (k - 1) + 2 * gather k (n - k) f
-unfolding gather
-gather-down n zero f z h = absurd (z refl)
-gather-down n (suc k) f z h = let e : n - k ≡ suc (n - suc k) = omega arith in let d : suc k - 1 ≡ k = omega arith in rw (d, e)
-
--- room for one bit more
-pub gather-room : (n k : ℕ) (f : ℕ → ℕ) → ((i : ℕ) → f i < 2) → (k ≡ 0 → ⊥) → k ≤ n → 2 * gather k (n - k) f + 1 < 2 ^ n
-gather-room n zero f hf z h = absurd (z refl)
-gather-room n (suc k) f hf z h =
-    let up : 2 ^ suc (n - suc k) ≤ 2 ^ n = pow-mono {i = suc (n - suc k)} {j = n} (omega arith) in
-    omega (arith, gather-lt f hf (n - suc k) (suc k), pow-succ' 2 (n - suc k), up)

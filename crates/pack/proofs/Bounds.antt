@@ -7,7 +7,7 @@ use native.Mathlib.Omega.{arith}
 use lib.ListN.{length, getD}
 use Rattle.paper.specs.Store.{heights}
 use Rattle.laws.proofs.Lists.{getD-tabulate, length-tabulate}
-use Rattle.pack.specs.Scratch.{orderPlace, placePlace}
+use Rattle.order.specs.Scratch.{orderPlace, placePlace}
 use Rattle.pack.specs.Placing.{placesIn, orderIn, Room}
 
 -- the lists before list k

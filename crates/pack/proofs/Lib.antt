@@ -1,13 +1,5 @@
--- the order of the lists
-pub mod OrderWords
-pub mod OrderTally
-pub mod OrderBuckets
-pub mod OrderCounting
-pub mod OrderSteps
-pub mod OrderLists
--- rooms in scratch, codes, writing one behind the other
+-- rooms in scratch, writing one behind the other
 pub mod Bounds
-pub mod Codes
 pub mod Behind
 -- places found one behind the other
 pub mod Placings
@@ -17,7 +9,6 @@ pub mod KeptWords
 pub mod Pieces
 pub mod Heads
 -- what code finds is the packed file
-pub mod Reaching
 pub mod Renumbering
 pub mod Scenes
 pub mod Packings

@@ -15,12 +15,12 @@ use lib.Seq.{getD-set-same, getD-set-other, getD-drop, ext-getD}
 use Rattle.paper.specs.Numbers.{bytes, flatten}
 use Rattle.paper.specs.Store.{Cell, heights, mostCapacity, capacityOf, keptCount, keptOf, tagOf, badPointer, storeOk}
 use Rattle.paper.specs.Packed.{packedFront, packedHead}
-use Rattle.paper.specs.Pack.{places, size, listBytes, sizeBytes, body, layout, emptyFile, sceneGraph, packedFile}
+use Rattle.paper.specs.Pack.{size, listBytes, sizeBytes, body, layout, emptyFile, sceneGraph, packedFile}
 use Rattle.paper.specs.Calls.{packScratch}
 use Rattle.laws.proofs.PackedReached.{numbers}
 use Rattle.laws.proofs.Layouts.{sizes-length}
 use Rattle.numbers.specs.Laid.{Reached, reached}
-use Rattle.pack.specs.Scratch.{orderPlace, placePlace, Ordered}
+use Rattle.order.specs.Scratch.{orderPlace, placePlace, Ordered}
 use Rattle.pack.specs.Placing.{orderIn, span, placing, placedList, Placed, placed, onto, listPlaced, placedLists, Kept}
 use Rattle.pack.specs.Writing.{recordIn, listIn, bodyIn, sizesIn, bodyLength, fileLength, headOf}
 use Rattle.pack.proofs.Bounds.{lists-fit, order-at, order-length}

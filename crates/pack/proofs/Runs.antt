@@ -16,7 +16,7 @@ use Rattle.laws.proofs.Lists.{tabulate-same}
 use Rattle.laws.proofs.Undamaged.{headed}
 use Rattle.laws.proofs.StoreFacts.{store-header, cell-sound, cell-names}
 use Rattle.numbers.specs.Laid.{Reached, reached}
-use Rattle.pack.specs.Scratch.{orderPlace, placePlace}
+use Rattle.order.specs.Scratch.{orderPlace, placePlace}
 use Rattle.pack.specs.Placing.{placesIn, orderIn, span, placing, placedList, placed, onto, listPlaced, placedLists, Below, Kept}
 use Rattle.pack.proofs.Bounds.{lists-fit, order-at, order-length}
 use Rattle.pack.proofs.Placings.{words, placing-other, placing-length}

@@ -1,5 +1,3 @@
--- the scratch, and the order in it; the places, and the bytes by them
-pub mod Scratch
-pub mod OrderParts
+-- the places, and the bytes by them
 pub mod Placing
 pub mod Writing

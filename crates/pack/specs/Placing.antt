@@ -10,7 +10,7 @@ use Rattle.paper.specs.Store.{Cell, heights, mostCapacity, cellAt, cellNo, kept
 use Rattle.paper.specs.Pack.{width}
 use Rattle.paper.specs.Calls.{packScratch}
 use Rattle.numbers.specs.Laid.{Reached, reached}
-use Rattle.pack.specs.Scratch.{orderPlace, placePlace}
+use Rattle.order.specs.Scratch.{orderPlace, placePlace}
 
 -- list k's places in scratch, by cell number
 unfoldable pub placesIn : ℕ → ℕ → List ℕ → List ℕ

@@ -8,7 +8,7 @@ ghost use Rattle.paper.specs.Store.{mostCapacity, heights, capacityOf, keptCoun
 ghost use Rattle.paper.specs.Packed.{codeFor};
 ghost use Rattle.paper.specs.Pack.{code, width};
 ghost use Rattle.numbers.specs.Laid.{reached};
-ghost use Rattle.pack.specs.Scratch.{orderPlace, placePlace};
+ghost use Rattle.order.specs.Scratch.{orderPlace, placePlace};
 ghost use Rattle.pack.specs.Placing.{placesIn, span, placedList, placed, placedLists, Room, Below, Kept};
 use store::capacity;
 use store::cell_at;

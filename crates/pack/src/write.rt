@@ -1,7 +1,7 @@
 // A file's parts written over an output, each behind the other: pointers, records, lists, sizes.
 ghost use mathlib.Core.Path.{_≡_};
 ghost use mathlib.Core.List.{map};
-ghost use Prim.Native.Nat.{ℕ, _+_, _^_, _≤_, _<_};
+ghost use Prim.Native.Nat.{ℕ, _+_, _≤_, _<_};
 ghost use lib.Dec.{T};
 ghost use lib.ListN.{length, getD};
 ghost use Rattle.paper.specs.Numbers.{flatten};
@@ -16,6 +16,7 @@ use crate::place::code_of;
 use crate::place::order_at;
 use crate::place::place_of;
 use numbers::put_number;
+use numbers::wider;
 use store::capacity;
 use store::cell_at;
 use store::cell_number;
@@ -47,13 +48,6 @@ const SHORT_TAG: u64 = 8192;
 
 const LONG_TAG: u64 = 536870912;
 
-// A number of 32 bits as a wider one.
-fn wide(word: u32) -> u64
-    ensures { λ r. ⌜ (r ≡ word) × (r < 2 ^ 32) ⌝ }
-{
-    word as u64
-}
-
 // The header of the record of a cell whose pointers go into list k: two bits for each child.
 fn header_of(c: u32, k: u32, cell: [u32; 8], scratch: &[u32]) -> u32
     requires { ⌜ Room c k (now scratch) ⌝ }
@@ -79,13 +73,13 @@ fn write_pointer(c: u32, k: u32, p: u32, scratch: &[u32], out: &mut [u8], at: us
     if p == 0 {
         return at;
     }
-    let mirror = wide(tag(p));
+    let mirror = wider(tag(p));
     let place = place_of(c, k, cell_number(p), scratch);
     if place <= FARTHEST_SHORT {
-        put_number(out, at, SHORT_BYTES, mirror * SHORT_TAG + wide(place));
+        put_number(out, at, SHORT_BYTES, mirror * SHORT_TAG + wider(place));
         return at + SHORT_BYTES;
     }
-    put_number(out, at, LONG_BYTES, mirror * LONG_TAG + wide(place));
+    put_number(out, at, LONG_BYTES, mirror * LONG_TAG + wider(place));
     at + LONG_BYTES
 }
 
@@ -126,7 +120,7 @@ fn write_record(store: &[u32], k: u32, q: u32, scratch: &[u32], out: &mut [u8], 
     }
     let c = capacity(store);
     let cell = cell_at(store, k, q);
-    let bits = wide(header_of(c, k - 1, cell, scratch));
+    let bits = wider(header_of(c, k - 1, cell, scratch));
     put_number(out, at, HEADER_BYTES, bits);
     write_pointers(c, k - 1, cell, scratch, out, at + HEADER_BYTES)
 }
@@ -182,11 +176,11 @@ pub fn write_sizes(sizes: [u32; 15], top: u32, out: &mut [u8], at: usize) -> usi
     let mut k = top;
     let mut next = at;
     while k != 0 {
-        put_number(out, next, SIZE_BYTES, wide(sizes[k as usize]));
+        put_number(out, next, SIZE_BYTES, wider(sizes[k as usize]));
         next += SIZE_BYTES;
         k -= 1;
     }
-    put_number(out, next, SIZE_BYTES, wide(sizes[0]));
+    put_number(out, next, SIZE_BYTES, wider(sizes[0]));
     next + SIZE_BYTES
 }
 
@@ -196,10 +190,10 @@ pub fn file_length(sizes: [u32; 15], top: u32) -> u64
     ensures { λ r. ⌜ r ≡ fileLength sizes top ⌝ }
 {
     let mut k = top;
-    let mut sum = HEAD + SIZE_LENGTH * (wide(top) + 1);
+    let mut sum = HEAD + SIZE_LENGTH * (wider(top) + 1);
     while k != 0 {
-        sum += HALF_LENGTH * wide(sizes[k as usize]);
+        sum += HALF_LENGTH * wider(sizes[k as usize]);
         k -= 1;
     }
-    sum + LEAF_LENGTH * wide(sizes[0])
+    sum + LEAF_LENGTH * wider(sizes[0])
 }

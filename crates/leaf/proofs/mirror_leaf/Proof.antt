@@ -8,7 +8,8 @@ use lib.Bits.{bitXor}
 use borrow.Author.Needs.{needs}
 use Rattle.paper.specs.Numbers.{bit, gather}
 use Rattle.laws.proofs.Bits.{bit-lt}
-use Rattle.leaf.proofs.Turning.{turnOf, turn-lt, mirror-by-bits, gather-none, gather-down, gather-room}
+use Rattle.laws.proofs.Bits.{gather-none, gather-down, gather-room}
+use Rattle.leaf.proofs.Turning.{turnOf, turn-lt, mirror-by-bits}
 use Rattle.leaf.proofs.mirror_leaf.Statement.{statement}
 use Rattle.leaf.proofs.mirror_leaf.Tie as tie
 

@@ -1,7 +1,7 @@
 -- `place::code_for` meets its contract: by the two sides of the test. Assumes nothing.
 use mathlib.Core.Path.{sym}
 use native.Mathlib.Omega.{arith}
-use Rattle.pack.proofs.Codes.{short-code, long-code}
+use Rattle.laws.proofs.RecordSizes.{short-code, long-code}
 use Rattle.pack.proofs.place.code_for.Statement.{statement}
 use Rattle.pack.proofs.place.code_for.Tie as tie
 

@@ -4,7 +4,7 @@ use Prim.Native.Nat.{ℕ}
 use lib.ListN.{getD}
 use borrow.Author.Needs.{needs}
 use Rattle.paper.specs.Packed.{codeFor}
-use Rattle.laws.proofs.RecordReading.{no-code, some-code}
+use Rattle.laws.proofs.RecordSizes.{no-code, some-code}
 use Rattle.pack.specs.Placing.{placesIn}
 use Rattle.pack.proofs.place.code_of.Statement.{statement}
 use Rattle.pack.proofs.place.code_of.Tie as tie

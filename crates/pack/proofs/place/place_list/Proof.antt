@@ -7,7 +7,7 @@ use borrow.Author.Needs.{needs}
 use Rattle.paper.specs.Store.{capacityOf, keptCount, keptOf}
 use Rattle.laws.proofs.Undamaged.{headed}
 use Rattle.laws.proofs.StoreFacts.{store-header}
-use Rattle.pack.specs.Scratch.{orderPlace, placePlace}
+use Rattle.order.specs.Scratch.{orderPlace, placePlace}
 use Rattle.pack.specs.Placing.{orderIn, Room}
 use Rattle.pack.proofs.Bounds.{order-room, place-room, order-at}
 use Rattle.pack.proofs.Runs.{Run, run-first, run-next, run-on, run-last}

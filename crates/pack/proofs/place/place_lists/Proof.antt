@@ -5,7 +5,7 @@ use native.Mathlib.Omega.{arith}
 use lib.ListN.{getD}
 use borrow.Author.Needs.{needs}
 use Rattle.paper.specs.Store.{capacityOf, keptOf}
-use Rattle.pack.specs.Placing.{placed, placedLists}
+use Rattle.pack.specs.Placing.{placedLists}
 use Rattle.pack.proofs.Runs.{Lists, lists-first, lists-on, kept-still}
 use Rattle.pack.proofs.place.place_lists.Statement.{statement}
 use Rattle.pack.proofs.place.place_lists.Tie as tie

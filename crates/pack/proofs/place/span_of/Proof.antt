@@ -8,7 +8,7 @@ use Rattle.paper.specs.Pack.{width}
 use Rattle.laws.proofs.StoreFacts.{store-header}
 use Rattle.pack.specs.Placing.{placesIn}
 use Rattle.pack.proofs.Bounds.{room-below}
-use Rattle.pack.proofs.Codes.{width-le}
+use Rattle.laws.proofs.RecordSizes.{width-le}
 use Rattle.pack.proofs.Runs.{cell-below, span-leaf, span-cell}
 use Rattle.pack.proofs.place.span_of.Statement.{statement}
 use Rattle.pack.proofs.place.span_of.Tie as tie

@@ -5,9 +5,9 @@ use Prim.Native.Nat.{ℕ, suc, _+_, _-_, _*_, _≤_}
 use native.Mathlib.Omega.{arith}
 use lib.ListN.{length, getD, drop}
 use borrow.Author.Needs.{needs}
-use Rattle.paper.specs.Pack.{code, width}
+use Rattle.paper.specs.Pack.{width}
 use Rattle.pack.specs.Placing.{placesIn}
-use Rattle.pack.proofs.Codes.{code-le, width-none, width-down}
+use Rattle.laws.proofs.RecordSizes.{code-le, width-none, width-down}
 use Rattle.pack.proofs.place.width_of.Statement.{statement}
 use Rattle.pack.proofs.place.width_of.Tie as tie
 

@@ -7,7 +7,7 @@ use lib.ListN.{length, drop, length-drop}
 use borrow.Author.Needs.{needs}
 use Rattle.paper.specs.Pack.{header}
 use Rattle.pack.specs.Placing.{placesIn}
-use Rattle.pack.proofs.Codes.{header-small, header-none, header-down}
+use Rattle.laws.proofs.RecordSizes.{header-small, header-none, header-down}
 use Rattle.pack.proofs.write.header_of.Statement.{statement}
 use Rattle.pack.proofs.write.header_of.Tie as tie
 

@@ -9,7 +9,7 @@ use borrow.Author.Needs.{needs}
 use Rattle.paper.specs.Numbers.{flatten}
 use Rattle.paper.specs.Store.{capacityOf, keptCount, keptOf}
 use Rattle.laws.proofs.StoreFacts.{store-header}
-use Rattle.pack.specs.Scratch.{orderPlace}
+use Rattle.order.specs.Scratch.{orderPlace}
 use Rattle.pack.specs.Placing.{orderIn}
 use Rattle.pack.specs.Writing.{recordIn, listIn}
 use Rattle.pack.proofs.Bounds.{order-room, order-at, order-length}

@@ -97,39 +97,39 @@ header-of-requires c κs =
     )
 
 -- the pointers behind the header
-abbrev start : tie.After-wide → tie.Start
+abbrev start : tie.After-wider → tie.Start
 start c = c .before .before .before .before .before .before .before .before
 
-abbrev rest : tie.After-wide → List ℕ
+abbrev rest : tie.After-wider → List ℕ
 rest c =
     let d = c .before .before in
     flatten (map (pointerBytes (placesIn (d .before .capacity .result) (start c .args .k - 1) (start c .args .scratch .now))) (d .cell-at .result))
 
-whole : (c : tie.After-wide) → all (start c) ≡ bytes 2 (c .wide .result) ++ rest c
+whole : (c : tie.After-wider) → all (start c) ≡ bytes 2 (c .wider .result) ++ rest c
 whole c =
     let d = c .before .before in
     let p = d .before in
     let a = start c .args in
     ap (λ (x : ℕ). recordIn (keptOf (a .store .now)) x (a .k) (a .scratch .now) (a .q)) (sym (p .capacity .ensures))
-    ∙ record-cell (keptOf (a .store .now)) (p .capacity .result) (a .k) (a .scratch .now) (a .q) (c .wide .result) (d .cell-at .result) (p .before .if1 .left) (d .cell-at .ensures)
-    (c .wide .ensures .0 ∙ c .before .header-of .ensures)
+    ∙ record-cell (keptOf (a .store .now)) (p .capacity .result) (a .k) (a .scratch .now) (a .q) (c .wider .result) (d .cell-at .result) (p .before .if1 .left) (d .cell-at .ensures)
+    (c .wider .ensures .0 ∙ c .before .header-of .ensures)
 
-first : (c : tie.After-wide) → Going (all (start c)) (start c .args .at) (start c .args .out .now) (all (start c)) (start c .args .at) (start c .args .out .now)
+first : (c : tie.After-wider) → Going (all (start c)) (start c .args .at) (start c .args .out .now) (all (start c)) (start c .args .at) (start c .args .out .now)
 first c = going-first (all (start c)) (start c .args .at) (start c .args .out .now) (start c .pre .1 .1 .1)
 
 put-number-requires-2 : tie.Need-put-number-requires-2
 put-number-requires-2 c κs =
     let w = c .before in
     let a = start w .args in
-    rw (bytes-length 2 (w .wide .result)) at (going-room (bytes 2 (w .wide .result)) (rest w) (all (start w)) (a .at) (a .out .now) (all (start w)) (a .at) (a .out .now) (whole w) (first w))
+    rw (bytes-length 2 (w .wider .result)) at (going-room (bytes 2 (w .wider .result)) (rest w) (all (start w)) (a .at) (a .out .now) (all (start w)) (a .at) (a .out .now) (whole w) (first w))
 
 going : (c : tie.After-put-number2)
     → (let w = c .before .before in Going (rest w) (start w .args .at + 2) (c .put-number2 .last .0) (all (start w)) (start w .args .at) (start w .args .out .now))
 going c =
     let w = c .before .before in
     let a = start w .args in
-    going-on (all (start w)) (a .at) (a .out .now) (bytes 2 (w .wide .result)) (a .at) (a .out .now) (a .at + 2) (c .put-number2 .last .0)
-    (writing-number 2 (w .wide .result) (a .at) (a .out .now) (c .put-number2 .last .0) (c .put-number2 .ensures)) (rest w) (all (start w)) (whole w) (first w)
+    going-on (all (start w)) (a .at) (a .out .now) (bytes 2 (w .wider .result)) (a .at) (a .out .now) (a .at + 2) (c .put-number2 .last .0)
+    (writing-number 2 (w .wider .result) (a .at) (a .out .now) (c .put-number2 .last .0) (c .put-number2 .ensures)) (rest w) (all (start w)) (whole w) (first w)
 
 add-write-pointers : tie.Need-add-write-pointers
 add-write-pointers c =
