@@ -21,12 +21,12 @@ use Rattle.laws.proofs.PackedReached.{numbers}
 use Rattle.laws.proofs.Layouts.{sizes-length}
 use Rattle.numbers.specs.Laid.{Reached, reached}
 use Rattle.order.specs.Scratch.{orderPlace, placePlace, Ordered}
-use Rattle.pack.specs.Placing.{orderIn, span, placing, placedList, Placed, placed, onto, listPlaced, placedLists, Kept}
-use Rattle.pack.specs.Writing.{recordIn, listIn, bodyIn, sizesIn, bodyLength, fileLength, headOf}
-use Rattle.pack.proofs.Bounds.{lists-fit, order-at, order-length}
+use Rattle.placing.specs.Placing.{orderIn, span, placing, placedList, Placed, placed, onto, listPlaced, placedLists, Kept}
+use Rattle.writing.specs.Writing.{recordIn, listIn, bodyIn, sizesIn, bodyLength, fileLength, headOf}
+use Rattle.placing.proofs.Bounds.{lists-fit, order-at, order-length}
 use Rattle.pack.proofs.Heads.{head-length}
-use Rattle.pack.proofs.Placings.{stop, words, total, placing-length, placing-other, placing-stop, placing-at}
-use Rattle.pack.proofs.Runs.{kept-still}
+use Rattle.placing.proofs.Placings.{stop, words, total, placing-length, placing-other, placing-stop, placing-at}
+use Rattle.placing.proofs.Runs.{kept-still}
 use Rattle.pack.proofs.Scenes.{Told, ListIs, list-is, choice, N-kept, N-below, N-few, size-small, list-bytes, leaf-bytes}
 
 -- the sizes and the words once lists are placed

@@ -26,11 +26,11 @@ use Rattle.laws.proofs.PackedReached.{Chosen, numbers, Pointing, chosen, listed
 use Rattle.laws.proofs.PackedGraph.{graph-leaves, graph-inner}
 use Rattle.store.proofs.HeaderFacts.{header}
 use Rattle.order.specs.Scratch.{placePlace}
-use Rattle.pack.specs.Placing.{placesIn, span}
-use Rattle.pack.specs.Writing.{recordIn}
-use Rattle.pack.proofs.Bounds.{place-at}
-use Rattle.pack.proofs.Placings.{total}
-use Rattle.pack.proofs.KeptWords.{leaf-two, cell-eight}
+use Rattle.placing.specs.Placing.{placesIn, span}
+use Rattle.writing.specs.Writing.{recordIn}
+use Rattle.placing.proofs.Bounds.{place-at}
+use Rattle.placing.proofs.Placings.{total}
+use Rattle.writing.proofs.KeptWords.{leaf-two, cell-eight}
 use Rattle.pack.proofs.Renumbering.{same-list, same-size, same-places}
 
 -- ---- lists

@@ -1,3 +1,0 @@
--- the places, and the bytes by them
-pub mod Placing
-pub mod Writing
