@@ -3,12 +3,12 @@
 use mathlib.Core.Path.{_≡_, refl, sym, _∙_, ap, ap₂}
 use mathlib.Core.Bool.{Bool, true, false}
 use mathlib.Core.Logic.{_⊎_, inl, inr}
-use Prim.Native.Nat.{ℕ, zero, suc, _+_, _*_, _/_, _%_, _<_, _≤_, _^_, zero-le, suc-le-suc}
-use native.Mathlib.Nat.{le-of-suc-le-suc, not-suc-le-zero, mod-lt, zero-add, add-zero, eq-or-lt-of-le, zero-lt-suc}
+use Prim.Native.Nat.{ℕ, zero, suc, _+_, _-_, _*_, _/_, _%_, _<_, _≤_, _^_, zero-le, suc-le-suc}
+use native.Mathlib.Nat.{le-of-suc-le-suc, not-suc-le-zero, mod-lt, zero-add, add-zero, eq-or-lt-of-le, zero-lt-suc, pow-succ'}
 use native.Mathlib.Numerals.{one-add}
 use native.Mathlib.Omega.{arith}
 use lib.Dec.{eqb, lit<}
-use lib.Pow.{shr-shr}
+use lib.Pow.{shr-shr, pow-mono}
 use Rattle.paper.specs.Numbers.{bit, bitFor, gather}
 
 -- ---- bits of a number
@@ -89,6 +89,25 @@ gather-bits w n h =
     bits-ext w (gather 0 w (bit n)) n (gather-lt (bit n) (bit-lt n) w 0) h (λ k l. gather-bit (bit n) (bit-lt n) w 0 k l ∙ ap (bit n) (zero-add k))
 
 -- ---- bits for tests
+
+-- ---- gathered from the last bit down
+
+-- no bit yet, and one bit more below those gathered
+pub gather-none : (n : ℕ) (f : ℕ → ℕ) → gather n (n - n) f ≡ 0
+unfolding gather
+gather-none n f = let e : n - n ≡ 0 = omega arith in rw e
+
+pub gather-down : (n k : ℕ) (f : ℕ → ℕ) → (k ≡ 0 → ⊥) → k ≤ n → gather (k - 1) (n - (k - 1)) f ≡ f (k - 1) + 2 * gather k (n - k) f
+unfolding gather
+gather-down n zero f z h = absurd (z refl)
+gather-down n (suc k) f z h = let e : n - k ≡ suc (n - suc k) = omega arith in let d : suc k - 1 ≡ k = omega arith in rw (d, e)
+
+-- room for one bit more
+pub gather-room : (n k : ℕ) (f : ℕ → ℕ) → ((i : ℕ) → f i < 2) → (k ≡ 0 → ⊥) → k ≤ n → 2 * gather k (n - k) f + 1 < 2 ^ n
+gather-room n zero f hf z h = absurd (z refl)
+gather-room n (suc k) f hf z h =
+    let up : 2 ^ suc (n - suc k) ≤ 2 ^ n = pow-mono {i = suc (n - suc k)} {j = n} (omega arith) in
+    omega (arith, gather-lt f hf (n - suc k) (suc k), pow-succ' 2 (n - suc k), up)
 
 pub bitFor-lt : (b : Bool) → bitFor b < 2
 bitFor-lt true = lit< tt

@@ -2,31 +2,18 @@
 -- many do. By sums over the cube, each axis of the box cut to the child's half. Assumes nothing.
 use mathlib.Core.Path.{_≡_, refl, sym, _∙_, ap}
 use mathlib.Core.Bool.{Bool, true, false, cond, _&&_}
-use Prim.Native.Nat.{ℕ, zero, suc, _+_, _-_, _*_, _/_, _%_, _<_, _≤_, min}
+use Prim.Native.Nat.{ℕ, zero, suc, _+_, _-_, _*_, _/_, _%_, _<_, _≤_}
 use native.Mathlib.Nat.{not-suc-le-zero}
 use native.Mathlib.Omega.{arith}
 use lib.Dec.{T, leb, ltb, leb→le, le→leb, ltb→lt, lt→ltb, lit<}
 use borrow.Author.Tests.{lt-ltb, le-leb}
 use Rattle.paper.specs.Numbers.{sum, bitFor}
-use Rattle.paper.specs.Rooms.{Point, point, Room, Inside, childRoom, mirrored, Same, inBox, sum3, boxCount}
+use Rattle.paper.specs.Rooms.{Point, Room, Inside, childRoom, mirrored, Same, inBox, sum3, boxCount}
 use Rattle.paper.specs.Leaf.{voxelOf}
+pub use Rattle.laws.specs.Boxes.{origin, far, clip, clipped}
 use Rattle.laws.proofs.Tests.{iff-eq, and-left, and-right}
 use Rattle.laws.proofs.Mirrors.{fromChild}
 use Rattle.laws.proofs.Sums.{sum-same, sum3-same, sum3-zero, sum3-most, sum3-pos, sum3-some, sum3-mirrored, sum3-leaf, sum3-children}
-
--- the corner of all cubes, and the far corner of a cube of edge S
-abbrev pub origin : Point
-origin = point 0 0 0
-
-abbrev pub far : ℕ → Point
-far S = point S S S
-
--- a coordinate seen from half b of an axis, S the edge of a half; a corner of a box seen from child i
-abbrev pub clip : ℕ → ℕ → ℕ → ℕ
-clip S b c = min S (c - b * S)
-
-abbrev pub clipped : ℕ → ℕ → Point → Point
-clipped S i c = point (clip S (i % 2) (c .x)) (clip S (i / 2 % 2) (c .y)) (clip S (i / 4 % 2) (c .z))
 
 -- ---- one axis of a box
 

@@ -26,7 +26,7 @@ pub record Grown (K K′ : List (List Cell)) : Type 0 where
   pub ext : Extends K K′
   pub len : length K′ ≡ length K
 
-grown-refl : (K : List (List Cell)) → Grown K K
+pub grown-refl : (K : List (List Cell)) → Grown K K
 grown-refl K = record { ext = ext-refl K; len = refl }
 
 abbrev pub Grows : {A : Type 0} → List (List Cell) → Adding A → Type 0

@@ -8,21 +8,21 @@ use mathlib.Core.Option as O
 use Prim.Native.Nat.{ℕ, zero, suc, _+_, _-_, _<_, _≤_}
 use native.Mathlib.Nat.{zero-add, pow-succ'}
 use native.Mathlib.Omega.{arith}
-use lib.Dec.{T, eqb, leb, eqb→eq, leb→le, le→leb, lt→ltb}
-use lib.ListN.{length, getD, length-append}
+use lib.Dec.{T, eqb, eqb→eq, lt→ltb}
+use lib.ListN.{length, getD}
 use Rattle.paper.specs.Numbers.{allBelow}
-use Rattle.paper.specs.Rooms.{depthOk, least, deepest, Same, NonEmpty, childNo, inChild}
+use Rattle.paper.specs.Rooms.{depthOk, Same, NonEmpty, childNo, inChild}
 use Rattle.paper.specs.Outline.{edge, fileDepth, fileRoom}
-use Rattle.paper.specs.Store.{Cell, wordsOf, cellsAt, cellAt, leafNo, badPointer, anyBad, mostScenes, heights, used, cellWords, capacityOf, scenesHeld, keptCount, zerosPlace, keptOf, sceneDepth, sceneRoot, blank, capacityOk, headerOk, sceneOk, leafUsable, cellUsable, listUsable, scenesBlank, listBlank, storeOk}
+use Rattle.paper.specs.Store.{Cell, cellsAt, cellAt, leafNo, badPointer, anyBad, mostScenes, heights, cellWords, sceneDepth, sceneRoot, capacityOk, leafUsable, cellUsable, listUsable, storeOk}
 use Rattle.paper.specs.Meaning.{pointerVoxel, cellVoxel}
 use Rattle.paper.specs.Runs.{Bytes, sceneOf, Held, Occurs}
-use Rattle.laws.proofs.Tests.{true-T, and-right, and-T, and5-T, all-at, all-T, none-T}
+use Rattle.laws.proofs.Tests.{true-T, and-T, all-at, all-T, none-T}
 use Rattle.laws.proofs.Lists.{allIn-T}
 use Rattle.laws.proofs.Mirrors.{childNo-lt}
 use Rattle.laws.proofs.Leaves.{leafOf-solid, leafOf-leafVoxel}
 use Rattle.laws.proofs.Invariant.{OkPointer, ok-not-bad, LowTag, Shape, pointer-none}
 use Rattle.laws.proofs.Adding.{Sound, Invs}
-use Rattle.laws.proofs.Words.{Sized, snil, scons, Lists, lnil, lcons, Fine, storeWith, stored, wordsOf-length}
+use Rattle.laws.proofs.Words.{Sized, snil, scons, Lists, lnil, lcons, Fine, stored}
 use Rattle.laws.proofs.Outlines.{Accepted}
 use Rattle.laws.proofs.SoundWords.{sceneSound, soundStore, sound-words, depth-read, root-read}
 
@@ -114,9 +114,6 @@ invs-usable K I zero = allIn-T leafUsable [] (cellsAt K 0) (leaf-usable K I)
 invs-usable K I (suc k) = allIn-T (cellUsable (length (cellsAt K k))) [] (cellsAt K (suc k)) (cell-usable K I k)
 
 -- ---- so its words are undamaged
-
-pub root-list : (D : ℕ) → T (depthOk D) → D - 2 < heights
-root-list D d = omega (arith, leb→le D 16 (and-right (leb least D) (leb D deepest) d))
 
 module _ {C : ℕ} {S : List Cell} {K : List (List Cell)} {held : Held} (f : Filled C S K held) (l : List ℕ) where
   fine : Fine C S K

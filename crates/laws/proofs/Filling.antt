@@ -27,7 +27,8 @@ use Rattle.laws.proofs.Adding.{Answer, Sound, Invs, Done, Refused, no-c
 use Rattle.laws.proofs.AddingTrees.{addTree-done}
 use Rattle.laws.proofs.Outlines.{Accepted, depth-two}
 use Rattle.laws.proofs.TreesRead.{outline-good}
-use Rattle.laws.proofs.Filled.{Stands, Filled, root-list}
+use Rattle.laws.proofs.Undamaged.{depth-low}
+use Rattle.laws.proofs.Filled.{Stands, Filled}
 
 -- ---- cells that occur in the scenes held
 
@@ -114,7 +115,7 @@ file-adds C K c e s I file b a =
     let k : ℕ = fileDepth file - 2 in
     subst (λ (r : Room). Answer (Refused (Unit {0}) C K (InRoom.Occurs r k)) (Done (Unit {0}) C K k r) (addTree C (outlineTree file) k K)) (tree-room file (a .deep))
     (addTree-done (Unit {0}) C (leb→le C mostCapacity (and-right (leb 1 C) (leb C mostCapacity) c)) (outline-good file b) K s (λ u. I)
-    (omega (arith, root-list (fileDepth file) (a .deep))))
+    (omega (arith, depth-low (fileDepth file) (a .deep))))
 
 module _ {C : ℕ} {S : List Cell} {K : List (List Cell)} {held : Held} (f : Filled C S K held) (file : List ℕ) (b : Bytes file) (a : Accepted file)
     (p : ℕ) (K′ : List (List Cell)) (d : Done (Unit {0}) C K (fileDepth file - 2) (fileRoom file) p K′) (room : length S < mostScenes) where

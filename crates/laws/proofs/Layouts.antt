@@ -21,7 +21,8 @@ use Rattle.paper.specs.Pack.{places, size, listBytes, sizeBytes, body, layout}
 use Rattle.laws.proofs.Tests.{T-true, true-T, and-T, all-T}
 use Rattle.laws.proofs.Lists.{Once, length-count, getD-count, length-tabulate, getD-tabulate}
 use Rattle.laws.proofs.Bytes.{bytes-length}
-use Rattle.laws.proofs.RecordReading.{num-bytes, Row, ListRead, list-read, list-length, places-length, places-in, places-once}
+use Rattle.laws.proofs.RecordSizes.{list-length}
+use Rattle.laws.proofs.RecordReading.{num-bytes, Row, ListRead, list-read, places-length, places-in, places-once}
 use Rattle.laws.proofs.RecordCells.{list-back, list-good, LeafRow, LeavesRead, leaves-read, leaves-length}
 
 -- a graph that can be laid out
@@ -60,7 +61,7 @@ module _ (k : ℕ) (K : List (List Cell)) (g : Layable k K) where
   -- sizes in bytes
   pub list-size : (j : ℕ) → j < k → length (listBytes K (suc j)) ≡ 2 * size K (suc j)
   unfolding listBytes size
-  list-size j h = list-length (places K j) (places-small j (omega arith)) (cellsAt K (suc j)) (rows-at j h)
+  list-size j h = list-length (places K j) (cellsAt K (suc j))
 
   pub leaf-size : length (listBytes K 0) ≡ 8 * size K 0
   unfolding listBytes size

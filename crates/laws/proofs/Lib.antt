@@ -27,6 +27,7 @@ pub mod SoundWords
 pub mod Matching
 pub mod Invariant
 pub mod Masks
+pub mod MaskLoop
 pub mod Seeking
 pub mod Growing
 pub mod Keeping
@@ -68,6 +69,7 @@ pub mod OpenClaim
 pub mod PackedLists
 pub mod PackedWalk
 pub mod ProperClaim
+pub mod RecordSizes
 pub mod RecordReading
 pub mod RecordCells
 pub mod Layouts

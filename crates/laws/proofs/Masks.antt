@@ -9,26 +9,16 @@ use borrow.Author.Tests.{eqb-true, eqb-false}
 use lib.Bits.{bitXor}
 use lib.Dec.{T, eqb, lit<}
 use lib.ListN.{getD}
-use Rattle.paper.specs.Numbers.{allBelow, bit, bitFor, gather}
+use Rattle.paper.specs.Numbers.{bit}
 use Rattle.paper.specs.Store.{Cell, cellAt, tagOf, cellNo}
 use Rattle.paper.specs.Match.{pointerMatch, cellMatch, matches}
+unfoldable pub use Rattle.laws.specs.Masks.{maskFor, maskMatch}
+pub use Rattle.laws.specs.Masks.{marked, symmetries, ChildMasks}
 use Rattle.laws.proofs.Tests.{all-same, T-true}
 use Rattle.laws.proofs.Bits.{tests-bit, tests-lt, tests-ext}
 use Rattle.laws.proofs.Matching.{turn-lt, selfAt, LeafFits, match-self, self-same}
 
 -- ---- the mask of tests, and of a cell
-
--- 8 bits, bit t the test at t
-unfoldable pub maskFor : (ℕ → Bool) → ℕ
-maskFor p = gather 0 8 (λ t. bitFor (p t))
-
--- bit t of a mask, as a test
-abbrev pub marked : ℕ → ℕ → Bool
-marked m t = eqb (bit m t) 1
-
--- the mirrors under which a cell of list k matches itself
-abbrev pub symmetries : List (List Cell) → ℕ → Cell → ℕ
-symmetries K k c = maskFor (matches K k c c)
 
 pub mask-lt : (p : ℕ → Bool) → maskFor p < 2 ^ 8
 unfolding maskFor
@@ -64,14 +54,6 @@ pointer-agree f g t p q ht e = go (eqb p 0) refl
         ≡ cond b (eqb q 0) (cond (eqb q 0) false (cond (eqb (cellNo p) (cellNo q)) (g (cellNo p) (bitXor (bitXor (tagOf p) (tagOf q)) t)) false))
     go true h = refl
     go false h = rw (e (eqb-false p 0 h) (bitXor (bitXor (tagOf p) (tagOf q)) t) (turn-lt t p q ht))
-
--- cell a matches b under t, ms being the masks of the cells that a's eight pointers name
-unfoldable pub maskMatch : List ℕ → Cell → Cell → ℕ → Bool
-maskMatch ms a b t = allBelow 8 (λ i. pointerMatch (λ q u. marked (getD ms i 0) u) t (getD a i 0) (getD b (bitXor i t) 0))
-
--- ms has the masks of a's children; nothing is asked where there is none
-abbrev pub ChildMasks : List (List Cell) → ℕ → Cell → List ℕ → Type 0
-ChildMasks K k a ms = (i : ℕ) → i < 8 → (getD a i 0 ≡ 0 → ⊥) → getD ms i 0 ≡ symmetries K k (cellAt K k (cellNo (getD a i 0)))
 
 pub mask-match : (K : List (List Cell)) (k : ℕ) (a b : Cell) (ms : List ℕ) (t : ℕ) → t < 8 → ChildMasks K k a ms → maskMatch ms a b t ≡ matches K (suc k) a b t
 unfolding maskMatch matches cellMatch

@@ -28,6 +28,21 @@ use Rattle.laws.proofs.Invariant.{Names, Alike, LowTag}
 use Rattle.laws.proofs.PackedOrder.{every-at, pairs-at, Before, Counted}
 use Rattle.laws.proofs.PackedReached.{InList, none-renumbered, listed-cell, listed-tag, listed-some, popularity-same, Packable, Chosen, numbers, keptAt, uses, N-top, N-chosen, N-few, N-used, N-falls, all-listed, before-le}
 
+-- ---- the lists of a scene's graph
+
+module _ (K : List (List Cell)) (k p : ℕ) where
+  graph-list : (j : ℕ) → j ≤ k → cellsAt (sceneGraph K k p) j ≡ listFor K (numbers K k p) j
+  unfolding sceneGraph
+  graph-list j h = getD-tabulate (suc k) 0 j (listFor K (numbers K k p)) [] (omega arith) ∙ ap (listFor K (numbers K k p)) (zero-add j)
+
+  pub graph-leaves : cellsAt (sceneGraph K k p) 0 ≡ map (cellAt K 0) (numbers K k p 0)
+  unfolding listFor
+  graph-leaves = graph-list 0 (omega arith)
+
+  pub graph-inner : (j : ℕ) → j < k → cellsAt (sceneGraph K k p) (suc j) ≡ map (λ q. map (renumber (numbers K k p j)) (cellAt K (suc j) q)) (numbers K k p (suc j))
+  unfolding listFor
+  graph-inner j h = graph-list (suc j) h
+
 module _ (K : List (List Cell)) (s : Packable K) (k p : ℕ) (hp : Names (length (cellsAt K k)) p) where
   abbrev N : ℕ → List ℕ
   N = numbers K k p
@@ -43,27 +58,15 @@ module _ (K : List (List Cell)) (s : Packable K) (k p : ℕ) (hp : Names (length
 
   -- ---- the graph's cells
 
-  graph-list : (j : ℕ) → j ≤ k → cellsAt G j ≡ listFor K N j
-  unfolding sceneGraph
-  graph-list j h = getD-tabulate (suc k) 0 j (listFor K N) [] (omega arith) ∙ ap (listFor K N) (zero-add j)
-
-  graph-leaves : cellsAt G 0 ≡ map (cellAt K 0) (N 0)
-  unfolding listFor
-  graph-leaves = graph-list 0 (omega arith)
-
-  graph-inner : (j : ℕ) → j < k → cellsAt G (suc j) ≡ map (λ q. map (renumber (N j)) (cellAt K (suc j) q)) (N (suc j))
-  unfolding listFor
-  graph-inner j h = graph-list (suc j) h
-
   pub graph-length : (j : ℕ) → j ≤ k → length (cellsAt G j) ≡ length (N j)
-  graph-length zero h = ap length graph-leaves ∙ length-map (N 0) (cellAt K 0)
-  graph-length (suc j) h = ap length (graph-inner j h) ∙ length-map (N (suc j)) (λ q. map (renumber (N j)) (cellAt K (suc j) q))
+  graph-length zero h = ap length (graph-leaves K k p) ∙ length-map (N 0) (cellAt K 0)
+  graph-length (suc j) h = ap length (graph-inner K k p j h) ∙ length-map (N (suc j)) (λ q. map (renumber (N j)) (cellAt K (suc j) q))
 
   pub graph-leaf : (n : ℕ) → n < length (N 0) → cellAt G 0 n ≡ kept 0 n
-  graph-leaf n h = ap (λ (l : List Cell). getD l n []) graph-leaves ∙ map-at (cellAt K 0) (N 0) n 0 [] h
+  graph-leaf n h = ap (λ (l : List Cell). getD l n []) (graph-leaves K k p) ∙ map-at (cellAt K 0) (N 0) n 0 [] h
 
   pub graph-cell : (j : ℕ) → j < k → (n : ℕ) → n < length (N (suc j)) → cellAt G (suc j) n ≡ map (renumber (N j)) (kept (suc j) n)
-  graph-cell j h n m = ap (λ (l : List Cell). getD l n []) (graph-inner j h) ∙ map-at (λ q. map (renumber (N j)) (cellAt K (suc j) q)) (N (suc j)) n 0 [] m
+  graph-cell j h n m = ap (λ (l : List Cell). getD l n []) (graph-inner K k p j h) ∙ map-at (λ q. map (renumber (N j)) (cellAt K (suc j) q)) (N (suc j)) n 0 [] m
 
   pub graph-pointer : (j : ℕ) → j < k → (n : ℕ) → n < length (N (suc j)) → (i : ℕ) → getD (cellAt G (suc j) n) i 0 ≡ renumber (N j) (getD (kept (suc j) n) i 0)
   unfolding renumber
@@ -110,7 +113,7 @@ module _ (K : List (List Cell)) (s : Packable K) (k p : ℕ) (hp : Names (length
   -- as many records name it as cells named the kept cell
   graph-popularity : (j : ℕ) → j < k → (q : ℕ) → q < length (N j) → popularity (cellsAt G (suc j)) q ≡ used j (getD (N j) q 0)
   graph-popularity j h q m =
-      ap (λ (l : List Cell). popularity l q) (graph-inner j h)
+      ap (λ (l : List Cell). popularity l q) (graph-inner K k p j h)
       ∙ popularity-same (N j) (N-few K s k p hp j (omega arith)) (N-chosen K s k p hp j (omega arith) .once) q m (cellAt K (suc j)) (N (suc j)) (λ n l i. all-listed K s k p hp j h n l i)
 
   -- every record below the top is named
@@ -119,7 +122,7 @@ module _ (K : List (List Cell)) (s : Packable K) (k p : ℕ) (hp : Names (length
   named-ok j h =
       all-T (length (cellsAt G j)) _ (λ q hq.
       let l : q < length (N j) = omega (arith, graph-length j (omega arith)) in
-      let u : Counted (used j) (length (N (suc j))) (length (cellsAt K j)) (getD (N j) q 0) = every-at _ (N j) (N-used K s k p hp j h) q l in
+      let u : Counted (used j) (length (N (suc j))) (length (cellsAt K j)) (getD (N j) q 0) = every-at _ (N j) (N-used K k p j h) q l in
       true-T (lt-ltb 0 (popularity (cellsAt G (suc j)) q) (omega (arith, graph-popularity j h q l, u .some))))
 
   -- along each list that number never rises
@@ -128,7 +131,7 @@ module _ (K : List (List Cell)) (s : Packable K) (k p : ℕ) (hp : Names (length
   falling-ok j h =
       all-T (length (cellsAt G j) - 1) _ (λ q hq.
       let l : suc q < length (N j) = omega (arith, graph-length j (omega arith)) in
-      let b : Before (used j) (getD (N j) q 0) (getD (N j) (suc q) 0) = pairs-at (Before (used j)) (N j) (N-falls K s k p hp j h) q (suc q) (omega arith) l in
+      let b : Before (used j) (getD (N j) q 0) (getD (N j) (suc q) 0) = pairs-at (Before (used j)) (N j) (N-falls K k p j h) q (suc q) (omega arith) l in
       true-T (le-leb (popularity (cellsAt G (suc j)) (suc q)) (popularity (cellsAt G (suc j)) q)
       (omega (arith, graph-popularity j h q (omega arith), graph-popularity j h (suc q) l, before-le (used j) (getD (N j) q 0) (getD (N j) (suc q) 0) b))))
 

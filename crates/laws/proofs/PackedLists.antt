@@ -57,7 +57,7 @@ unfolding halves
 halves-one zero h = lit< tt
 halves-one (suc n) h = omega (arith, halves-one n (h / 4))
 
-halves-two : (n h : ℕ) → h < 4 ^ n → 0 < h → 2 ≤ halves n h
+pub halves-two : (n h : ℕ) → h < 4 ^ n → 0 < h → 2 ≤ halves n h
 unfolding halves
 halves-two zero h l p = omega arith
 halves-two (suc n) h l p = go (eqb (h % 4) 0) refl (halves-two n (h / 4))
@@ -71,7 +71,7 @@ record Start (l : List ℕ) (p q s : ℕ) : Type 0 where
   late : p + 2 * q ≤ s
   inside : 2 * s < length l
 
-record-two : (l : List ℕ) (p : ℕ) → Bytes l → T (recordOk l p) → 2 ≤ halves 8 (headerAt l p)
+pub record-two : (l : List ℕ) (p : ℕ) → Bytes l → T (recordOk l p) → 2 ≤ halves 8 (headerAt l p)
 unfolding recordOk
 record-two l p b t =
     halves-two 8 (headerAt l p) (omega (arith, num2-lt (drop (2 * p) l) (bytes-drop (2 * p) l b)))

@@ -23,7 +23,7 @@ use Rattle.laws.proofs.PackedOrder.{Every, Pairs, every-at, Before, Cou
 
 -- ---- which cells are named
 
-names-at : (c : Cell) (i : ℕ) → (getD c i 0 ≡ 0 → ⊥) → names (cellNo (getD c i 0)) c ≡ true
+pub names-at : (c : Cell) (i : ℕ) → (getD c i 0 ≡ 0 → ⊥) → names (cellNo (getD c i 0)) c ≡ true
 unfolding names
 names-at [] i n = absurd (n refl)
 names-at (p ∷ c) zero n = rw (ne-eqb p 0 n, eq-eqb (cellNo p) (cellNo p) refl)
@@ -37,13 +37,13 @@ names-at (p ∷ c) (suc i) n = go (eqb p 0) (eqb (cellNo p) (cellNo (getD c i 0)
     go false true e = refl
     go false false e = e
 
-popularity-pos : (cs : List Cell) (i q : ℕ) → i < length cs → names q (getD cs i []) ≡ true → 1 ≤ popularity cs q
+pub popularity-pos : (cs : List Cell) (i q : ℕ) → i < length cs → names q (getD cs i []) ≡ true → 1 ≤ popularity cs q
 unfolding popularity
 popularity-pos [] i q h e = absurd (not-suc-le-zero h)
 popularity-pos (c ∷ cs) zero q h e = rw e (omega arith)
 popularity-pos (c ∷ cs) (suc i) q h e = omega (arith, popularity-pos cs i q (le-of-suc-le-suc h) e)
 
-popularity-le : (cs : List Cell) (q : ℕ) → popularity cs q ≤ length cs
+pub popularity-le : (cs : List Cell) (q : ℕ) → popularity cs q ≤ length cs
 unfolding popularity
 popularity-le [] q = omega arith
 popularity-le (c ∷ cs) q = go (names q c) (popularity-le cs q)
@@ -115,7 +115,7 @@ module _ (ns : List ℕ) (few : length ns ≤ mostCapacity) where
 
 -- ---- which numbers are reached
 
-reached-top : (K : List (List Cell)) (k : ℕ) (ns : List ℕ) → reached K k ns k ≡ ns
+pub reached-top : (K : List (List Cell)) (k : ℕ) (ns : List ℕ) → reached K k ns k ≡ ns
 unfolding reached
 reached-top K zero ns = refl
 reached-top K (suc k) ns = rw (eq-eqb (suc k) (suc k) refl)
@@ -124,7 +124,7 @@ reached-below : (K : List (List Cell)) (k : ℕ) (ns : List ℕ) (j : ℕ) → j
 unfolding reached
 reached-below K k ns j h = rw (ne-eqb j (suc k) (λ e. omega arith))
 
-reached-next : (K : List (List Cell)) (k : ℕ) (ns : List ℕ) (j : ℕ) → j < k → reached K k ns j ≡ next K j (reached K k ns (suc j))
+pub reached-next : (K : List (List Cell)) (k : ℕ) (ns : List ℕ) (j : ℕ) → j < k → reached K k ns j ≡ next K j (reached K k ns (suc j))
 reached-next K zero ns j h = absurd (not-suc-le-zero h)
 reached-next K (suc k) ns j h =
     reached-below K k ns j (le-of-suc-le-suc h)
@@ -180,7 +180,12 @@ uses K k p j = popularity (map (cellAt K (suc j)) (numbers K k p (suc j)))
 pub N-top : (K : List (List Cell)) (k p : ℕ) → numbers K k p k ≡ cellNo p ∷ []
 N-top K k p = reached-top K k (cellNo p ∷ [])
 
-module _ (K : List (List Cell)) (s : Packable K) (k p : ℕ) (hp : Names (length (cellsAt K k)) p) where
+-- where every pointer of a kept cell names one of the list below, or none, each list's numbers are kept ones, none twice, and every cell that a
+-- reached one names is reached
+abbrev pub Pointing : List (List Cell) → ℕ → Type 0
+Pointing K k = (j : ℕ) → j < k → (q : ℕ) → q < length (cellsAt K (suc j)) → (i : ℕ) → OkPointer (length (cellsAt K j)) (getD (cellAt K (suc j) q) i 0)
+
+module _ (K : List (List Cell)) (k p : ℕ) where
   abbrev N : ℕ → List ℕ
   N = numbers K k p
 
@@ -191,19 +196,6 @@ module _ (K : List (List Cell)) (s : Packable K) (k p : ℕ) (hp : Names (length
   unfolding next
   N-next j h = reached-next K k (cellNo p ∷ []) j h
 
-  pub N-chosen : (j : ℕ) → j ≤ k → Chosen (length (cellsAt K j)) (N j)
-  N-chosen j h = go (eq-or-lt-of-le h)
-    where
-      top : Chosen (length (cellsAt K k)) (N k)
-      top = subst (Chosen (length (cellsAt K k))) (sym (reached-top K k (cellNo p ∷ []))) (chosen-one (cellNo p) (length (cellsAt K k)) (omega arith))
-
-      go : (j ≡ k) ⊎ (j < k) → Chosen (length (cellsAt K j)) (N j)
-      go (inl e) = subst (λ (i : ℕ). Chosen (length (cellsAt K i)) (N i)) (sym e) top
-      go (inr l) = subst (Chosen (length (cellsAt K j))) (sym (N-next j l)) (chosen-ordered (used j) (length (N (suc j))) (length (cellsAt K j)))
-
-  pub N-few : (j : ℕ) → j ≤ k → length (N j) ≤ mostCapacity
-  N-few j h = omega (arith, N-chosen j h .len, s .few j)
-
   pub N-used : (j : ℕ) → j < k → Every (Counted (used j) (length (N (suc j))) (length (cellsAt K j))) (N j)
   N-used j h =
       subst (Every (Counted (used j) (length (N (suc j))) (length (cellsAt K j)))) (sym (N-next j h)) (ordered-counted (used j) (length (N (suc j))) (length (cellsAt K j)))
@@ -211,36 +203,54 @@ module _ (K : List (List Cell)) (s : Packable K) (k p : ℕ) (hp : Names (length
   pub N-falls : (j : ℕ) → j < k → Pairs (Before (used j)) (N j)
   N-falls j h = subst (Pairs (Before (used j))) (sym (N-next j h)) (ordered-pairs (used j) (length (N (suc j))) (length (cellsAt K j)))
 
-  -- every cell that a reached one names is reached
-  ok-pointer : (j q : ℕ) → q < length (cellsAt K (suc j)) → (i : ℕ) → OkPointer (length (cellsAt K j)) (getD (cellAt K (suc j) q) i 0)
-  ok-pointer j q h i = go (decLt i 8)
+  module _ (root : cellNo p < length (cellsAt K k)) where
+    pub chosen : (j : ℕ) → j ≤ k → Chosen (length (cellsAt K j)) (N j)
+    chosen j h = go (eq-or-lt-of-le h)
+      where
+        top : Chosen (length (cellsAt K k)) (N k)
+        top = subst (Chosen (length (cellsAt K k))) (sym (reached-top K k (cellNo p ∷ []))) (chosen-one (cellNo p) (length (cellsAt K k)) root)
+
+        go : (j ≡ k) ⊎ (j < k) → Chosen (length (cellsAt K j)) (N j)
+        go (inl e) = subst (λ (i : ℕ). Chosen (length (cellsAt K i)) (N i)) (sym e) top
+        go (inr l) = subst (Chosen (length (cellsAt K j))) (sym (N-next j l)) (chosen-ordered (used j) (length (N (suc j))) (length (cellsAt K j)))
+
+    pub listed : Pointing K k → (j : ℕ) → j < k → (n : ℕ) → n < length (N (suc j)) → (i : ℕ) → InList (N j) (getD (keptAt K k p (suc j) n) i 0)
+    listed ok j h n m i = go (ok j h (getD (N (suc j)) n 0) (chosen (suc j) h .below n m) i)
+      where
+        r : ℕ
+        r = getD (keptAt K k p (suc j) n) i 0
+
+        go : OkPointer (length (cellsAt K j)) r → InList (N j) r
+        go (inl e) = inl e
+        go (inr w) =
+            let some : r ≡ 0 → ⊥ = λ e. omega arith in
+            let cs : List Cell = map (cellAt K (suc j)) (N (suc j)) in
+            let is : getD cs n [] ≡ keptAt K k p (suc j) n = map-at (cellAt K (suc j)) (N (suc j)) n 0 [] m in
+            let count : Counted (used j) (length (N (suc j))) (length (cellsAt K j)) (cellNo r) =
+            record {
+              below = omega arith;
+              some = popularity-pos cs n (cellNo r) (omega (arith, length-map (N (suc j)) (cellAt K (suc j)))) (ap (names (cellNo r)) is ∙ names-at (keptAt K k p (suc j) n) i some);
+              most = omega (arith, popularity-le cs (cellNo r), length-map (N (suc j)) (cellAt K (suc j)));
+            } in
+            inr (record {
+              some = some;
+              at = isIn-at (cellNo r) (N j) (subst (λ (l : List ℕ). T (isIn (cellNo r) l)) (sym (N-next j h)) (ordered-all (used j) (length (N (suc j))) (length (cellsAt K j)) (cellNo r) count));
+            })
+
+-- so it is in lists that can be packed
+module _ (K : List (List Cell)) (s : Packable K) (k p : ℕ) (hp : Names (length (cellsAt K k)) p) where
+  pub N-chosen : (j : ℕ) → j ≤ k → Chosen (length (cellsAt K j)) (numbers K k p j)
+  N-chosen = chosen K k p (omega arith)
+
+  pub N-few : (j : ℕ) → j ≤ k → length (numbers K k p j) ≤ mostCapacity
+  N-few j h = omega (arith, N-chosen j h .len, s .few j)
+
+  pointing : Pointing K k
+  pointing j h q l i = go (decLt i 8)
     where
       go : Dec (i < 8) → OkPointer (length (cellsAt K j)) (getD (cellAt K (suc j) q) i 0)
-      go (yes l) = s .invs (suc j) .ok q h i l
-      go (no n) = inl (List·getD-eq-default (cellAt K (suc j) q) 0 (omega (arith, s .invs (suc j) .shape q h .0)))
+      go (yes m) = s .invs (suc j) .ok q l i m
+      go (no n) = inl (List·getD-eq-default (cellAt K (suc j) q) 0 (omega (arith, s .invs (suc j) .shape q l .0)))
 
-  abbrev kept : ℕ → ℕ → Cell
-  kept = keptAt K k p
-
-  pub all-listed : (j : ℕ) → j < k → (n : ℕ) → n < length (N (suc j)) → (i : ℕ) → InList (N j) (getD (kept (suc j) n) i 0)
-  all-listed j h n m i = go (ok-pointer j (getD (N (suc j)) n 0) (N-chosen (suc j) h .below n m) i)
-    where
-      r : ℕ
-      r = getD (kept (suc j) n) i 0
-
-      go : OkPointer (length (cellsAt K j)) r → InList (N j) r
-      go (inl e) = inl e
-      go (inr w) =
-          let some : r ≡ 0 → ⊥ = λ e. omega arith in
-          let cs : List Cell = map (cellAt K (suc j)) (N (suc j)) in
-          let is : getD cs n [] ≡ kept (suc j) n = map-at (cellAt K (suc j)) (N (suc j)) n 0 [] m in
-          let count : Counted (used j) (length (N (suc j))) (length (cellsAt K j)) (cellNo r) =
-          record {
-            below = omega arith;
-            some = popularity-pos cs n (cellNo r) (omega (arith, length-map (N (suc j)) (cellAt K (suc j)))) (ap (names (cellNo r)) is ∙ names-at (kept (suc j) n) i some);
-            most = omega (arith, popularity-le cs (cellNo r), length-map (N (suc j)) (cellAt K (suc j)));
-          } in
-          inr (record {
-            some = some;
-            at = isIn-at (cellNo r) (N j) (subst (λ (l : List ℕ). T (isIn (cellNo r) l)) (sym (N-next j h)) (ordered-all (used j) (length (N (suc j))) (length (cellsAt K j)) (cellNo r) count));
-          })
+  pub all-listed : (j : ℕ) → j < k → (n : ℕ) → n < length (numbers K k p (suc j)) → (i : ℕ) → InList (numbers K k p j) (getD (keptAt K k p (suc j) n) i 0)
+  all-listed = listed K k p (omega arith) pointing

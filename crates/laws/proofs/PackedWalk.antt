@@ -129,9 +129,9 @@ module _ (bs : List ℕ) (by : Bytes bs) (few : 8 * sizeAt bs 0 + 8 < 2 ^ 32) (w
 -- ---- from the root
 
 -- a list with a record has one at its start, number 0
-record First (ss : List ℕ) : Type 0 where
-  there : T (isIn 0 ss)
-  number : indexIn 0 ss ≡ 0
+pub record First (ss : List ℕ) : Type 0 where
+  pub there : T (isIn 0 ss)
+  pub number : indexIn 0 ss ≡ 0
 
 first-cons : (ss : List ℕ) → First (0 ∷ ss)
 unfolding isIn indexIn
@@ -151,7 +151,7 @@ first-inner l (suc n) = go (ltb (2 * 0) (length l)) (startsFrom l n (0 + halves 
     go true ss h = first-cons ss
     go false ss h = absurd (not-suc-le-zero h)
 
-first : (bs : List ℕ) (k : ℕ) → 0 < length (placesAt bs k) → First (placesAt bs k)
+pub first : (bs : List ℕ) (k : ℕ) → 0 < length (placesAt bs k) → First (placesAt bs k)
 unfolding placesAt
 first bs zero h = first-leaf (sizeAt bs 0) h
 first bs (suc k) h = first-inner (listAt bs (suc k)) (sizeAt bs (suc k)) h

@@ -2,7 +2,7 @@
 -- a list at most 65,536 records. From the laws of the graph and of layouts. Assumes nothing.
 use mathlib.Core.Path.{_≡_, refl, sym, _∙_, subst, subst₂, ap}
 use mathlib.Core.Bool.{Bool, true, false, cond, false≢true}
-use mathlib.Core.List.{List, [], _∷_, _++_}
+use mathlib.Core.List.{List, _++_}
 use mathlib.Core.Logic.{inl, inr}
 use Prim.Native.Nat.{ℕ, zero, suc, _+_, _-_, _*_, _^_, _<_, _≤_}
 use native.Mathlib.Nat.{zero-div}
@@ -17,7 +17,7 @@ use Rattle.paper.specs.Outline.{edge, fileDepth}
 use Rattle.paper.specs.Store.{Cell, mostCapacity, heights, cellNo, tagOf, leafNo, cellsAt, cellAt}
 use Rattle.paper.specs.Meaning.{pointerVoxel, cellVoxel}
 use Rattle.paper.specs.Packed.{packedHead, headOk, packedRules, proper, packedRoom}
-use Rattle.paper.specs.Pack.{code, width, sizeOf, places, size, listBytes, sizeBytes, body, layout, emptyFile, renumber, sceneGraph, packedFile}
+use Rattle.paper.specs.Pack.{places, size, listBytes, sizeBytes, body, layout, emptyFile, renumber, sceneGraph, packedFile}
 use Rattle.paper.specs.Runs.{Bytes}
 use Rattle.laws.proofs.Tests.{T-true}
 use Rattle.laws.proofs.Lists.{length-tabulate}
@@ -26,7 +26,8 @@ use Rattle.laws.proofs.Undamaged.{depth-low}
 use Rattle.laws.proofs.Matching.{tag-lt}
 use Rattle.laws.proofs.Invariant.{Names, OkPointer, LowTag, TwoWords, names-ne}
 use Rattle.laws.proofs.Adding.{pointer-names}
-use Rattle.laws.proofs.RecordReading.{NamesWord, OkLink, Row, code-low}
+use Rattle.laws.proofs.RecordSizes.{size-le}
+use Rattle.laws.proofs.RecordReading.{NamesWord, OkLink, Row}
 use Rattle.laws.proofs.RecordCells.{LeafRow}
 use Rattle.laws.proofs.Layouts.{Layable, list-size, leaf-size, sizes-length, layout-proper, layout-room}
 use Rattle.laws.proofs.LayoutBytes.{layout-bytes, empty-bytes}
@@ -37,24 +38,6 @@ use Rattle.laws.proofs.PackedGraph.{graph-length, graph-leaf, graph-cel
 
 abbrev mostHalves : ℕ
 mostHalves = 17 * mostCapacity
-
-code-le : (ps : List ℕ) (p : ℕ) → code ps p ≤ 2
-unfolding code
-code-le ps p = go (eqb p 0) (code-low (getD ps (cellNo p) 0))
-  where
-    go : (b : Bool) {n : ℕ} → n < 3 → cond b 0 n ≤ 2
-    go true h = omega arith
-    go false h = omega arith
-
-width-le : (ps : List ℕ) (c : Cell) → width ps c ≤ 1 + 2 * length c
-unfolding width
-width-le ps [] = omega arith
-width-le ps (p ∷ c) = omega (arith, code-le ps p, width-le ps c)
-
-size-le : (ps : List ℕ) (cs : List Cell) → ((q : ℕ) → q < length cs → length (getD cs q []) ≡ 8) → sizeOf ps cs ≤ 17 * length cs
-unfolding sizeOf
-size-le ps [] h = omega arith
-size-le ps (c ∷ cs) h = omega (arith, width-le ps c, h 0 (omega arith), size-le ps cs (λ q m. h (suc q) (omega arith)))
 
 solid-leaf : (n : ℕ) (v : Point) → leafVoxel n v ≡ true → 0 < n
 solid-leaf zero v e = absurd (false≢true (sym (rw zero-div) ∙ e))

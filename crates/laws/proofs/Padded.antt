@@ -63,10 +63,14 @@ pub sized-snoc : {w : ℕ} {cs : List Cell} (c : Cell) → Sized w cs → length
 sized-snoc c snil e = scons e snil
 sized-snoc c (scons d r) e = scons d (sized-snoc c r e)
 
+pub flatten-append : (a b : List Cell) → flatten (a ++ b) ≡ flatten a ++ flatten b
+unfolding flatten
+flatten-append [] b = refl
+flatten-append (c ∷ a) b = ap (λ (l : List ℕ). c ++ l) (flatten-append a b) ∙ sym (append-assoc c (flatten a) (flatten b))
+
 flatten-snoc : (cs : List Cell) (c : Cell) → flatten (cs ++ (c ∷ [])) ≡ flatten cs ++ c
 unfolding flatten
-flatten-snoc [] c = append-nil c
-flatten-snoc (b ∷ cs) c = ap {B = List ℕ} (λ r. b ++ r) (flatten-snoc cs c) ∙ sym (append-assoc b (flatten cs) c)
+flatten-snoc cs c = flatten-append cs (c ∷ []) ∙ ap (λ (l : List ℕ). flatten cs ++ l) (append-nil c)
 
 -- a group more, stored behind the others
 pub padded-snoc : (w n : ℕ) (cs : List Cell) (c : Cell) → Sized w cs → length c ≡ w → suc (length cs) * w ≤ n

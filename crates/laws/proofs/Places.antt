@@ -34,6 +34,12 @@ kept-word ws k q i h hq hi =
     let a : ℕ = cellPlace (capacityOf ws) k q in
     ap (λ (c : Cell). getD c i 0) (kept-cell ws k q h hq) ∙ getD-take (cellWords k) (drop a ws) i 0 hi ∙ getD-drop a ws i 0
 
+-- a leaf is two words
+pub leaf-fits : (ws : List ℕ) → ((i : ℕ) → getD ws i 0 < 2 ^ 32) → (q : ℕ) → q < keptCount ws 0 → leafNo (cellAt (keptOf ws) 0 q) < 2 ^ 64
+leaf-fits ws words q h =
+    let C : ℕ = capacityOf ws in
+    omega (arith, kept-word ws 0 q 0 (lit< tt) h (lit< tt), kept-word ws 0 q 1 (lit< tt) h (lit< tt), words (cellPlace C 0 q + 0), words (cellPlace C 0 q + 1))
+
 -- ---- an undamaged store's cells are ok
 
 usable-ok : (n : ℕ) (c : Cell) → T (cellUsable n c) → (i : ℕ) → i < 8 → badPointer n (getD c i 0) ≡ false
@@ -43,15 +49,9 @@ usable-ok n c t =
     (not-true (anyBad n c) (T-true {b = not (anyBad n c)} (and-right (not (allBelow 8 (λ i. eqb (getD c i 0) 0))) (not (anyBad n c)) t)))
 
 module _ (ws : List ℕ) (u : Undamaged ws) (words : (i : ℕ) → getD ws i 0 < 2 ^ 32) where
-  -- a leaf is two words
-  pub leaf-ok : (q : ℕ) → q < keptCount ws 0 → leafNo (cellAt (keptOf ws) 0 q) < 2 ^ 64
-  leaf-ok q h =
-      let C : ℕ = capacityOf ws in
-      omega (arith, kept-word ws 0 q 0 (lit< tt) h (lit< tt), kept-word ws 0 q 1 (lit< tt) h (lit< tt), words (cellPlace C 0 q + 0), words (cellPlace C 0 q + 1))
-
   cell-ok : (k q : ℕ) → k < heights → q < length (cellsAt (keptOf ws) k) → OkCell (keptOf ws) k (cellAt (keptOf ws) k q)
   unfolding listUsable
-  cell-ok zero q h l = leaf-ok q (subst (λ (n : ℕ). q < n) (kept-length ws 0 h) l)
+  cell-ok zero q h l = leaf-fits ws words q (subst (λ (n : ℕ). q < n) (kept-length ws 0 h) l)
   cell-ok (suc k) q h l = λ i hi.
       not-bad-ok (length (cellsAt (keptOf ws) k)) (getD (cellAt (keptOf ws) (suc k) q) i 0)
       (usable-ok (length (cellsAt (keptOf ws) k)) (cellAt (keptOf ws) (suc k) q)

@@ -17,7 +17,8 @@ use Rattle.laws.proofs.Tests.{T-true}
 use Rattle.laws.proofs.Lists.{Once, index-getD, isIn-getD, allIn-map}
 use Rattle.laws.proofs.Bytes.{bytes-length}
 use Rattle.laws.proofs.Invariant.{TwoWords}
-use Rattle.laws.proofs.RecordReading.{num-bytes, OkLink, linkFor, no-link, some-link, word-some, some-code, code-pos, Row, ListRead}
+use Rattle.laws.proofs.RecordSizes.{some-code, code-pos}
+use Rattle.laws.proofs.RecordReading.{num-bytes, OkLink, linkFor, no-link, some-link, word-some, Row, ListRead}
 
 -- ---- pointers by number again
 

@@ -5,10 +5,10 @@ use mathlib.Core.Bool.{Bool, true, false, cond}
 use mathlib.Core.List.{List, [], _∷_, _++_, map, append-assoc, append-nil}
 use mathlib.Core.Logic.{_⊎_, inl, inr}
 use Prim.Native.Nat.{ℕ, zero, suc, _+_, _-_, _*_, _/_, _%_, _^_, _<_, _≤_}
-use native.Mathlib.Nat.{le-of-suc-le-suc, not-suc-le-zero, mod-eq-of-lt, pow-succ'}
+use native.Mathlib.Nat.{le-of-suc-le-suc, not-suc-le-zero, mod-eq-of-lt}
 use native.Mathlib.Omega.{arith}
 use borrow.Author.Tests.{eq-eqb, ne-eqb, lt-ltb, le-ltb, le-leb, leb-true}
-use lib.Dec.{T, eqb, leb, lit<}
+use lib.Dec.{T, eqb, leb}
 use lib.ListN.{length, getD, drop, length-append}
 use lib.Seq.{take-at, drop-at, drop-drop}
 use Rattle.paper.specs.Numbers.{be, bytes, num, flatten, allIn}
@@ -18,6 +18,7 @@ use Rattle.paper.specs.Pack.{placeOf, code, pointerBytes, header, width, record
 use Rattle.laws.proofs.Tests.{T-true}
 use Rattle.laws.proofs.Bytes.{bytes-length, be-bytes}
 use Rattle.laws.proofs.Invariant.{Names}
+use Rattle.laws.proofs.RecordSizes.{no-code, no-bytes, some-code, some-bytes, code-le, width-pos, header-lt, header-pos, record-length}
 
 pub num-bytes : (n v : ℕ) (rest : List ℕ) → v < 256 ^ n → num n (bytes n v ++ rest) ≡ v
 num-bytes n v rest h =
@@ -38,8 +39,6 @@ unfoldable pub linkFor : List ℕ → ℕ → Link
 linkFor ps p = cond (eqb p 0) noLink (record { code = codeFor (placeOf ps p); tag = tagOf p; place = placeOf ps p })
 
 record PointerRead (ps : List ℕ) (p : ℕ) (rest : List ℕ) : Type 0 where
-  low : code ps p < 3
-  len : length (pointerBytes ps p) ≡ 2 * code ps p
   link : linkOf (code ps p) (num (2 * code ps p) (pointerBytes ps p ++ rest)) ≡ linkFor ps p
   after : drop (2 * code ps p) (pointerBytes ps p ++ rest) ≡ rest
 
@@ -70,44 +69,14 @@ some-read t l rest ht hl = go (leb l farthestShort) refl
     go true e = short-read t l rest ht (leb-true l farthestShort e)
     go false e = long-read t l rest ht hl
 
-pub code-low : (l : ℕ) → codeFor l < 3
-code-low l = go (leb l farthestShort)
-  where
-    go : (b : Bool) → cond b 1 2 < 3
-    go true = lit< tt
-    go false = lit< tt
-
 module _ (ps : List ℕ) (p : ℕ) where
-  pub no-code : p ≡ 0 → code ps p ≡ 0
-  unfolding code
-  no-code e = rw (eq-eqb p 0 e)
-
-  no-bytes : p ≡ 0 → pointerBytes ps p ≡ []
-  unfolding pointerBytes
-  no-bytes e = rw (eq-eqb p 0 e)
-
   pub no-link : p ≡ 0 → linkFor ps p ≡ noLink
   unfolding linkFor
   no-link e = rw (eq-eqb p 0 e)
 
-  pub some-code : (p ≡ 0 → ⊥) → code ps p ≡ codeFor (placeOf ps p)
-  unfolding code
-  some-code n = rw (ne-eqb p 0 n)
-
-  pub some-bytes : (p ≡ 0 → ⊥) → pointerBytes ps p ≡ bytes (2 * codeFor (placeOf ps p)) (tagOf p * 2 ^ (16 * codeFor (placeOf ps p) - 3) + placeOf ps p)
-  unfolding pointerBytes
-  some-bytes n = rw (ne-eqb p 0 n)
-
   pub some-link : (p ≡ 0 → ⊥) → linkFor ps p ≡ record { code = codeFor (placeOf ps p); tag = tagOf p; place = placeOf ps p }
   unfolding linkFor
   some-link n = rw (ne-eqb p 0 n)
-
-  pub code-pos : (p ≡ 0 → ⊥) → 0 < code ps p
-  code-pos n = rw (some-code n) (go (leb (placeOf ps p) farthestShort))
-    where
-      go : (b : Bool) → 0 < cond b 1 2
-      go true = lit< tt
-      go false = lit< tt
 
   pub word-some : {n : ℕ} → NamesWord n p → p ≡ 0 → ⊥
   word-some w e = omega arith
@@ -127,11 +96,6 @@ pub record ListRead (ps l : List ℕ) (a : ℕ) (cs : List Cell) : Type 0 where
 
 -- places rise, so each is found again under its number
 module _ (ps : List ℕ) where
-  width-pos : (c : Cell) → 1 ≤ width ps c
-  unfolding width
-  width-pos [] = lit< tt
-  width-pos (p ∷ c) = omega (arith, width-pos c)
-
   pub places-length : (a : ℕ) (cs : List Cell) → length (placesFrom ps a cs) ≡ length cs
   unfolding placesFrom
   places-length a [] = refl
@@ -141,28 +105,26 @@ module _ (ps : List ℕ) where
   unfolding placesFrom
   places-late a [] q h = absurd (not-suc-le-zero h)
   places-late a (c ∷ cs) zero h = omega arith
-  places-late a (c ∷ cs) (suc q) h = omega (arith, places-late (a + width ps c) cs q (le-of-suc-le-suc h), width-pos c)
+  places-late a (c ∷ cs) (suc q) h = omega (arith, places-late (a + width ps c) cs q (le-of-suc-le-suc h), width-pos ps c)
 
   pub places-in : (a : ℕ) (cs : List Cell) (q : ℕ) → q < length cs → getD (placesFrom ps a cs) q 0 < a + sizeOf ps cs
   unfolding placesFrom sizeOf
   places-in a [] q h = absurd (not-suc-le-zero h)
-  places-in a (c ∷ cs) zero h = omega (arith, width-pos c)
+  places-in a (c ∷ cs) zero h = omega (arith, width-pos ps c)
   places-in a (c ∷ cs) (suc q) h = omega (arith, places-in (a + width ps c) cs q (le-of-suc-le-suc h))
 
   pub places-once : (a : ℕ) (cs : List Cell) (i j : ℕ) → i < length cs → j < length cs → getD (placesFrom ps a cs) i 0 ≡ getD (placesFrom ps a cs) j 0 → i ≡ j
   unfolding placesFrom
   places-once a [] i j h g e = absurd (not-suc-le-zero h)
   places-once a (c ∷ cs) zero zero h g e = refl
-  places-once a (c ∷ cs) zero (suc j) h g e = absurd (omega (arith, e, places-late (a + width ps c) cs j (le-of-suc-le-suc g), width-pos c))
-  places-once a (c ∷ cs) (suc i) zero h g e = absurd (omega (arith, e, places-late (a + width ps c) cs i (le-of-suc-le-suc h), width-pos c))
+  places-once a (c ∷ cs) zero (suc j) h g e = absurd (omega (arith, e, places-late (a + width ps c) cs j (le-of-suc-le-suc g), width-pos ps c))
+  places-once a (c ∷ cs) (suc i) zero h g e = absurd (omega (arith, e, places-late (a + width ps c) cs i (le-of-suc-le-suc h), width-pos ps c))
   places-once a (c ∷ cs) (suc i) (suc j) h g e = ap suc (places-once (a + width ps c) cs i j (le-of-suc-le-suc h) (le-of-suc-le-suc g) e)
 
 module _ (ps : List ℕ) (low : (q : ℕ) → q < length ps → getD ps q 0 < 2 ^ 29) where
   pointer-read : (p : ℕ) (rest : List ℕ) → OkLink (length ps) p → PointerRead ps p rest
   unfolding Writes be
   pointer-read p rest (inl e) = record {
-    low = rw (no-code ps p e) (lit< tt);
-    len = rw (no-code ps p e, no-bytes ps p e);
     link = rw (no-code ps p e, no-link ps p e);
     after = rw (no-code ps p e, no-bytes ps p e);
   }
@@ -171,8 +133,6 @@ module _ (ps : List ℕ) (low : (q : ℕ) → q < length ps → getD ps q 0 < 2 
       let b : ℕ = 2 * codeFor (placeOf ps p) in
       let v : ℕ = tagOf p * 2 ^ (16 * codeFor (placeOf ps p) - 3) + placeOf ps p in
       record {
-        low = rw (some-code ps p n) (code-low (placeOf ps p));
-        len = rw (some-code ps p n, some-bytes ps p n) (bytes-length b v);
         link = rw (some-code ps p n, some-bytes ps p n, some-link ps p n) (some-read (tagOf p) (placeOf ps p) rest (omega arith) (low (cellNo p) (omega arith)));
         after = rw (some-code ps p n, some-bytes ps p n) (drop-at (bytes b v) rest b (bytes-length b v));
       }
@@ -186,49 +146,25 @@ module _ (ps : List ℕ) (low : (q : ℕ) → q < length ps → getD ps q 0 < 2 
   read-links (p ∷ c) rest h =
       let more : List ℕ = flatten (map (pointerBytes ps) c) in
       let r : PointerRead ps p (more ++ rest) = pointer-read p (more ++ rest) (h 0) in
-      let a : (code ps p + 4 * header ps c) % 4 ≡ code ps p = omega (arith, r .low) in
-      let b : (code ps p + 4 * header ps c) / 4 ≡ header ps c = omega (arith, r .low) in
+      let a : (code ps p + 4 * header ps c) % 4 ≡ code ps p = omega (arith, code-le ps p) in
+      let b : (code ps p + 4 * header ps c) / 4 ≡ header ps c = omega (arith, code-le ps p) in
       rw (append-assoc (pointerBytes ps p) more rest, a, b, r .link, r .after, read-links c rest (λ i. h (suc i)))
 
-  halves-is : (c : Cell) → ((i : ℕ) → OkLink (length ps) (getD c i 0)) → halves (length c) (header ps c) ≡ width ps c
+  halves-is : (c : Cell) → halves (length c) (header ps c) ≡ width ps c
   unfolding halves header width
-  halves-is [] h = refl
-  halves-is (p ∷ c) h =
-      let r : PointerRead ps p [] = pointer-read p [] (h 0) in
-      let a : (code ps p + 4 * header ps c) % 4 ≡ code ps p = omega (arith, r .low) in
-      let b : (code ps p + 4 * header ps c) / 4 ≡ header ps c = omega (arith, r .low) in
-      rw (a, b, halves-is c (λ i. h (suc i)))
+  halves-is [] = refl
+  halves-is (p ∷ c) =
+      let a : (code ps p + 4 * header ps c) % 4 ≡ code ps p = omega (arith, code-le ps p) in
+      let b : (code ps p + 4 * header ps c) / 4 ≡ header ps c = omega (arith, code-le ps p) in
+      rw (a, b, halves-is c)
 
-  codes-are : (c : Cell) → ((i : ℕ) → OkLink (length ps) (getD c i 0)) → T (codesOk (length c) (header ps c))
+  codes-are : (c : Cell) → T (codesOk (length c) (header ps c))
   unfolding codesOk header
-  codes-are [] h = tt
-  codes-are (p ∷ c) h =
-      let r : PointerRead ps p [] = pointer-read p [] (h 0) in
-      let a : (code ps p + 4 * header ps c) % 4 ≡ code ps p = omega (arith, r .low) in
-      let b : (code ps p + 4 * header ps c) / 4 ≡ header ps c = omega (arith, r .low) in
-      rw (a, b, ne-eqb (code ps p) 3 (λ e. omega (arith, r .low))) (codes-are c (λ i. h (suc i)))
-
-  header-lt : (c : Cell) → ((i : ℕ) → OkLink (length ps) (getD c i 0)) → header ps c < 4 ^ length c
-  unfolding header
-  header-lt [] h = lit< tt
-  header-lt (p ∷ c) h = let r : PointerRead ps p [] = pointer-read p [] (h 0) in omega (arith, r .low, header-lt c (λ i. h (suc i)), pow-succ' 4 (length c))
-
-  header-pos : (c : Cell) (i : ℕ) → (getD c i 0 ≡ 0 → ⊥) → 0 < header ps c
-  unfolding header
-  header-pos [] i n = absurd (n refl)
-  header-pos (p ∷ c) zero n = omega (arith, code-pos ps p n)
-  header-pos (p ∷ c) (suc i) n = omega (arith, header-pos c i n)
-
-  links-length : (c : Cell) → ((i : ℕ) → OkLink (length ps) (getD c i 0)) → length (flatten (map (pointerBytes ps) c)) + 2 ≡ 2 * width ps c
-  unfolding flatten width
-  links-length [] h = refl
-  links-length (p ∷ c) h =
-      let r : PointerRead ps p [] = pointer-read p [] (h 0) in
-      rw (length-append (pointerBytes ps p) (flatten (map (pointerBytes ps) c))) (omega (arith, r .len, links-length c (λ i. h (suc i))))
-
-  record-length : (c : Cell) → ((i : ℕ) → OkLink (length ps) (getD c i 0)) → length (recordBytes ps c) ≡ 2 * width ps c
-  unfolding recordBytes
-  record-length c h = length-append (bytes 2 (header ps c)) (flatten (map (pointerBytes ps) c)) ∙ omega (arith, bytes-length 2 (header ps c), links-length c h)
+  codes-are [] = tt
+  codes-are (p ∷ c) =
+      let a : (code ps p + 4 * header ps c) % 4 ≡ code ps p = omega (arith, code-le ps p) in
+      let b : (code ps p + 4 * header ps c) / 4 ≡ header ps c = omega (arith, code-le ps p) in
+      rw (a, b, ne-eqb (code ps p) 3 (λ e. omega (arith, code-le ps p))) (codes-are c)
 
   -- ---- a list, from its record at place a on: l is all its bytes, and `before` those in front
 
@@ -245,8 +181,8 @@ module _ (ps : List ℕ) (low : (q : ℕ) → q < length ps → getD ps q 0 < 2 
     good = rw (
       headed,
       wide,
-      lt-ltb 0 h (header-pos c (r .one) (r .there)),
-      T-true {b = codesOk 8 h} (subst (λ (m : ℕ). T (codesOk m h)) (r .eight) (codes-are c (r .links))),
+      lt-ltb 0 h (header-pos ps c (r .one) (r .there)),
+      T-true {b = codesOk 8 h} (subst (λ (m : ℕ). T (codesOk m h)) (r .eight) (codes-are c)),
       le-leb (2 * (a + width ps c)) (length l) room,
     ) tt;
   }
@@ -258,7 +194,7 @@ module _ (ps : List ℕ) (low : (q : ℕ) → q < length ps → getD ps q 0 < 2 
       tail = flatten (map (pointerBytes ps) c)
 
       wide : halves 8 h ≡ width ps c
-      wide = subst (λ (m : ℕ). halves m h ≡ width ps c) (r .eight) (halves-is c (r .links))
+      wide = subst (λ (m : ℕ). halves m h ≡ width ps c) (r .eight) (halves-is c)
 
       dropped : drop (2 * a) l ≡ bytes 2 h ++ (tail ++ rest)
       dropped =
@@ -266,13 +202,13 @@ module _ (ps : List ℕ) (low : (q : ℕ) → q < length ps → getD ps q 0 < 2 
           ∙ drop-at before (bytes 2 h ++ (tail ++ rest)) (2 * a) n
 
       headed : headerAt l a ≡ h
-      headed = ap (num 2) dropped ∙ num-bytes 2 h (tail ++ rest) (subst (λ (m : ℕ). h < 4 ^ m) (r .eight) (header-lt c (r .links)))
+      headed = ap (num 2) dropped ∙ num-bytes 2 h (tail ++ rest) (subst (λ (m : ℕ). h < 4 ^ m) (r .eight) (header-lt ps c))
 
       pointed : drop (2 * a + 2) l ≡ tail ++ rest
       pointed = sym (drop-drop 2 (2 * a) l) ∙ ap (drop 2) dropped ∙ drop-at (bytes 2 h) (tail ++ rest) 2 (bytes-length 2 h)
 
       room : 2 * (a + width ps c) ≤ length l
-      room = omega (arith, ap length e, length-append before (recordBytes ps c ++ rest), length-append (recordBytes ps c) rest, record-length c (r .links))
+      room = omega (arith, ap length e, length-append before (recordBytes ps c ++ rest), length-append (recordBytes ps c) rest, record-length ps c)
 
   list-nil : (l : List ℕ) (a : ℕ) → length l ≡ 2 * a → ListRead ps l a []
   unfolding placesFrom sizeOf allIn startsFrom
@@ -301,15 +237,8 @@ module _ (ps : List ℕ) (low : (q : ℕ) → q < length ps → getD ps q 0 < 2 
   list-read l before a (c ∷ cs) rows n e =
       let row : Row (length ps) c = rows 0 (omega arith) in
       let rest : List ℕ = flatten (map (recordBytes ps) cs) in
-      let w : length (recordBytes ps c) ≡ 2 * width ps c = record-length c (row .links) in
+      let w : length (recordBytes ps c) ≡ 2 * width ps c = record-length ps c in
       list-cons l a c cs (record-read l before rest a c row n e)
       (omega (arith, ap length e, length-append before (recordBytes ps c ++ rest), length-append (recordBytes ps c) rest, w, width-pos ps c))
       (list-read l (before ++ recordBytes ps c) (a + width ps c) cs (λ q h. rows (suc q) (omega arith))
       (length-append before (recordBytes ps c) ∙ omega (arith, w)) (e ∙ sym (append-assoc before (recordBytes ps c) rest)))
-
-  pub list-length : (cs : List Cell) → ((q : ℕ) → q < length cs → Row (length ps) (getD cs q [])) → length (flatten (map (recordBytes ps) cs)) ≡ 2 * sizeOf ps cs
-  unfolding flatten sizeOf
-  list-length [] rows = refl
-  list-length (c ∷ cs) rows =
-      length-append (recordBytes ps c) (flatten (map (recordBytes ps) cs))
-      ∙ omega (arith, record-length c (rows 0 (omega arith) .links), list-length cs (λ q h. rows (suc q) (omega arith)))

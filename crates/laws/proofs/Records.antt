@@ -14,7 +14,8 @@ use Rattle.paper.specs.Leaf.{mirrorLeaf}
 use Rattle.paper.specs.Outline.{edge, childOf, childFull, recordOf}
 use Rattle.paper.specs.Store.{Cell, heights, keptCount, keptOf, cellsAt, cellAt, tagOf, cellNo, leafNo, badPointer, storeOk}
 use Rattle.paper.specs.Meaning.{pointerVoxel, cellVoxel, rootRoom}
-use Rattle.laws.proofs.StoreFacts.{Words, depth-range, tag-lt, names-kept, cell-names, leaf-not-zero, leaf-fits, cell-sound, some-pointer}
+use Rattle.laws.proofs.Places.{leaf-fits}
+use Rattle.laws.proofs.StoreFacts.{Words, depth-range, tag-lt, names-kept, cell-names, leaf-not-zero, cell-sound, some-pointer}
 use Rattle.laws.proofs.Tests.{none-at}
 use Rattle.laws.proofs.Eight.{xor8-lt}
 use Rattle.laws.proofs.Mirrors.{fromChild, mirror-inside, mirror-twice, mirror-mirror, mirror-fromChild, childNo-fromChild, inChild-fromChild, same-sym, same-trans}
@@ -98,7 +99,7 @@ module _ (ws : List ℕ) (ok : T (storeOk ws)) (w : Words ws) where
   -- every kept cell has a solid voxel
   pub kept-solid : (k n : ℕ) → k < heights → n < keptCount ws k → NonEmpty (edge k) (cellVoxel (keptOf ws) k (cellAt (keptOf ws) k n))
   unfolding cellVoxel
-  kept-solid zero n hk hn = leaf-solid (leafNo (cellAt (keptOf ws) 0 n)) (leaf-fits ws ok w n hn) (leaf-not-zero ws ok n hn)
+  kept-solid zero n hk hn = leaf-solid (leafNo (cellAt (keptOf ws) 0 n)) (leaf-fits ws w n hn) (leaf-not-zero ws ok n hn)
   kept-solid (suc k) n hk hn =
       let K : List (List Cell) = keptOf ws in
       let c : Cell = cellAt K (suc k) n in

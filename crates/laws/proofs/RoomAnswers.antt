@@ -27,7 +27,7 @@ use Rattle.laws.proofs.Adding.{Invs}
 use Rattle.laws.proofs.OutlineCells.{nonEmpty-same}
 use Rattle.laws.proofs.Outlines.{outline-same, read-written, accepted-outline}
 use Rattle.laws.proofs.Refusals.{settled-accepted, question-accepted}
-use Rattle.laws.proofs.Walks.{boxCount-same}
+use Rattle.laws.proofs.Boxes.{box-same}
 use Rattle.laws.proofs.Holding.{Holds, HeldAt, header-ok, scene-ok, below-there, root-room}
 use Rattle.laws.proofs.NoDamage.{voxel-undamaged, cell-undamaged, box-undamaged}
 use Rattle.laws.proofs.CellWalk.{placeAt, Ends, leads, ends-full}
@@ -129,7 +129,7 @@ module _ {ws : List ℕ} {held : Held} (s : Holds ws held) (n : ℕ) {sc : Scene
       ) in
       settled-accepted (firstOf (questionOrder ws n (boxOutside ws n low high) (boxDamaged ws n low high))) (boxCount S R low high ∷ []) [] []
       (question-0 (boxOutside ws n low high) (boxDamaged ws n low high) out (box-undamaged s n low high (below-there s n (a .below))))
-      ∙ ap (λ (x : ℕ). outcome (told 0 (x ∷ [])) []) (boxCount-same S R (sc .room) low high room-is ∙ ap (λ (x : ℕ). boxCount x (sc .room) low high) (sym e))
+      ∙ ap (λ (x : ℕ). outcome (told 0 (x ∷ [])) []) (box-same S R (sc .room) low high room-is ∙ ap (λ (x : ℕ). boxCount x (sc .room) low high) (sym e))
 
   -- the file that came
   bytes-are : outlineBytes ws n ≡ sc .file

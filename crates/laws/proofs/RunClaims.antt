@@ -23,7 +23,7 @@ use Rattle.laws.proofs.Invariant.{match-voxels}
 use Rattle.laws.proofs.Kept.{kept-length}
 use Rattle.laws.proofs.Outlines.{depth-two}
 use Rattle.laws.proofs.OutlineClaim.{refusal-none}
-use Rattle.laws.proofs.Filled.{root-list}
+use Rattle.laws.proofs.Undamaged.{depth-low}
 use Rattle.laws.proofs.Refusals.{settled-accepted}
 use Rattle.laws.proofs.Running.{Running, reached-running}
 use Rattle.laws.proofs.Holding.{Holds, held-at, header-ok, running-holds, reached-holds}
@@ -52,7 +52,7 @@ module _ {ws : List ℕ} {held : Held} (s : Holds ws held) where
       let n : ℕ = length (cellsAt (keptOf ws) k) in
       let none : firstOf (keptOrder ws h) ≡ 0 = rw (T-true {b = headerOk ws} (header-ok s), T-true {b = depthOk h} d) in (
         n,
-        settled-accepted (firstOf (keptOrder ws h)) (keptCount ws k ∷ []) [] [] none ∙ ap (λ (m : ℕ). outcome (told 0 (m ∷ [])) []) (sym (kept-length ws k (root-list h d))),
+        settled-accepted (firstOf (keptOrder ws h)) (keptCount ws k ∷ []) [] [] none ∙ ap (λ (m : ℕ). outcome (told 0 (m ∷ [])) []) (sym (kept-length ws k (depth-low h d))),
         subst (λ (m : ℕ). Number held m n) (depth-two h d) (kept-number s k),
       )
 

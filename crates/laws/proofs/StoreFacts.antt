@@ -1,22 +1,20 @@
 -- What an undamaged store says of its parts: header, scenes and lists are in order, a kept leaf has a bit, a kept cell a child, and every pointer
 -- that is there names a kept cell. By taking the test's parts one after the other. Assumes nothing.
-use mathlib.Core.Path.{_≡_, refl, sym, _∙_, subst}
-use mathlib.Core.Bool.{Bool, true, false, cond, not, _&&_, false≢true}
-use mathlib.Core.List.{List, [], _∷_}
-use Prim.Native.Nat.{ℕ, zero, suc, _+_, _-_, _/_, _^_, _<_, _≤_}
-use native.Mathlib.Nat.{mod-lt, le-of-suc-le-suc, not-suc-le-zero}
+use mathlib.Core.Path.{_≡_, refl, sym, subst}
+use mathlib.Core.Bool.{Bool, true, false, not, _&&_, false≢true}
+use mathlib.Core.List.{List, []}
+use Prim.Native.Nat.{ℕ, zero, suc, _-_, _/_, _^_, _<_, _≤_}
+use native.Mathlib.Nat.{mod-lt}
 use native.Mathlib.Omega.{arith}
 use lib.Dec.{T, eqb, leb, lit<, leb→le, ltb→lt}
-use lib.ListN.{length, take, drop, getD}
-use lib.Seq.{getD-take, getD-drop}
-use Rattle.paper.specs.Numbers.{both, allBelow, anyBelow, allIn}
+use lib.ListN.{length, getD}
+use Rattle.paper.specs.Numbers.{both, allBelow}
 use Rattle.paper.specs.Rooms.{depthOk, least, deepest}
-use Rattle.paper.specs.Store.{Cell, heights, capacityOf, scenesHeld, keptCount, cellPlace, keptOf, cellsAt, cellAt, tagOf, cellNo, lowOf, leafNo, badPointer, anyBad, sceneDepth, sceneRoot, headerOk, sceneOk, scenesBlank, leafUsable, cellUsable, listUsable, listBlank, storeOk}
+use Rattle.paper.specs.Store.{Cell, heights, scenesHeld, keptCount, keptOf, cellsAt, cellAt, tagOf, cellNo, lowOf, leafNo, badPointer, anyBad, sceneDepth, sceneRoot, sceneOk, leafUsable, cellUsable, listUsable, storeOk}
 use Rattle.laws.proofs.Tests.{true-T, not-false, and-left, and-right, none-at}
 use Rattle.laws.proofs.Kept.{kept-length}
 pub use Rattle.laws.proofs.Undamaged.{store-header}
 use Rattle.laws.proofs.Undamaged.{undamaged}
-use Rattle.laws.proofs.Places.{leaf-ok}
 use Rattle.laws.proofs.Lists.{allIn-in}
 
 -- words are below 2^32
@@ -94,7 +92,3 @@ module _ (ws : List ℕ) (ok : T (storeOk ws)) where
     some-pointer =
         all-fails-at 8 (λ i. eqb (getD cell i 0) 0)
         (not-false _ (and-left (not (allBelow 8 (λ i. eqb (getD cell i 0) 0))) (not (anyBad (keptCount ws k) cell)) cell-usable))
-
-  -- a leaf is two words
-  pub leaf-fits : Words ws → (n : ℕ) → n < keptCount ws 0 → leafNo (cellAt (keptOf ws) 0 n) < 2 ^ 64
-  leaf-fits w = leaf-ok ws (undamaged ws ok) w

@@ -6,7 +6,8 @@ use mathlib.Core.Logic.{_⊎_, inl, inr}
 use Prim.Native.Nat.{ℕ, zero, suc, _<_}
 use native.Mathlib.Nat.{le-of-suc-le-suc, not-suc-le-zero, le-refl, eq-or-lt-of-le}
 use native.Mathlib.Omega.{arith}
-use lib.Dec.{T}
+use borrow.Author.Tests.{leb-true, leb-false, lt-ltb, le-ltb}
+use lib.Dec.{T, leb, ltb}
 use Rattle.paper.specs.Numbers.{both, allBelow, anyBelow}
 
 -- ---- one test
@@ -24,6 +25,17 @@ not-false true t = absurd t
 not-false false t = refl
 
 -- false, or it would be true
+pub not-not : (b : Bool) → not (not b) ≡ b
+not-not true = refl
+not-not false = refl
+
+pub ltb-not : (a b : ℕ) → ltb a b ≡ not (leb b a)
+ltb-not a b = go (leb b a) refl
+  where
+    go : (t : Bool) → leb b a ≡ t → ltb a b ≡ not t
+    go true e = le-ltb a b (leb-true b a e)
+    go false e = lt-ltb a b (leb-false b a e)
+
 pub false-unless : (b : Bool) → (b ≡ true → ⊥) → b ≡ false
 false-unless true n = absurd (n refl)
 false-unless false n = refl

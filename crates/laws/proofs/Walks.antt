@@ -1,24 +1,22 @@
 -- On lists as they should be no walk meets a bad pointer, whatever the voxel: every pointer of a kept cell is none or names a kept cell, so what is
--- entered is kept. And a box count goes by the voxels. By induction on the height, and on the sums. Assumes nothing.
-use mathlib.Core.Path.{_≡_, refl, _∙_, ap, ap₂}
+-- entered is kept. By induction on the height. Assumes nothing.
+use mathlib.Core.Path.{_≡_, refl, ap}
 use mathlib.Core.Bool.{Bool, true, false, cond}
 use mathlib.Core.List.{List}
 use mathlib.Core.Logic.{inl, inr}
-use Prim.Native.Nat.{ℕ, zero, suc, _+_, _-_, _<_, _^_}
-use native.Mathlib.Nat.{le-refl}
+use Prim.Native.Nat.{ℕ, zero, suc, _-_, _<_, _^_}
 use native.Mathlib.Decide.{decLt}
 use native.Mathlib.Omega.{arith}
 use borrow.Author.Tests.{eqb-false}
 use lib.Dec.{eqb, leb, ltb}
 use lib.ListN.{length, getD, List·getD-eq-default}
-use Rattle.paper.specs.Numbers.{sum, bitFor}
-use Rattle.paper.specs.Rooms.{Point, point, Room, Same, inBox, sum3, boxCount}
+use Rattle.paper.specs.Rooms.{Point}
 use Rattle.paper.specs.Store.{Cell, cellsAt, cellAt, cellNo, badPointer, anyBad}
 use Rattle.paper.specs.Questions.{taken, below, inBelow, wayDamaged, takenBad, fromRoot, voxelWay, cellWay, boxWay}
 use Rattle.laws.proofs.Invariant.{Names, OkPointer, names-lt, ok-not-bad}
 use Rattle.laws.proofs.Adding.{Invs}
 use Rattle.laws.proofs.Filled.{none-bad}
-use Rattle.laws.proofs.Sums.{sum-same}
+use Rattle.laws.proofs.Boxes.{box-clear as count-clear}
 
 -- ---- cells as a walk enters them
 
@@ -83,28 +81,8 @@ module _ (K : List (List Cell)) (I : Invs K) where
 
 -- ---- box counts
 
-pub sum-zero : (n : ℕ) → sum n (λ i. 0) ≡ 0
-unfolding sum
-sum-zero zero = refl
-sum-zero (suc n) = omega (arith, sum-zero n)
-
-pub boxCount-same : (S : ℕ) (r r′ : Room) (low high : Point) → Same S r r′ → boxCount S r low high ≡ boxCount S r′ low high
-unfolding boxCount sum3
-boxCount-same S r r′ low high e =
-    sum-same S _ _ (λ c hc. sum-same S _ _ (λ b hb. sum-same S _ _ (λ a ha.
-    ap (λ (x : Bool). cond (inBox low high (point a b c)) (bitFor x) 0) (e (point a b c) (record { inX = ha; inY = hb; inZ = hc })))))
-
-cond-same : {A : Type 0} (b : Bool) (x : A) → cond b x x ≡ x
-cond-same true x = refl
-cond-same false x = refl
-
-pub boxCount-none : (S : ℕ) (low high : Point) → boxCount S (λ v. false) low high ≡ 0
-unfolding boxCount sum3
-boxCount-none S low high =
-    sum-same S _ (λ c. 0) (λ c hc. sum-same S _ (λ b. 0) (λ b hb. sum-same S _ (λ a. 0) (λ a ha. cond-same (inBox low high (point a b c)) 0) ∙ sum-zero S) ∙ sum-zero S) ∙ sum-zero S
-
 module _ (K : List (List Cell)) (I : Invs K) (D p : ℕ) (ok : OkPointer (length (cellsAt K (D - 2))) p) where
   pub box-clear : (low high : Point) → boxWay K D p low high ≡ false
   unfolding boxWay
   box-clear low high =
-      ap (ltb 0) (boxCount-same (2 ^ D) (fromRoot (takenBad K) K D p) (λ v. false) low high (λ v l. taken-root-clear K I D p ok v) ∙ boxCount-none (2 ^ D) low high)
+      ap (ltb 0) (count-clear (2 ^ D) (fromRoot (takenBad K) K D p) low high (λ v l. taken-root-clear K I D p ok v))

@@ -139,10 +139,10 @@ map-set g (L ∷ Ls) zero X = refl
 map-set g (L ∷ Ls) (suc k) X = ap {B = List ℕ} (λ r. g L ∷ r) (map-set g Ls k X)
 
 module _ (C : ℕ) (S : List Cell) (Ks : List (List Cell)) (f : Fine C S Ks) where
-  header-length : length (headerWords (storeWith C S Ks)) ≡ 32
+  pub header-length : length (headerWords (storeWith C S Ks)) ≡ 32
   header-length = simp (length-append, length-map, length-replicate) (omega (arith, f .lists))
 
-  scenes-length : length (padded (2 * mostScenes) S) ≡ 2 * mostScenes
+  pub scenes-length : length (padded (2 * mostScenes) S) ≡ 2 * mostScenes
   scenes-length = padded-length (2 * mostScenes) (f .of-scenes) (omega (arith, f .few-scenes))
 
   cells-length : length (listWords C 0 Ks) ≡ 114 * C
@@ -156,7 +156,7 @@ module _ (C : ℕ) (S : List Cell) (Ks : List (List Cell)) (f : Fine C S Ks) whe
       let L : List ℕ = listWords C 0 Ks in
       length-append (headerWords (storeWith C S Ks)) (P ++ L) ∙ omega (arith, length-append P L, header-length, scenes-length, cells-length)
 
-  header-set : (k : ℕ) (X : List Cell) → k < length Ks → headerWords (storeWith C S (set Ks k X)) ≡ set (headerWords (storeWith C S Ks)) (2 + k) (length X)
+  pub header-set : (k : ℕ) (X : List Cell) → k < length Ks → headerWords (storeWith C S (set Ks k X)) ≡ set (headerWords (storeWith C S Ks)) (2 + k) (length X)
   header-set k X h =
       let m : List ℕ = map (length {A = Cell}) Ks in
       rw two-add

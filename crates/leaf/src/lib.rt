@@ -1,10 +1,15 @@
-// A leaf as a number: its mirror image, and how many of its voxels are solid. The one function that mirrors a leaf; its
-// contract is by voxels.
+// A leaf as a number: its mirror image, and the mirrors under which it is its own image. The one function that mirrors a
+// leaf; its contract is by voxels.
 ghost use mathlib.Core.Path.{_≡_};
 ghost use Prim.Native.Nat.{_*_, _<_};
-ghost use lib.Dec.{T};
+ghost use lib.Dec.{T, eqb};
+ghost use Rattle.paper.specs.Numbers.{bitFor};
 ghost use Rattle.paper.specs.Leaf.{mirrorLeaf};
+ghost use Rattle.laws.specs.Masks.{maskFor};
 ghost use Rattle.leaf.specs.Turns.{turned, swaps, axis};
+
+// The mirrors.
+pub const MIRRORS: u32 = 8;
 
 // The bits whose number lacks a step of 1, 2, 4, 8, 16 or 32: those that change places with the bit so far above.
 const BELOW_1: u64 = 0x5555555555555555;
@@ -52,4 +57,28 @@ pub fn mirror_leaf(leaf: u64, mirror: u32) -> u64
     let across_x = mirror_axis(leaf, mirror % 2, BELOW_1, X, BELOW_2);
     let across_y = mirror_axis(across_x, mirror / 2 % 2, BELOW_4, Y, BELOW_8);
     mirror_axis(across_y, mirror / 4 % 2, BELOW_16, Z, BELOW_32)
+}
+
+// 1 where a leaf is its own image under a mirror, 0 elsewhere.
+fn leaf_bit(leaf: u64, mirror: u32) -> u8
+    ensures { λ r. ⌜ r ≡ bitFor (eqb leaf (mirrorLeaf mirror leaf)) ⌝ }
+{
+    if leaf == mirror_leaf(leaf, mirror) {
+        1
+    } else {
+        0
+    }
+}
+
+// The mask of a leaf: bit t is set where it is its own image under mirror t.
+pub fn leaf_mask(leaf: u64) -> u8
+    ensures { λ r. ⌜ r ≡ maskFor (λ t. eqb leaf (mirrorLeaf t leaf)) ⌝ }
+{
+    let mut t = MIRRORS;
+    let mut mask = 0u8;
+    while t != 0 {
+        t -= 1;
+        mask = 2 * mask + leaf_bit(leaf, t);
+    }
+    mask
 }

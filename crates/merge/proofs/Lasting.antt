@@ -11,12 +11,12 @@ use lib.Dec.{T, eqb, ltb, lit<}
 use lib.ListN.{set}
 use borrow.Author.Tests.{ltb-true}
 use Rattle.paper.specs.Store.{Cell, pointer, capacityOf, keptCount, heights, headerOk}
-use Rattle.store.specs.Keeping.{keepIn}
+use Rattle.keeping.specs.Keeping.{keepIn}
 use Rattle.merge.specs.declared.keep.Placed.the-variants as placed
 use Rattle.merge.specs.declared.record.Taken.the-variants.{At, Full}
 use Rattle.merge.specs.Seeking.{Placing, placing, keptWith, foundOr, seekLeaf, seekCell}
 use Rattle.merge.specs.Taking.{Taking, taking, endingAt, thenTake, takeChildren, takeRecord}
-use Rattle.store.proofs.KeepingHeader.{keep-headed}
+use Rattle.keeping.proofs.Headers.{keep-headed}
 
 -- the words after have a header in order
 abbrev pub Placed-headed : Placing → Type 0

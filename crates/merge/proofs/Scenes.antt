@@ -35,9 +35,9 @@ use Rattle.outline.specs.declared.Reading.{Reading}
 use Rattle.outline.specs.declared.Reading.the-variants.{Broken, EndsAt}
 use Rattle.outline.specs.Positions.{recordAt}
 use Rattle.outline.proofs.Refusals.{rules-broken}
-use Rattle.store.specs.Keeping.{holdIn, cutBack}
-use Rattle.store.proofs.KeepingStored.{stored-headed, hold-stored}
-use Rattle.store.proofs.KeepingCut.{cut-stored, cut-counts, counts-taken}
+use Rattle.keeping.specs.Keeping.{holdIn, cutBack}
+use Rattle.keeping.proofs.Stored.{stored-headed, hold-stored}
+use Rattle.keeping.proofs.Cutting.{cut-stored, cut-counts, counts-taken}
 use Rattle.merge.specs.declared.record.Taken.the-variants.{At, Full}
 use Rattle.merge.specs.Taking.{Taking, taking, takeRecord, takeRoot, Whole}
 use Rattle.merge.proofs.Standing.{Stands, After, record-stands}

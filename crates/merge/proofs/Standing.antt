@@ -29,18 +29,19 @@ use Rattle.laws.proofs.OutlineReading.{OkRead, bind-ok}
 use Rattle.laws.proofs.Words.{Fine, stored, keep-fine, capacity-read, count-read, kept-read}
 use Rattle.laws.proofs.Invariant.{OkPointer, OkCell}
 use Rattle.laws.proofs.Masks.{symmetries, maskFor, maskMatch, ChildMasks, mask-children}
-use Rattle.laws.proofs.Growing.{ext-refl, ext-trans, ext-pointer, ext-mask}
+use Rattle.laws.proofs.Growing.{ext-trans, ext-pointer, ext-mask}
 use Rattle.laws.proofs.Adding.{Answer, Sound, Done, Refused, addCell-done, addCell-mask}
 use Rattle.laws.proofs.Occurring.{Occurs}
 use Rattle.laws.proofs.AddingTrees.{leaf-words}
-use Rattle.laws.proofs.Capacity.{Grown}
-use Rattle.store.specs.Keeping.{keepIn}
-use Rattle.store.proofs.KeepingStored.{keep-stored}
+use Rattle.laws.proofs.Capacity.{Grown, grown-refl}
+use Rattle.keeping.specs.Keeping.{keepIn}
+use Rattle.keeping.proofs.Stored.{keep-stored}
 use Rattle.merge.specs.declared.keep.Placed.the-variants as placed
 use Rattle.merge.specs.declared.record.Taken.the-variants.{At, Full}
 use Rattle.merge.specs.Seeking.{Placing, placing, keptWith, foundOr, seekLeaf, seekCell}
 use Rattle.merge.specs.Taking.{Taking, taking, endingAt, thenTake, takeChildren, takeRecord}
-use Rattle.merge.proofs.FindMasks.{find-masks}
+use Rattle.seek.proofs.MaskImage.{leaf-symmetries}
+use Rattle.seek.proofs.FindMasks.{find-masks}
 
 -- a store of capacity C with the scenes S, the words x behind it, and a file of bytes
 module _ (C : ℕ) (okC : T (capacityOk C)) (S : List Cell) (x file : List ℕ) (bytes : Bytes file) where
@@ -78,9 +79,6 @@ module _ (C : ℕ) (okC : T (capacityOk C)) (S : List Cell) (x file : List ℕ) 
   After K k (ok a bs) f o = Stands K k bs (f a) o
 
   -- ---- growing
-
-  grown-none : (K : List (List Cell)) → Grown K K
-  grown-none K = record { ext = ext-refl K; len = refl }
 
   grown-both : {K K′ K″ : List (List Cell)} → Grown K K′ → Grown K′ K″ → Grown K K″
   grown-both g h = record { ext = ext-trans (g .ext) (h .ext); len = h .len ∙ g .len }
@@ -157,7 +155,7 @@ module _ (C : ℕ) (okC : T (capacityOk C)) (S : List Cell) (x file : List ℕ) 
         go true e d m =
             let room : length (cellsAt K k) < C = ltb-true (length (cellsAt K k)) C e in
             taken _ _ _ (keep-fine C S K f k c sized room) (keep-stored C S K f x k c hk sized room) d m
-        go false e d m = record { lists = K; fine = f; grown = grown-none K; words = refl }
+        go false e d m = record { lists = K; fine = f; grown = grown-refl K; words = refl }
 
     cell-stands : Stands K k (drop at file) (addCell C k c K) (endingAt at (foundOr (find (λ b t. matches K k c b t) (cellsAt K k) 0) mask k c ws))
     unfolding addCell foundOr endingAt
@@ -168,15 +166,11 @@ module _ (C : ℕ) (okC : T (capacityOk C)) (S : List Cell) (x file : List ℕ) 
         go (some p) d m = taken p K ws f refl d m
 
   -- a leaf, whose mask is by its mirror images
-  leaf-mask : (K : List (List Cell)) (n : ℕ) → maskFor (λ t. eqb n (mirrorLeaf t n)) ≡ symmetries K 0 (leafCell n)
-  unfolding matches
-  leaf-mask K n = sym (ap (λ (i : ℕ). maskFor (λ t. eqb i (mirrorLeaf t i))) (leaf-words n))
-
   leaf-stands : (K : List (List Cell)) → Sound C K → Fine C S K → (n : ℕ) → n < 2 ^ 64 → (at : ℕ) → at ≤ length file
       → Stands K 0 (drop at file) (addCell C 0 (leafCell n) K) (endingAt at (seekLeaf n (stored C S K x)))
   unfolding seekLeaf
   leaf-stands K sd f n hn at w =
-      rw (kept-read C S K f x) (cell-stands K sd f 0 (lit< tt) (leafCell n) refl (rw (leaf-words n) hn) at w (maskFor (λ t. eqb n (mirrorLeaf t n))) (leaf-mask K n))
+      rw (kept-read C S K f x) (cell-stands K sd f 0 (lit< tt) (leafCell n) refl (rw (leaf-words n) hn) at w (maskFor (λ t. eqb n (mirrorLeaf t n))) (leaf-symmetries K n))
 
   -- a cell of eight pointers, whose mask is by those of the cells that they name
   module _ (K : List (List Cell)) (sd : Sound C K) (f : Fine C S K) (k : ℕ) (hk : suc k < heights) where
@@ -321,10 +315,10 @@ module _ (C : ℕ) (okC : T (capacityOk C)) (S : List Cell) (x file : List ℕ) 
           → After K (suc k) (before none (readChildren (readRecord k) n m (drop at file))) (adds k K pre) (takeChildren (takeRecord file k) (suc k) n m at c ms (stored C S K x))
       unfolding addTree
       skip-after at w f =
-          one-more k K pre none 0 K refl (grown-none K) (readChildren (readRecord k) n m (drop at file)) _
+          one-more k K pre none 0 K refl (grown-refl K) (readChildren (readRecord k) n m (drop at file)) _
           (rw (next-zero pre n, next-zero mpre n)
           (ih at K (pre ++ (0 ∷ [])) (mpre ++ (0 ∷ [])) w sd f (omega (arith, snoc-length pre 0))
-          (known-more k K K sd (grown-none K) pre mpre kn 0 0 (inl refl) (λ ne. absurd (ne refl)))))
+          (known-more k K K sd (grown-refl K) pre mpre kn 0 0 (inl refl) (λ ne. absurd (ne refl)))))
 
     -- all eight are there
     last-stands : (at : ℕ) (K : List (List Cell)) (pre mpre : List ℕ) → at ≤ length file → Sound C K → Fine C S K → length pre ≡ 8 → Known k K pre mpre

@@ -19,7 +19,7 @@ use Rattle.laws.proofs.Tests.{and-right}
 use Rattle.laws.proofs.Undamaged.{Headed, headed}
 use Rattle.paper.specs.Match.{matches, find, leafCell}
 use Rattle.laws.proofs.Masks.{maskFor, maskMatch}
-use Rattle.store.specs.Keeping.{keepIn}
+use Rattle.keeping.specs.Keeping.{keepIn}
 use Rattle.merge.specs.declared.keep.Placed.the-variants as placed
 use Rattle.merge.specs.declared.record.Taken.the-variants.{At, Full}
 use Rattle.merge.specs.Seeking.{placing, keptWith, foundOr, seekLeaf, seekCell}

@@ -9,8 +9,8 @@ use lib.Dec.{eqb, ltb}
 use Rattle.paper.specs.Leaf.{mirrorLeaf}
 use Rattle.paper.specs.Store.{Cell, cellsAt, pointer, capacityOf, keptCount, keptOf}
 use Rattle.paper.specs.Match.{matches, find, leafCell}
-use Rattle.laws.proofs.Masks.{maskFor, maskMatch}
-use Rattle.store.specs.Keeping.{keepIn}
+use Rattle.laws.specs.Masks.{maskFor, maskMatch}
+use Rattle.keeping.specs.Keeping.{keepIn}
 use Rattle.merge.specs.declared.keep.Placed.{Placed}
 use Rattle.merge.specs.declared.keep.Placed.the-variants.{At, Full}
 

@@ -10,21 +10,17 @@ ghost use Rattle.paper.specs.Calls.{outlineOrder, addOutcome};
 ghost use Rattle.merge.specs.Taking.{taking, takeRoot};
 use crate::record::Taken;
 use crate::record::take_record;
+use keeping::counts;
+use keeping::cut_back;
+use keeping::hold_scene;
+use outline::HEAD;
 use outline::depth;
 use outline::refusal;
 use paper::Added;
 use paper::Refusal;
-use store::counts;
-use store::cut_back;
-use store::hold_scene;
+use store::MOST_SCENES;
 use store::scenes_held;
 use store::store_bad;
-
-// The bytes before the root's record.
-const HEAD: usize = 6;
-
-// At most 64 scenes are held.
-const MOST_SCENES: u32 = 64;
 
 // The refusal of a file by itself, 3 to 6.
 fn file_refusal(number: u32) -> Refusal

@@ -13,9 +13,7 @@ use crate::keep::Placed;
 use crate::keep::seek_cell;
 use crate::keep::seek_leaf;
 use numbers::be64;
-
-// The height of a leaf.
-const LEAF: u32 = 2;
+use outline::LEAF;
 
 // What taking a record answers: the position after it, the cell's pointer and its mask; or its height is full.
 pub enum Taken {

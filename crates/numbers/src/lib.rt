@@ -1,6 +1,6 @@
 // 'All numbers are big-endian': the numbers that a file's bytes write, and numbers laid over an output.
 ghost use mathlib.Core.Path.{_≡_};
-ghost use Prim.Native.Nat.{_+_, _≤_, _<_};
+ghost use Prim.Native.Nat.{_+_, _^_, _≤_, _<_};
 ghost use lib.ListN.{length, drop};
 ghost use Rattle.paper.specs.Numbers.{num, bytes};
 ghost use Rattle.numbers.specs.Laid.{laid};
@@ -12,9 +12,9 @@ pub fn wide(x: u8) -> u32
     x as u32
 }
 
-// Four bytes as a wider number.
-fn wider(x: u32) -> u64
-    ensures { λ r. ⌜ (r ≡ x) × (r < 4294967296) ⌝ }
+// A word as a wider number.
+pub fn wider(x: u32) -> u64
+    ensures { λ r. ⌜ (r ≡ x) × (r < 2 ^ 32) ⌝ }
 {
     x as u64
 }

@@ -16,10 +16,10 @@ use numbers::wide;
 // An outline's first byte, and the bytes before the root's record.
 const FRONT: u8 = 0x11;
 
-const HEAD: usize = 6;
+pub const HEAD: usize = 6;
 
 // The height of a leaf, also the least depth; the greatest depth.
-const LEAF: u32 = 2;
+pub const LEAF: u32 = 2;
 
 const DEEPEST: u32 = 16;
 

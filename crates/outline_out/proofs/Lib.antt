@@ -1,3 +1,4 @@
+-- the bytes by pointers, one step of them, a scene's file, the call
 pub mod Pointers
 pub mod Steps
 pub mod Scenes

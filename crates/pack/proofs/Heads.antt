@@ -10,7 +10,7 @@ use Rattle.paper.specs.Pack.{emptyFile}
 use Rattle.laws.proofs.Bytes.{bytes-length}
 use Rattle.numbers.specs.Laid.{laid, reached, writing}
 use Rattle.numbers.proofs.Laying.{writing-one, writing-number, writing-then, reached-length}
-use Rattle.pack.specs.Writing.{headOf}
+use Rattle.writing.specs.Writing.{headOf}
 
 pub head-length : (n D m : ℕ) → length (headOf n D m) ≡ packedHead
 head-length n D m = ap suc (length-append (bytes 4 n) (D ∷ m ∷ []) ∙ ap (λ (x : ℕ). x + 2) (bytes-length 4 n))

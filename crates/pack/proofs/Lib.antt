@@ -1,23 +1,6 @@
--- the order of the lists
-pub mod OrderWords
-pub mod OrderTally
-pub mod OrderBuckets
-pub mod OrderCounting
-pub mod OrderSteps
-pub mod OrderLists
--- rooms in scratch, codes, writing one behind the other
-pub mod Bounds
-pub mod Codes
-pub mod Behind
--- places found one behind the other
-pub mod Placings
-pub mod Runs
--- records, lists and sizes in their parts
-pub mod KeptWords
-pub mod Pieces
+-- a file's header
 pub mod Heads
 -- what code finds is the packed file
-pub mod Reaching
 pub mod Renumbering
 pub mod Scenes
 pub mod Packings

@@ -15,18 +15,18 @@ use lib.Seq.{getD-set-same, getD-set-other, getD-drop, ext-getD}
 use Rattle.paper.specs.Numbers.{bytes, flatten}
 use Rattle.paper.specs.Store.{Cell, heights, mostCapacity, capacityOf, keptCount, keptOf, tagOf, badPointer, storeOk}
 use Rattle.paper.specs.Packed.{packedFront, packedHead}
-use Rattle.paper.specs.Pack.{places, size, listBytes, sizeBytes, body, layout, emptyFile, sceneGraph, packedFile}
+use Rattle.paper.specs.Pack.{size, listBytes, sizeBytes, body, layout, emptyFile, sceneGraph, packedFile}
 use Rattle.paper.specs.Calls.{packScratch}
 use Rattle.laws.proofs.PackedReached.{numbers}
 use Rattle.laws.proofs.Layouts.{sizes-length}
 use Rattle.numbers.specs.Laid.{Reached, reached}
-use Rattle.pack.specs.Scratch.{orderPlace, placePlace, Ordered}
-use Rattle.pack.specs.Placing.{orderIn, span, placing, placedList, Placed, placed, onto, listPlaced, placedLists, Kept}
-use Rattle.pack.specs.Writing.{recordIn, listIn, bodyIn, sizesIn, bodyLength, fileLength, headOf}
-use Rattle.pack.proofs.Bounds.{lists-fit, order-at, order-length}
+use Rattle.order.specs.Scratch.{orderPlace, placePlace, Ordered}
+use Rattle.placing.specs.Placing.{orderIn, span, placing, placedList, Placed, placed, onto, listPlaced, placedLists, Kept}
+use Rattle.writing.specs.Writing.{recordIn, listIn, bodyIn, sizesIn, bodyLength, fileLength, headOf}
+use Rattle.placing.proofs.Bounds.{lists-fit, order-at, order-length}
 use Rattle.pack.proofs.Heads.{head-length}
-use Rattle.pack.proofs.Placings.{stop, words, total, placing-length, placing-other, placing-stop, placing-at}
-use Rattle.pack.proofs.Runs.{kept-still}
+use Rattle.placing.proofs.Placings.{stop, words, total, placing-length, placing-other, placing-stop, placing-at}
+use Rattle.placing.proofs.Runs.{kept-still}
 use Rattle.pack.proofs.Scenes.{Told, ListIs, list-is, choice, N-kept, N-below, N-few, size-small, list-bytes, leaf-bytes}
 
 -- the sizes and the words once lists are placed

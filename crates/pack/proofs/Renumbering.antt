@@ -12,9 +12,9 @@ use Rattle.paper.specs.Store.{Cell, mostCapacity, cellNo}
 use Rattle.paper.specs.Packed.{codeFor}
 use Rattle.paper.specs.Pack.{placeOf, code, pointerBytes, header, width, recordBytes, placesFrom, sizeOf, renumber}
 use Rattle.laws.proofs.PackedReached.{Listed, InList, none-renumbered, listed-some, listed-cell, listed-tag}
-use Rattle.laws.proofs.RecordReading.{no-code, some-code, some-bytes}
-use Rattle.pack.proofs.Codes.{bytes-none}
-use Rattle.pack.proofs.Placings.{total}
+use Rattle.laws.proofs.RecordSizes.{no-code, some-code, some-bytes}
+use Rattle.laws.proofs.RecordSizes.{no-bytes}
+use Rattle.placing.proofs.Placings.{total}
 
 -- ns: the store's numbers in their order; ps: their places in that order; table: the places by number
 module _ (ns : List ℕ) (few : length ns ≤ mostCapacity) (ps table : List ℕ) (told : (i : ℕ) → i < length ns → getD table (getD ns i 0) 0 ≡ getD ps i 0) where
@@ -27,7 +27,7 @@ module _ (ns : List ℕ) (few : length ns ≤ mostCapacity) (ps table : List ℕ
   same-code r (inr h) = some-code table r (h .some) ∙ ap codeFor (same-place r h) ∙ sym (some-code ps (renumber ns r) (listed-some ns r h))
 
   same-bytes : (r : ℕ) → InList ns r → pointerBytes table r ≡ pointerBytes ps (renumber ns r)
-  same-bytes r (inl e) = bytes-none table r e ∙ sym (bytes-none ps (renumber ns r) (none-renumbered ns r e))
+  same-bytes r (inl e) = no-bytes table r e ∙ sym (no-bytes ps (renumber ns r) (none-renumbered ns r e))
   same-bytes r (inr h) =
       some-bytes table r (h .some)
       ∙ ap₂ (λ (t l : ℕ). bytes (2 * codeFor l) (t * 2 ^ (16 * codeFor l - 3) + l)) (sym (listed-tag ns few r h)) (same-place r h)

@@ -14,23 +14,23 @@ use lib.ListN.{length, getD, take, length-append, length-map, List·getD-eq-defa
 use lib.Seq.{length-take-le}
 use Rattle.paper.specs.Numbers.{bytes, flatten}
 use Rattle.paper.specs.Store.{Cell, heights, mostCapacity, capacityOf, keptCount, keptOf, cellsAt, cellAt, cellNo, badPointer, storeOk}
-use Rattle.paper.specs.Pack.{width, recordBytes, leafBytes, placesFrom, sizeOf, places, size, listBytes, renumber, listFor, sceneGraph}
+use Rattle.paper.specs.Pack.{width, recordBytes, leafBytes, placesFrom, sizeOf, places, size, listBytes, renumber, sceneGraph}
 use Rattle.laws.proofs.Bytes.{bytes-length}
-use Rattle.laws.proofs.Lists.{getD-tabulate, getD-count}
+use Rattle.laws.proofs.Lists.{map-at, getD-count}
 use Rattle.laws.proofs.Kept.{kept-length}
 use Rattle.laws.proofs.Tests.{none-at}
 use Rattle.laws.proofs.StoreFacts.{store-header, names-kept, cell-sound}
 use Rattle.laws.proofs.Invariant.{OkPointer, not-bad-ok}
-use Rattle.laws.proofs.PackedReached.{Chosen, numbers}
+use Rattle.laws.proofs.RecordSizes.{list-length, size-le}
+use Rattle.laws.proofs.PackedReached.{Chosen, numbers, Pointing, chosen, listed}
+use Rattle.laws.proofs.PackedGraph.{graph-leaves, graph-inner}
 use Rattle.store.proofs.HeaderFacts.{header}
-use Rattle.pack.specs.Scratch.{placePlace}
-use Rattle.pack.specs.Placing.{placesIn, span}
-use Rattle.pack.specs.Writing.{recordIn}
-use Rattle.pack.proofs.Bounds.{place-at}
-use Rattle.pack.proofs.Codes.{width-le, record-length}
-use Rattle.pack.proofs.Placings.{total}
-use Rattle.pack.proofs.KeptWords.{leaf-two, cell-eight}
-use Rattle.pack.proofs.Reaching.{Pointing, chosen, listed}
+use Rattle.order.specs.Scratch.{placePlace}
+use Rattle.placing.specs.Placing.{placesIn, span}
+use Rattle.writing.specs.Writing.{recordIn}
+use Rattle.placing.proofs.Bounds.{place-at}
+use Rattle.placing.proofs.Placings.{total}
+use Rattle.writing.proofs.KeptWords.{leaf-two, cell-eight}
 use Rattle.pack.proofs.Renumbering.{same-list, same-size, same-places}
 
 -- ---- lists
@@ -57,15 +57,10 @@ parts-map f g (q ∷ l) = ap (λ (x : List ℕ). f (g q) ++ x) (parts-map f g l)
 
 -- ---- lengths
 
-list-length : (ps : List ℕ) (cs : List Cell) → length (flatten (map (recordBytes ps) cs)) ≡ 2 * sizeOf ps cs
-unfolding flatten sizeOf
-list-length ps [] = refl
-list-length ps (c ∷ cs) = length-append (recordBytes ps c) (flatten (map (recordBytes ps) cs)) ∙ omega (arith, record-length ps c, list-length ps cs)
-
 size-most : (ps : List ℕ) (ns : List ℕ) (f : ℕ → Cell) → ((i : ℕ) → i < length ns → length (f (getD ns i 0)) ≡ 8) → sizeOf ps (map f ns) ≤ 17 * length ns
-unfolding sizeOf
-size-most ps [] f h = omega arith
-size-most ps (q ∷ ns) f h = omega (arith, width-le ps (f q), h 0 (omega arith), size-most ps ns f (λ i l. h (suc i) (omega arith)))
+size-most ps ns f h =
+    let many : length (map f ns) ≡ length ns = length-map ns f in
+    omega (arith, many, size-le ps (map f ns) (λ q l. ap length (map-at f ns q 0 [] (omega arith)) ∙ h q (omega arith)))
 
 leaf-length : (c : Cell) → length c ≡ 2 → length (leafBytes c) ≡ 8
 unfolding leafBytes flatten
@@ -122,7 +117,7 @@ module _ (ws : List ℕ) (ok : T (storeOk ws)) (top p : ℕ) (hk : top < heights
   root = rw (kept-length ws top hk) (names-kept (keptCount ws top) p fine (ne-eqb p 0 some))
 
   pub choice : (j : ℕ) → j ≤ top → Chosen (length (cellsAt K j)) (N j)
-  choice j h = chosen K top p pointing root j h
+  choice j h = chosen K top p root j h
 
   pub N-kept : (j : ℕ) → j ≤ top → (i : ℕ) → i < length (N j) → getD (N j) i 0 < keptCount ws j
   N-kept j h i l = omega (arith, choice j h .below i l, kept-length ws j (omega arith))
@@ -132,18 +127,6 @@ module _ (ws : List ℕ) (ok : T (storeOk ws)) (top p : ℕ) (hk : top < heights
 
   pub N-few : (j : ℕ) → j ≤ top → length (N j) ≤ C
   N-few j h = omega (arith, choice j h .len, kept-length ws j (omega arith), kept-few j (omega arith))
-
-  graph-list : (j : ℕ) → j ≤ top → cellsAt G j ≡ listFor K N j
-  unfolding sceneGraph
-  graph-list j h = getD-tabulate (suc top) 0 j (listFor K N) [] (omega arith) ∙ ap (listFor K N) (zero-add j)
-
-  graph-leaves : cellsAt G 0 ≡ map (cellAt K 0) (N 0)
-  unfolding listFor
-  graph-leaves = graph-list 0 (omega arith)
-
-  graph-inner : (j : ℕ) → j < top → cellsAt G (suc j) ≡ map (λ q. map (renumber (N j)) (cellAt K (suc j) q)) (N (suc j))
-  unfolding listFor
-  graph-inner j h = graph-list (suc j) h
 
   -- ---- list k by the places of the lists below
 
@@ -160,11 +143,11 @@ module _ (ws : List ℕ) (ok : T (storeOk ws)) (top p : ℕ) (hk : top < heights
   unfolding span recordIn places size listBytes
   leaves-are s =
       let ones : (l : List ℕ) → total (span K C 0 s) l ≡ length l = total-ones (span K C 0 s) (λ q. refl) in
-      let many : length (cellsAt G 0) ≡ length (N 0) = ap length graph-leaves ∙ length-map (N 0) (cellAt K 0) in
+      let many : length (cellsAt G 0) ≡ length (N 0) = ap length (graph-leaves K top p) ∙ length-map (N 0) (cellAt K 0) in
       record {
         place = λ i h. ones (take i (N 0)) ∙ length-take-le i (N 0) (omega arith) ∙ sym (getD-count (length (cellsAt G 0)) 0 i (omega (arith, many)) ∙ zero-add i);
         size-is = ones (N 0) ∙ sym many;
-        bytes-are = parts-same (recordIn K C 0 s) (λ q. leafBytes (cellAt K 0 q)) (λ q. refl) (N 0) ∙ parts-map leafBytes (cellAt K 0) (N 0) ∙ ap (λ (cs : List Cell). flatten (map leafBytes cs)) (sym graph-leaves);
+        bytes-are = parts-same (recordIn K C 0 s) (λ q. leafBytes (cellAt K 0 q)) (λ q. refl) (N 0) ∙ parts-map leafBytes (cellAt K 0) (N 0) ∙ ap (λ (cs : List Cell). flatten (map leafBytes cs)) (sym (graph-leaves K top p));
       }
 
   inner-are : (j : ℕ) → j < top → (s : List ℕ) → ((i : ℕ) → i < length (N j) → getD (placesIn C j s) (getD (N j) i 0) 0 ≡ getD (places G j) i 0) → ListIs (suc j) s
@@ -176,8 +159,8 @@ module _ (ws : List ℕ) (ok : T (storeOk ws)) (top p : ℕ) (hk : top < heights
       let g : ℕ → Cell = cellAt K (suc j) in
       let w : ℕ → ℕ = λ q. width table (cellAt K (suc j) q) in
       let same : (l : List ℕ) → total (span K C (suc j) s) l ≡ total w l = total-same (span K C (suc j) s) w (λ q. refl) in
-      let points = listed K top p pointing root j h in
-      let cells : map (λ q. map (renumber (N j)) (cellAt K (suc j) q)) (N (suc j)) ≡ cellsAt G (suc j) = sym (graph-inner j h) in
+      let points = listed K top p root pointing j h in
+      let cells : map (λ q. map (renumber (N j)) (cellAt K (suc j) q)) (N (suc j)) ≡ cellsAt G (suc j) = sym (graph-inner K top p j h) in
       record {
         place = λ i l.
             same (take i (N (suc j))) ∙ sym (zero-add (total w (take i (N (suc j))))) ∙ same-places (N j) few ps table told g 0 (N (suc j)) points i l
@@ -197,12 +180,12 @@ module _ (ws : List ℕ) (ok : T (storeOk ws)) (top p : ℕ) (hk : top < heights
 
   pub size-small : (k : ℕ) → k ≤ top → size G k ≤ 17 * mostCapacity
   unfolding size
-  size-small zero h = omega (arith, ap length graph-leaves, length-map (N 0) (cellAt K 0), N-few 0 h, capacity-most)
+  size-small zero h = omega (arith, ap length (graph-leaves K top p), length-map (N 0) (cellAt K 0), N-few 0 h, capacity-most)
   size-small (suc j) h =
       let f : ℕ → Cell = λ q. map (renumber (N j)) (cellAt K (suc j) q) in
       let eight : (i : ℕ) → i < length (N (suc j)) → length (f (getD (N (suc j)) i 0)) ≡ 8 =
       λ i l. length-map (cellAt K (suc j) (getD (N (suc j)) i 0)) (renumber (N j)) ∙ cell-eight ws (store-header ws ok) j (getD (N (suc j)) i 0) (omega arith) (N-kept (suc j) h i l) in
-      rw (graph-inner j h) (omega (arith, size-most (places G j) (N (suc j)) f eight, N-few (suc j) h, capacity-most))
+      rw (graph-inner K top p j h) (omega (arith, size-most (places G j) (N (suc j)) f eight, N-few (suc j) h, capacity-most))
 
   pub list-bytes : (k : ℕ) → k < top → length (listBytes G (suc k)) ≡ 2 * size G (suc k)
   unfolding listBytes size
@@ -211,6 +194,6 @@ module _ (ws : List ℕ) (ok : T (storeOk ws)) (top p : ℕ) (hk : top < heights
   pub leaf-bytes : length (listBytes G 0) ≡ 8 * size G 0
   unfolding listBytes size
   leaf-bytes =
-      ap (λ (cs : List Cell). length (flatten (map leafBytes cs))) graph-leaves
+      ap (λ (cs : List Cell). length (flatten (map leafBytes cs))) (graph-leaves K top p)
       ∙ leaves-length (N 0) (cellAt K 0) (λ i l. leaf-two ws (store-header ws ok) (getD (N 0) i 0) (N-kept 0 (omega arith) i l))
-      ∙ ap (λ (n : ℕ). 8 * n) (sym (ap length graph-leaves ∙ length-map (N 0) (cellAt K 0)))
+      ∙ ap (λ (n : ℕ). 8 * n) (sym (ap length (graph-leaves K top p) ∙ length-map (N 0) (cellAt K 0)))

@@ -17,7 +17,7 @@ use Rattle.paper.specs.Calls.{over, cleared, noScene, scratchFor, packBytes, pa
 use Rattle.paper.specs.declared.Refusal.the-variants.{DamagedStore, NoScene, ScratchShort, OutputShort}
 use Rattle.paper.specs.declared.Written.{Written}
 use Rattle.paper.specs.declared.Written.the-variants.{Length, Refused}
-use Rattle.pack.specs.Writing.{fitted}
+use Rattle.writing.specs.Writing.{fitted}
 
 -- ---- an output
 

@@ -10,24 +10,25 @@ ghost use Rattle.paper.specs.Store.{heights, capacityOf, keptCount, keptOf, bad
 ghost use Rattle.paper.specs.Packed.{packedHead};
 ghost use Rattle.paper.specs.Pack.{emptyFile, packedFile};
 ghost use Rattle.paper.specs.Answers.{outcome, written};
-ghost use Rattle.paper.specs.Calls.{cleared, packScratch, packOutcome};
+ghost use Rattle.paper.specs.Calls.{packScratch, packOutcome};
 ghost use Rattle.numbers.specs.Laid.{reached, writing};
-ghost use Rattle.pack.specs.Writing.{headOf, fitted};
-use crate::order::order_lists;
-use crate::place::place_lists;
-use crate::write::HEAD;
-use crate::write::file_length;
-use crate::write::write_lists;
-use crate::write::write_sizes;
+ghost use Rattle.writing.specs.Writing.{headOf, fitted};
 use numbers::put_number;
+use order::order_lists;
 use paper::Refusal;
 use paper::Written;
+use placing::place_lists;
 use store::capacity;
+use store::clear;
 use store::scene_depth;
 use store::scene_root;
 use store::scenes_held;
 use store::store_bad;
 use store::tag;
+use writing::HEAD;
+use writing::file_length;
+use writing::write_lists;
+use writing::write_sizes;
 
 // The front byte.
 const FRONT: u8 = 0x21;
@@ -49,18 +50,6 @@ const LEAF_HEIGHT: u32 = 2;
 
 // Scratch takes so many words for each unit of capacity.
 const SCRATCH_PER_UNIT: usize = 60;
-
-// Makes the first n words zero.
-fn clear(scratch: &mut [u32], n: usize)
-    requires { ⌜ n ≤ length (now scratch) ⌝ }
-    ensures { λ _. ⌜ now (scratch .exit) ≡ cleared n (now (scratch .entry)) ⌝ }
-{
-    let mut i = 0;
-    while i < n {
-        scratch[i] = 0;
-        i += 1;
-    }
-}
 
 // The words of scratch that a store of this capacity takes.
 fn scratch_words(store: &[u32]) -> usize

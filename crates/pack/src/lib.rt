@@ -1,8 +1,5 @@
 // A scene written as a packed file. Scratch holds, for each list of cells, their popularity, their order and their
 // places; the file is measured from the places' sizes, then written.
 mod call; // a scene's file, and the call
-mod order; // which cells are packed, in which order
-mod place; // where each record lies
-mod write; // records, lists and sizes written
 
 pub use call::pack;

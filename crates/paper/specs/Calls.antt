@@ -7,13 +7,13 @@ use Prim.Native.Nat.{ℕ, _+_, _-_, _*_, _^_}
 use lib.Dec.{eqb, leb, ltb}
 use lib.ListN.{length, drop, replicate, set}
 use Rattle.paper.specs.Numbers.{bitFor, sameList}
-use Rattle.paper.specs.Rooms.{Point, Room, depthOk, inside}
+use Rattle.paper.specs.Rooms.{Point, depthOk, inside}
 use Rattle.paper.specs.Outline.{outlineFront, outlineHead, longest, outlineOf, frontOk, lengthOk, fileDepth, outlineRules, outlineTree}
 use Rattle.paper.specs.Store.{Cell, Store, mostScenes, used, capacityOf, scenesHeld, keptCount, capacityOk, keptOf, storeOf, wordsOf, sceneDepth, sceneRoot, headerOk, sceneOk, storeOk}
 use Rattle.paper.specs.Meaning.{rootRoom}
 use Rattle.paper.specs.Match.{Adding, full, added, addTree}
 use Rattle.paper.specs.Questions.{voxelSolid, voxelWay, cellFull, cellWay, boxSolid, boxWay}
-use Rattle.paper.specs.Packed.{packedFront, packedHead, headOk, packedRules, Way, wayIn, solid, records, isBroken, startsOf}
+use Rattle.paper.specs.Packed.{packedFront, packedHead, headOk, packedRules, wayIn, solid, records, isBroken, startsOf}
 use Rattle.paper.specs.Pack.{packedFile}
 use Rattle.paper.specs.Answers.{Outcome}
 use Rattle.paper.specs.Order.{Test, when, firstOf, settled}

@@ -1,5 +1,4 @@
 -- Document 01: 'A cell of height 2 is a leaf: a 64-bit number, voxel (x, y, z) in bit x + 4y + 16z.' Definitions only.
-use mathlib.Core.Bool.{Bool}
 use Prim.Native.Nat.{ℕ, _+_, _*_, _/_, _%_}
 use lib.Dec.{eqb}
 use Rattle.paper.specs.Numbers.{bit, bitFor, gather}

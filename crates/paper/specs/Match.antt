@@ -1,6 +1,6 @@
 -- Document 01, 'The store': the match rule, and adding. Definitions only.
 -- The match rule speaks of pointers, on any undamaged store; that it agrees with voxels on stores that only the calls wrote is a claim.
-use mathlib.Core.Bool.{Bool, true, false, cond}
+use mathlib.Core.Bool.{Bool, false, cond}
 use mathlib.Core.List.{List, [], _∷_, _++_}
 use mathlib.Core.Option.{Option, some}
 use mathlib.Core.Option as O

@@ -4,11 +4,11 @@
 use mathlib.Core.Bool.{Bool, true, false, cond, _&&_}
 use mathlib.Core.List.{List, [], _∷_, _++_}
 use mathlib.Core.Path.{_≡_}
-use Prim.Native.Nat.{ℕ, zero, suc, pred, _+_, _-_, _*_, _/_, _%_, _^_, _<_}
+use Prim.Native.Nat.{ℕ, zero, suc, pred, _+_, _-_, _/_, _%_, _^_}
 use lib.Dec.{eqb, leb, ltb, T}
-use lib.ListN.{length, take, drop, getD}
-use Rattle.paper.specs.Numbers.{bitFor, gather, bytes, be, num, flatten, tabulate}
-use Rattle.paper.specs.Rooms.{Point, Room, depthOk, childNo, inChild, childRoom, nonEmpty}
+use lib.ListN.{length, drop, getD}
+use Rattle.paper.specs.Numbers.{bitFor, gather, bytes, num, flatten, tabulate}
+use Rattle.paper.specs.Rooms.{Room, depthOk, childNo, inChild, childRoom, nonEmpty}
 use Rattle.paper.specs.Leaf.{leafVoxel, leafOf}
 
 -- the edge of a cell of height k + 2

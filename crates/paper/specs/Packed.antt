@@ -3,7 +3,7 @@
 -- All reading is total: on broken bytes it gives some value, and a named test says that they are broken. A list is measured from the end of the
 -- file, where the leaves are. The lists are read into a GRAPH: cells whose pointers go by the number of the record, just as a store keeps them,
 -- so the match rule and the voxels of a cell are the store's own.
-use mathlib.Core.Bool.{Bool, true, false, cond, not, _&&_, _||_}
+use mathlib.Core.Bool.{Bool, true, false, cond, not, _&&_}
 use mathlib.Core.List.{List, [], _∷_, map}
 use Prim.Native.Nat.{ℕ, zero, suc, _+_, _-_, _*_, _/_, _%_, _^_}
 use lib.Dec.{eqb, leb, ltb}

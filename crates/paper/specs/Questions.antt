@@ -4,7 +4,7 @@ use mathlib.Core.Bool.{Bool, true, false, cond, not}
 use mathlib.Core.List.{List, [], _∷_}
 use Prim.Native.Nat.{ℕ, zero, suc, _-_, _*_, _^_}
 use lib.Dec.{eqb, leb, ltb}
-use lib.ListN.{length, getD}
+use lib.ListN.{length}
 use Rattle.paper.specs.Rooms.{Point, point, Room, mirror, inChild, cellOf, nonEmpty, boxCount}
 use Rattle.paper.specs.Outline.{edge}
 use Rattle.paper.specs.Store.{Cell, cellsAt, cellAt, tagOf, cellNo, badPointer, anyBad}

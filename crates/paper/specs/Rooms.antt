@@ -2,9 +2,9 @@
 -- A room is a question on three coordinates; a cell of it is that question restricted and shifted. Nothing here speaks of trees or pointers.
 use mathlib.Core.Bool.{Bool, true, false, cond, _&&_}
 use mathlib.Core.Path.{_≡_}
-use Prim.Native.Nat.{ℕ, zero, suc, _+_, _-_, _*_, _/_, _%_, _^_, _<_}
+use Prim.Native.Nat.{ℕ, _+_, _-_, _*_, _/_, _%_, _^_, _<_}
 use lib.Dec.{eqb, leb, ltb}
-use Rattle.paper.specs.Numbers.{allBelow, anyBelow, sum, bitFor}
+use Rattle.paper.specs.Numbers.{anyBelow, sum, bitFor}
 
 -- a voxel's coordinates, or those of a cell counted in cells of its height
 pub record Point : Type 0 where

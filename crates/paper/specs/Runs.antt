@@ -4,10 +4,9 @@ use mathlib.Core.List.{List, [], _∷_}
 use mathlib.Core.Option.{Option, some}
 use mathlib.Core.Option as O
 use mathlib.Core.Path.{_≡_}
-use Prim.Native.Nat.{ℕ, suc, _-_, _<_, _≤_, _^_}
-use lib.Dec.{eqb, ltb, T}
+use Prim.Native.Nat.{ℕ, _-_, _<_, _≤_, _^_}
+use lib.Dec.{eqb}
 use lib.ListN.{length, getD}
-use Rattle.paper.specs.Numbers.{allIn}
 use Rattle.paper.specs.Rooms.{Point, Room, Inside, cellOf, Same, Image, NonEmpty}
 use Rattle.paper.specs.Outline.{fileDepth, fileRoom}
 use Rattle.paper.specs.Store.{used, capacityOf, keptOf, cellAt}

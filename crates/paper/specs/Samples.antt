@@ -1,7 +1,7 @@
 -- Document 01, 'Samples': S1 to S12 as one list, each computed by the outcome functions on words and bytes. A sample is what is got beside what
 -- document 01 says. Definitions only: the claim that all hold is C10.
 use mathlib.Core.Bool.{Bool, false, cond, not}
-use mathlib.Core.List.{List, [], _∷_, _++_, map}
+use mathlib.Core.List.{List, [], _∷_, _++_}
 use Prim.Native.Nat.{ℕ, _+_, _*_, _%_}
 use lib.IntN.{pos, negsuc}
 use lib.Ieee.{Float, fin}

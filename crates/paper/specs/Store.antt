@@ -1,7 +1,7 @@
 -- Document 01, 'The store': the cells and scenes that a store holds, the words that hold them, and when a store is damaged. Definitions only.
 -- Heights are counted from 2: list k has the cells of height k + 2, so list 0 has the leaves. A cell is its words: a leaf two, high first,
 -- any other eight pointers.
-use mathlib.Core.Bool.{Bool, true, false, cond, not, _&&_, _||_}
+use mathlib.Core.Bool.{Bool, not, _&&_}
 use mathlib.Core.List.{List, [], _∷_, _++_, map}
 use Prim.Native.Nat.{ℕ, zero, suc, _+_, _-_, _*_, _/_, _%_, _^_}
 use lib.Dec.{eqb, leb, ltb}

@@ -8,10 +8,9 @@ use native.Mathlib.Omega.{arith}
 use lib.Dec.{T, leb, leb→le}
 use lib.ListN.{length}
 use borrow.Author.Tests.{le-leb, lt-leb}
-use Rattle.laws.proofs.Tests.{and-left, and-right}
+use Rattle.laws.proofs.Tests.{and-left, and-right, all-at}
 use Rattle.paper.specs.Numbers.{allBelow}
 use Rattle.paper.specs.Store.{mostCapacity, mostScenes, heights, used, zerosPlace, capacityOf, scenesHeld, keptCount, scenePlace, blank, capacityOk, headerOk}
-use Rattle.store.proofs.Tests.{all-at}
 
 pub record Header (ws : List ℕ) : Type 0 where
   pub room : used (capacityOf ws) ≤ length ws
@@ -38,7 +37,7 @@ header ws t =
       least = leb→le 1 C (and-left (leb 1 C) (leb C mostCapacity) range);
       most = leb→le C mostCapacity (and-right (leb 1 C) (leb C mostCapacity) range);
       scenes = leb→le (scenesHeld ws) mostScenes (and-right (a && b) s three);
-      counts = λ k l. leb→le (keptCount ws k) C (all-at heights p k (and-right (a && b && s) (allBelow heights p) four) l);
+      counts = λ k l. leb→le (keptCount ws k) C (all-at heights p (and-right (a && b && s) (allBelow heights p) four) k l);
     }
 
 -- the words before the first list are there

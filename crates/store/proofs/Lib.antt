@@ -6,8 +6,4 @@ pub mod Places
 pub mod Usable
 pub mod Ways
 pub mod InPlace
-pub mod KeepingWays
-pub mod KeepingHeader
-pub mod KeepingStored
-pub mod KeepingCut
 pub mod MirroredCells

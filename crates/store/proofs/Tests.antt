@@ -10,6 +10,7 @@ use native.Mathlib.Numerals.{add-one, sub-one}
 use lib.Dec.{T, leb, ltb}
 use borrow.Author.Tests.{leb-true, leb-false, lt-ltb, le-ltb, not-true, not-false}
 use Rattle.laws.proofs.Tests.{true-T}
+pub use Rattle.laws.proofs.Tests.{ltb-not}
 use Rattle.paper.specs.Numbers.{both, allBelow, anyBelow}
 
 -- ---- a call that answers the opposite of a test
@@ -22,23 +23,6 @@ failed {b} e t = not-true b (sym e ∙ t)
 
 pub passed-T : (b : Bool) {r : Bool} → r ≡ not b → r ≡ false → T b
 passed-T b e f = true-T {b = b} (passed e f)
-
-pub ltb-not : (a b : ℕ) → ltb a b ≡ not (leb b a)
-ltb-not a b = go (leb b a) refl
-  where
-    go : (t : Bool) → leb b a ≡ t → ltb a b ≡ not t
-    go true e = le-ltb a b (leb-true b a e)
-    go false e = lt-ltb a b (leb-false b a e)
-
--- ---- all below n: what a test says of all it says of each
-
-pub all-at : (n : ℕ) (p : ℕ → Bool) (i : ℕ) → T (allBelow n p) → i < n → T (p i)
-all-at zero p i t l = absurd (not-suc-le-zero l)
-all-at (suc n) p i t l = go (p n) refl t (all-at n p i)
-  where
-    go : (b : Bool) → p n ≡ b → T (both b (allBelow n p)) → (T (allBelow n p) → i < n → T (p i)) → T (p i)
-    go true e s ih = ⊎-elim (λ q. let k : i ≡ n = q in rw k (true-T e)) (λ m. ih s m) (eq-or-lt-of-le (le-of-suc-le-suc l))
-    go false e s ih = absurd s
 
 -- ---- a loop that counts k down, with an answer A that is still that of the numbers below k
 

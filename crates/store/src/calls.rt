@@ -1,31 +1,18 @@
 // New store and kept, each with its whole outcome as `paper` defines it.
 ghost use mathlib.Core.Path.{_≡_};
 ghost use mathlib.Core.List.{[], _∷_};
-ghost use Prim.Native.Nat.{_≤_};
-ghost use lib.ListN.{length};
 ghost use Rattle.paper.specs.Answers.{outcome, started, kept as kept-told};
-ghost use Rattle.paper.specs.Calls.{cleared, newOutcome, keptOutcome};
+ghost use Rattle.paper.specs.Calls.{newOutcome, keptOutcome};
 use crate::header::header_bad;
 use crate::header::kept_count;
 use crate::header::size_bad;
 use crate::header::used_words;
 use crate::scenes::LEAST_DEPTH;
 use crate::scenes::depth_bad;
+use crate::zeros::clear;
 use paper::Kept;
 use paper::Refusal;
 use paper::Started;
-
-// Makes the first n words zero.
-fn clear(store: &mut [u32], n: usize)
-    requires { ⌜ n ≤ length (now store) ⌝ }
-    ensures { λ _. ⌜ now (store .exit) ≡ cleared n (now (store .entry)) ⌝ }
-{
-    let mut i = 0;
-    while i < n {
-        store[i] = 0;
-        i += 1;
-    }
-}
 
 // New store: the words of this capacity zeroed, then word 0 set; refused by 1.
 pub fn new_store(store: &mut [u32], capacity: u32) -> Started

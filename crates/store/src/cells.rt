@@ -1,11 +1,12 @@
 // The words from 160 on: C leaves of two words, high first, then for heights 3 to 16 in turn C cells of 8 pointers.
 ghost use mathlib.Core.Path.{_≡_};
-ghost use Prim.Native.Nat.{_+_, _^_, _≤_, _<_};
+ghost use Prim.Native.Nat.{_+_, _≤_, _<_};
 ghost use lib.Dec.{T};
 ghost use lib.ListN.{length, take, drop};
 ghost use Rattle.paper.specs.Store.{mostCapacity, heights, keptCount, cellPlace, keptOf, cellAt, leafNo, headerOk};
 use crate::header::FIRST_LIST;
 use crate::header::capacity;
+use numbers::wider;
 
 // The words of a leaf, and of any other cell.
 pub const LEAF_WORDS: usize = 2;
@@ -30,13 +31,6 @@ pub fn cell_place(c: u32, k: u32, n: u32) -> usize
     FIRST_LIST + LEAF_WORDS * units + CELL_WORDS * units * ((k - 1) as usize) + CELL_WORDS * number
 }
 
-// A word as a 64-bit number.
-fn wide(word: u32) -> u64
-    ensures { λ r. ⌜ (r ≡ word) × (r < 2 ^ 32) ⌝ }
-{
-    word as u64
-}
-
 // Leaf n: its two words as one number.
 pub fn leaf_at(store: &[u32], n: u32) -> u64
     requires { ⌜ T (headerOk (now store)) ⌝ }
@@ -44,7 +38,7 @@ pub fn leaf_at(store: &[u32], n: u32) -> u64
     ensures { λ r. ⌜ r ≡ leafNo (cellAt (keptOf (now (store .entry))) 0 n) ⌝ }
 {
     let at = cell_place(capacity(store), 0, n);
-    wide(store[at]) * HIGH_WORD + wide(store[at + 1])
+    wider(store[at]) * HIGH_WORD + wider(store[at + 1])
 }
 
 // Eight words from `at` on, as one value.

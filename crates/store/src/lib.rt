@@ -1,28 +1,29 @@
-// The lent words of a store, by named places: the only crate that knows a word's position. Heights are counted from 2, as
-// in `paper`: list k has the cells of height k + 2, so list 0 has the leaves.
+// The lent words of a store, by named places: only this crate, and `keeping`, which writes them, know a word's position.
+// Heights are counted from 2, as in `paper`: list k has the cells of height k + 2, so list 0 has the leaves.
 mod calls; // new store and kept, with their whole outcome
 mod cells; // one kept cell, read
 mod damage; // the whole store's tests
 mod header; // words 0 to 31
-mod keeping; // one more cell, one more scene, and lists cut back
 mod mirrors; // a pointer and a cell, mirrored
 mod pointers; // one pointer, and the eight of a cell
 mod scenes; // words 32 to 159
+mod zeros; // words made zero
 
 pub use calls::kept;
 pub use calls::new_store;
+pub use cells::CELL_WORDS;
+pub use cells::HIGH_WORD;
 pub use cells::cell_at;
+pub use cells::cell_place;
 pub use cells::leaf_at;
 pub use damage::store_bad;
+pub use header::FIRST_COUNT;
+pub use header::HEIGHTS;
+pub use header::MOST_SCENES;
 pub use header::capacity;
 pub use header::header_bad;
 pub use header::kept_count;
 pub use header::scenes_held;
-pub use keeping::counts;
-pub use keeping::cut_back;
-pub use keeping::hold_scene;
-pub use keeping::keep_cell;
-pub use keeping::keep_leaf;
 pub use mirrors::mirrored;
 pub use mirrors::turned;
 pub use pointers::all_absent;
@@ -34,4 +35,7 @@ pub use pointers::tag;
 pub use scenes::depth_bad;
 pub use scenes::scene_bad;
 pub use scenes::scene_depth;
+pub use scenes::scene_place;
 pub use scenes::scene_root;
+pub use zeros::clear;
+pub use zeros::put_zeros;

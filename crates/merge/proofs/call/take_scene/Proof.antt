@@ -9,7 +9,7 @@ use Rattle.paper.specs.declared.Refusal.the-variants.{CellsFull}
 use Rattle.paper.specs.Store.{heights, keptCount}
 use Rattle.paper.specs.Runs.{Bytes}
 use Rattle.laws.proofs.Undamaged.{store-header}
-use Rattle.store.specs.Keeping.{holdIn, cutBack}
+use Rattle.keeping.specs.Keeping.{holdIn, cutBack}
 use Rattle.merge.specs.declared.record.Taken.{Taken}
 use Rattle.merge.specs.declared.record.Taken.the-variants.{Full}
 use Rattle.merge.specs.Taking.{taking, takeRoot}

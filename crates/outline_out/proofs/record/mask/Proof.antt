@@ -11,7 +11,7 @@ use borrow.Author.Needs.{needs}
 use Rattle.paper.specs.Numbers.{bitFor, gather}
 use Rattle.laws.proofs.Bits.{bitFor-lt}
 use Rattle.outline_out.specs.Record.{pointerAt, maskAt}
-use Rattle.leaf.proofs.Turning.{gather-none, gather-down, gather-room}
+use Rattle.laws.proofs.Bits.{gather-none, gather-down, gather-room}
 use Rattle.outline_out.proofs.record.mask.Statement.{statement}
 use Rattle.outline_out.proofs.record.mask.Tie as tie
 

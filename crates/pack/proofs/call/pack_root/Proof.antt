@@ -11,9 +11,9 @@ use Rattle.paper.specs.Pack.{packedFile}
 use Rattle.paper.specs.Calls.{packScratch}
 use Rattle.laws.proofs.StoreFacts.{tag-lt}
 use Rattle.numbers.proofs.Laying.{laid-first, reached-list}
-use Rattle.pack.specs.Placing.{Room}
-use Rattle.pack.specs.Writing.{headOf, sizesIn, bodyIn}
-use Rattle.pack.proofs.Behind.{Going, going-first, going-room, going-on, going-last, last-long}
+use Rattle.placing.specs.Placing.{Room}
+use Rattle.writing.specs.Writing.{headOf, sizesIn, bodyIn}
+use Rattle.writing.proofs.Behind.{Going, going-first, going-room, going-on, going-last, last-long}
 use Rattle.pack.proofs.Scenes.{capacity-most}
 use Rattle.pack.proofs.Packings.{Found, all-kept, found}
 use Rattle.pack.proofs.Ways.{fitted-short, fitted-whole}

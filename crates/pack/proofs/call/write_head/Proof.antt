@@ -6,7 +6,7 @@ use borrow.Author.Needs.{needs}
 use Rattle.paper.specs.Numbers.{bytes}
 use Rattle.laws.proofs.Bytes.{bytes-length}
 use Rattle.numbers.proofs.Laying.{reached-length, length-laid}
-use Rattle.pack.specs.Writing.{headOf}
+use Rattle.writing.specs.Writing.{headOf}
 use Rattle.pack.proofs.Heads.{head-length, head-written}
 use Rattle.pack.proofs.call.write_head.Statement.{statement}
 use Rattle.pack.proofs.call.write_head.Tie as tie

@@ -22,16 +22,16 @@ cell-place-requires c κs =
     let h = header _ (c .before .before .pre .0) in
     (omega (arith, h .most), (lit< tt, omega (arith, h .counts 0 (lit< tt))))
 
-shared-slice-read-wide : tie.Need-shared-slice-read-wide
-shared-slice-read-wide c = omega (arith, room (c .before))
+shared-slice-read-wider : tie.Need-shared-slice-read-wider
+shared-slice-read-wider c = omega (arith, room (c .before))
 
-shared-slice-read-wide-2 : tie.Need-shared-slice-read-wide-2
-shared-slice-read-wide-2 c = omega (arith, room (c .before .before .before))
+shared-slice-read-wider-2 : tie.Need-shared-slice-read-wider-2
+shared-slice-read-wider-2 c = omega (arith, room (c .before .before .before))
 
 returns : tie.Need-returns
 returns c =
     let s = c .before .before .before .before .before .before .before in
-    ap₂ (λ (a b : ℕ). a * 2 ^ 32 + b) (c .before .before .wide .ensures .0) (c .wide2 .ensures .0)
+    ap₂ (λ (a b : ℕ). a * 2 ^ 32 + b) (c .before .before .wider .ensures .0) (c .wider2 .ensures .0)
     ∙ leaf-words (s .args .store .now) (s .args .n) _ _ (c .before .before .before .before .before .capacity .ensures) (s .pre .1) (c .before .before .before .before .cell-place .ensures)
 
 pub leaf-at-spec : {M : Type 1} → statement M
@@ -41,12 +41,12 @@ leaf-at-spec =
     (λ c κs. search needs)
     cell-place-requires
     (λ c. search needs)
-    shared-slice-read-wide
+    shared-slice-read-wider
     (λ c κs. search needs)
     (λ c. search needs)
     (λ c. search needs)
     (λ c. search needs)
-    shared-slice-read-wide-2
+    shared-slice-read-wider-2
     (λ c κs. search needs)
     (λ c. search needs)
     returns)

@@ -2,7 +2,7 @@
 -- Each way is computed at the test passed. Assumes nothing.
 use borrow.Author.Tests.{le-leb, lt-leb}
 use Rattle.paper.specs.Rooms.{deepest}
-use Rattle.store.proofs.Tests.{ltb-not}
+use Rattle.laws.proofs.Tests.{ltb-not}
 use Rattle.store.proofs.scenes.depth_bad.Statement.{statement}
 use Rattle.store.proofs.scenes.depth_bad.Tie as tie
 

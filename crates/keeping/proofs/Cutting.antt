@@ -1,0 +1,229 @@
+-- On the words of a store: lists cut back to a front part of each give the words of the store with those front parts.
+-- By zeros stored over the words of the cells cut, in the list's part of the words, and induction on the lists. Assumes nothing.
+use mathlib.Core.Path.{_≡_, refl, sym, subst, ap, ap₂, _∙_}
+use mathlib.Core.List.{List, [], _∷_, _++_, append-assoc, append-nil}
+use Prim.Native.Nat.{ℕ, zero, suc, _+_, _-_, _*_, _≤_, _<_}
+use native.Mathlib.Nat.{le-of-suc-le-suc, not-suc-le-zero, add-zero, zero-add}
+use native.Mathlib.Decide.{ℕ-discrete}
+use native.Mathlib.Omega.{arith}
+use lib.ListN.{length, getD, set, replicate, length-append, length-replicate, length-set, replicate-append-replicate}
+use lib.Seq.{sets, length-sets, set-append-left, drop-length, getD-set-same, getD-set-other, ext-getD}
+use Rattle.paper.specs.Numbers.{tabulate, flatten}
+use Rattle.paper.specs.Store.{Cell, mostScenes, heights, keptCount, cellWords, cellPlace, cellsAt, padded, listWords, headerWords, wordsOf}
+use Rattle.laws.proofs.Put.{sets-left, sets-right}
+use Rattle.laws.proofs.Lists.{getD-tabulate}
+use Rattle.laws.proofs.Padded.{flatten-append}
+use Rattle.laws.proofs.Words.{Sized, snil, scons, flatten-length, padded-length, Lists, lnil, lcons, gap, gap-place, words-fit, Fine, storeWith, stored, header-length, scenes-length, header-set, wordsOf-length, capacity-read, count-read, cells-few}
+use Rattle.laws.proofs.Growing.{Extends, ext-length}
+use Rattle.keeping.specs.Keeping.{cutList, cutLists, cutBack}
+use Rattle.store.proofs.Places.{place-in}
+use Rattle.store.proofs.InPlace.{zeros-first}
+
+-- ---- one list: a front part a of its cells, and the others b
+
+sized-front : {w : ℕ} (a b : List Cell) → Sized w (a ++ b) → Sized w a
+sized-front [] b s = snil
+sized-front (c ∷ a) b (scons e s) = scons e (sized-front a b s)
+
+sized-back : {w : ℕ} (a b : List Cell) → Sized w (a ++ b) → Sized w b
+sized-back [] b s = s
+sized-back (c ∷ a) b (scons e s) = sized-back a b s
+
+-- zeros over a whole list
+all-zeros : (l : List ℕ) → sets l 0 (replicate (length l) 0) ≡ replicate (length l) 0
+all-zeros l =
+    let z : List ℕ = replicate (length l) 0 in
+    zeros-first (length l) l (omega arith) ∙ ap (λ (r : List ℕ). z ++ r) (drop-length l) ∙ append-nil z
+
+-- zeros over the middle one of three parts, the last having zeros too
+zeros-between : (F G : List ℕ) (m : ℕ) → sets ((F ++ G) ++ replicate m 0) (length F) (replicate (length G) 0) ≡ F ++ replicate (length G + m) 0
+zeros-between F G m =
+    let Z : List ℕ = replicate m 0 in
+    let z : List ℕ = replicate (length G) 0 in
+    let fit : 0 + length z ≤ length G = rw (zero-add (length z), length-replicate {A = ℕ} (length G) 0) (omega arith) in
+    ap₂ (λ (l : List ℕ) (i : ℕ). sets l i z) (append-assoc F G Z) (sym (add-zero (length F)))
+    ∙ sets-right z F (G ++ Z) 0
+    ∙ ap (λ (l : List ℕ). F ++ l) (sets-left z G Z 0 fit ∙ ap (λ (l : List ℕ). l ++ Z) (all-zeros G) ∙ replicate-append-replicate (length G) m 0)
+
+module _ {w : ℕ} (n : ℕ) (cs a b : List Cell) (s : Sized w cs) (e : cs ≡ a ++ b) (fit : length cs * w ≤ n) where
+  sized : Sized w (a ++ b)
+  sized = subst (Sized w) e s
+
+  -- cs are a's and b's
+  both-lengths : length cs ≡ length a + length b
+  both-lengths = ap length e ∙ length-append a b
+
+  padded-cut : padded n a ≡ sets (padded n cs) (length a * w) (replicate (length b * w) 0)
+  unfolding padded
+  padded-cut =
+      let F : List ℕ = flatten a in
+      let G : List ℕ = flatten b in
+      let f : length F ≡ length a * w = flatten-length (sized-front a b sized) in
+      let g : length G ≡ length b * w = flatten-length (sized-back a b sized) in
+      let m : ℕ = n - length (flatten cs) in
+      let words : length cs * w ≡ (length a + length b) * w = ap (λ (c : ℕ). c * w) both-lengths in
+      let left : length G + m ≡ n - length F = omega (arith, flatten-length s) in
+      sym
+      (ap₂ (λ (i j : ℕ). sets (flatten cs ++ replicate m 0) i (replicate j 0)) (sym f) (sym g)
+      ∙ ap (λ (l : List ℕ). sets (l ++ replicate m 0) (length F) (replicate (length G) 0)) (ap flatten e ∙ flatten-append a b)
+      ∙ zeros-between F G m ∙ ap (λ (j : ℕ). F ++ replicate j 0) left)
+
+-- ---- the lists
+
+listWords-cut : {C j : ℕ} {Ks : List (List Cell)} → Lists C j Ks → (m : ℕ) (a b : List Cell) → m < length Ks → getD Ks m [] ≡ a ++ b
+    → listWords C j (set Ks m a) ≡ sets (listWords C j Ks) (gap C j m + cellWords (j + m) * length a) (replicate (cellWords (j + m) * length b) 0)
+unfolding listWords gap
+listWords-cut lnil m a b h e = absurd (not-suc-le-zero h)
+listWords-cut {C} {j} (lcons {cs = cs} {Ks = Ks} r q t) zero a b h e =
+    let w : ℕ = cellWords j in
+    let jw : cellWords (j + 0) ≡ w = ap cellWords (add-zero j) in
+    let P : List ℕ = padded (w * C) cs in
+    let R : List ℕ = listWords C (suc j) Ks in
+    let z : List ℕ = replicate (length b * w) 0 in
+    let fit : length cs * w ≤ w * C = words-fit j (length cs) C q in
+    let long : length P ≡ w * C = padded-length (w * C) r fit in
+    let both : length cs ≡ length a + length b = both-lengths (w * C) cs a b r e fit in
+    let split : (length a + length b) * w ≤ w * C = rw both at fit in
+    let room : length a * w + length z ≤ length P = rw (length-replicate {A = ℕ} (length b * w) 0) (omega arith) in
+    let at : length a * w ≡ 0 + cellWords (j + 0) * length a = rw jw (omega arith) in
+    let words : length b * w ≡ cellWords (j + 0) * length b = rw jw (omega arith) in
+    ap (λ (l : List ℕ). l ++ R) (padded-cut (w * C) cs a b r e fit)
+    ∙ sym (sets-left z P R (length a * w) room)
+    ∙ ap₂ (λ (i k : ℕ). sets (P ++ R) i (replicate k 0)) at words
+listWords-cut {C} {j} (lcons {cs = cs} {Ks = Ks} r q t) (suc m) a b h e =
+    let w : ℕ = cellWords j in
+    let ji : j + suc m ≡ suc j + m = omega arith in
+    let jw : cellWords (j + suc m) ≡ cellWords (suc j + m) = ap cellWords ji in
+    let P : List ℕ = padded (w * C) cs in
+    let R : List ℕ = listWords C (suc j) Ks in
+    let long : length P ≡ w * C = padded-length (w * C) r (words-fit j (length cs) C q) in
+    let i : ℕ = gap C (suc j) m + cellWords (suc j + m) * length a in
+    let z : List ℕ = replicate (cellWords (suc j + m) * length b) 0 in
+    let at : length P + i ≡ w * C + gap C (suc j) m + cellWords (j + suc m) * length a = rw jw (omega (arith, long)) in
+    ap (λ (l : List ℕ). P ++ l) (listWords-cut t m a b (le-of-suc-le-suc h) e)
+    ∙ sym (sets-right z P R i)
+    ∙ ap₂ (λ (n k : ℕ). sets (P ++ R) n (replicate (k * length b) 0)) at (sym jw)
+
+lists-cut : {C j : ℕ} {Ks : List (List Cell)} → Lists C j Ks → (m : ℕ) (a b : List Cell) → getD Ks m [] ≡ a ++ b → Lists C j (set Ks m a)
+lists-cut lnil m a b e = lnil
+lists-cut {C} {j} (lcons {cs = cs} r q t) zero a b e =
+    lcons (sized-front a b (subst (Sized (cellWords j)) e r)) (omega (arith, ap length e, length-append a b)) t
+lists-cut (lcons r q t) (suc m) a b e = lcons r q (lists-cut t m a b e)
+
+-- ---- the whole store
+
+module _ (C : ℕ) (S : List Cell) (Ks : List (List Cell)) (f : Fine C S Ks) (k : ℕ) (h : k < heights) (a b : List Cell) (e : cellsAt Ks k ≡ a ++ b) where
+  pub cut-fine : Fine C S (set Ks k a)
+  cut-fine = record {
+    lists = length-set Ks k a ∙ f .lists;
+    of-scenes = f .of-scenes;
+    few-scenes = f .few-scenes;
+    of-cells = lists-cut (f .of-cells) k a b e;
+  }
+
+  abbrev H : List ℕ
+  H = headerWords (storeWith C S Ks)
+
+  abbrev P : List ℕ
+  P = padded (2 * mostScenes) S
+
+  abbrev L : List ℕ
+  L = listWords C 0 Ks
+
+  abbrev zeros : List ℕ
+  zeros = replicate (cellWords k * length b) 0
+
+  -- the zeros in the list's part, and the count in the header
+  words-cut : wordsOf (storeWith C S (set Ks k a)) ≡ set (sets (wordsOf (storeWith C S Ks)) (cellPlace C k (length a)) zeros) (2 + k) (length a)
+  unfolding wordsOf
+  words-cut =
+      let j : ℕ = gap C 0 k + cellWords k * length a in
+      let ck : cellWords (0 + k) ≡ cellWords k = ap cellWords (zero-add k) in
+      let list : listWords C 0 (set Ks k a) ≡ sets L j zeros =
+      listWords-cut (f .of-cells) k a b (omega (arith, f .lists)) e
+      ∙ ap (λ (w : ℕ). sets L (gap C 0 k + w * length a) (replicate (w * length b) 0)) ck in
+      let at : length H + (length P + j) ≡ cellPlace C k (length a) = omega (arith, header-length C S Ks f, scenes-length C S Ks f, gap-place C k) in
+      ap₂ (λ (x y : List ℕ). x ++ (P ++ y)) (header-set C S Ks f k a (omega (arith, f .lists))) list
+      ∙ sym
+      (ap (λ (i : ℕ). set (sets (H ++ (P ++ L)) i zeros) (2 + k) (length a)) (sym at)
+      ∙ ap (λ (x : List ℕ). set x (2 + k) (length a)) (sets-right zeros H (P ++ L) (length P + j) ∙ ap (λ (x : List ℕ). H ++ x) (sets-right zeros P L j))
+      ∙ set-append-left H (P ++ sets L j zeros) (2 + k) (length a) (omega (arith, header-length C S Ks f)))
+
+  module _ (x : List ℕ) where
+    zeros-fit : cellPlace C k (length a) + length zeros ≤ length (wordsOf (storeWith C S Ks))
+    zeros-fit =
+        let few : length a + length b ≤ C = omega (arith, cells-few C S Ks f k, ap length e, length-append a b) in
+        simp length-replicate (omega (arith, wordsOf-length C S Ks f, place-in C k (length a + length b) h few))
+
+    pub list-cut-stored : cutList k (length a) (stored C S Ks x) ≡ stored C S (set Ks k a) x
+    unfolding cutList
+    list-cut-stored =
+        let W : List ℕ = wordsOf (storeWith C S Ks) in
+        let n : ℕ = length a in
+        let i : ℕ = cellPlace C k n in
+        let left : keptCount (stored C S Ks x) k - n ≡ length b = omega (arith, count-read C S Ks f x k h, ap length e, length-append a b) in
+        ap₂ (λ (D m : ℕ). set (sets (W ++ x) (cellPlace D k n) (replicate (cellWords k * m) 0)) (2 + k) n) (capacity-read C S Ks f x) left
+        ∙ ap (λ (l : List ℕ). set l (2 + k) n) (sets-left zeros W x i zeros-fit)
+        ∙ set-append-left (sets W i zeros) x (2 + k) n (rw (length-sets W i zeros) (omega (arith, wordsOf-length C S Ks f)))
+        ∙ ap (λ (l : List ℕ). l ++ x) (sym words-cut)
+
+-- ---- all lists: each back to the front part that K has of it
+
+unfoldable back : ℕ → List (List Cell) → List (List Cell) → List (List Cell)
+back zero K K′ = K′
+back (suc k) K K′ = set (back k K K′) k (cellsAt K k)
+
+module _ (K K′ : List (List Cell)) where
+  back-length : (m : ℕ) → length (back m K K′) ≡ length K′
+  unfolding back
+  back-length zero = refl
+  back-length (suc k) = length-set (back k K K′) k (cellsAt K k) ∙ back-length k
+
+  back-rest : (m j : ℕ) → m ≤ j → cellsAt (back m K K′) j ≡ cellsAt K′ j
+  unfolding back
+  back-rest zero j h = refl
+  back-rest (suc k) j h = getD-set-other (back k K K′) k j (cellsAt K k) [] (λ e. omega (arith, e)) ∙ back-rest k j (omega arith)
+
+  back-front : (m j : ℕ) → m ≤ length K′ → j < m → cellsAt (back m K K′) j ≡ cellsAt K j
+  unfolding back
+  back-front zero j l h = absurd (not-suc-le-zero h)
+  back-front (suc k) j l h = go (ℕ-discrete j k) (back-front k j (omega arith))
+    where
+      go : Dec (j ≡ k) → (j < k → cellsAt (back k K K′) j ≡ cellsAt K j) → cellsAt (set (back k K K′) k (cellsAt K k)) j ≡ cellsAt K j
+      go (yes e) ih = rw e (getD-set-same (back k K K′) k (cellsAt K k) [] (omega (arith, back-length k)))
+      go (no ne) ih = getD-set-other (back k K K′) k j (cellsAt K k) [] ne ∙ ih (omega (arith, ne))
+
+  back-all : length K ≡ length K′ → back (length K) K K′ ≡ K
+  back-all e = ext-getD [] (back (length K) K K′) K (back-length (length K) ∙ sym e) (λ j h. back-front (length K) j (omega arith) (omega (arith, back-length (length K))))
+
+module _ (C : ℕ) (S : List Cell) (K K′ : List (List Cell)) (f : Fine C S K′) (g : Extends K K′) where
+  back-fine : (m : ℕ) → m ≤ heights → Fine C S (back m K K′)
+  unfolding back
+  back-fine zero h = f
+  back-fine (suc k) h = cut-fine C S (back k K K′) (back-fine k (omega arith)) k h (cellsAt K k) (g .more k) (back-rest K K′ k k (omega arith) ∙ g .is k)
+
+  module _ (tall : length K ≡ heights) (x ns : List ℕ) (counted : (k : ℕ) → k < heights → getD ns k 0 ≡ length (cellsAt K k)) where
+    lists-cut-stored : (m : ℕ) → m ≤ heights → cutLists m ns (stored C S K′ x) ≡ stored C S (back m K K′) x
+    unfolding cutLists back
+    lists-cut-stored zero h = refl
+    lists-cut-stored (suc k) h =
+        ap₂ (cutList k) (counted k h) (lists-cut-stored k (omega arith))
+        ∙ list-cut-stored C S (back k K K′) (back-fine k (omega arith)) k h (cellsAt K k) (g .more k) (back-rest K K′ k k (omega arith) ∙ g .is k) x
+
+    -- the lists are those of K again
+    pub cut-stored : cutBack ns (stored C S K′ x) ≡ stored C S K x
+    unfolding cutBack
+    cut-stored =
+        lists-cut-stored heights (omega arith)
+        ∙ ap (λ (Ks : List (List Cell)). stored C S Ks x) (ap (λ (m : ℕ). back m K K′) (sym tall) ∙ back-all K K′ (tall ∙ sym (f .lists)))
+
+    -- which cutting back asks for: no list has fewer cells than that
+    pub cut-counts : (k : ℕ) → k < heights → getD ns k 0 ≤ keptCount (stored C S K′ x) k
+    cut-counts k h = omega (arith, counted k h, count-read C S K′ f x k h, ext-length g k)
+
+-- the counts that a store has
+pub counts-taken : (C : ℕ) (S : List Cell) (K : List (List Cell)) → Fine C S K → (x : List ℕ) (k : ℕ) → k < heights
+    → getD (tabulate 0 heights (keptCount (stored C S K x))) k 0 ≡ length (cellsAt K k)
+counts-taken C S K f x k h =
+    let ws : List ℕ = stored C S K x in
+    getD-tabulate heights 0 k (keptCount ws) 0 h ∙ ap (keptCount ws) (zero-add k) ∙ count-read C S K f x k h

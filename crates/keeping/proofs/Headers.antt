@@ -1,0 +1,155 @@
+-- The header after a cell more, a scene more, and after lists are cut back: it is in order as before, and only the count written has changed.
+-- By words stored in the header or past it, and for all lists by induction on their number. Assumes nothing.
+use mathlib.Core.Path.{_≡_, refl, sym, subst, ap, _∙_}
+use mathlib.Core.List.{List, [], _∷_}
+use Prim.Native.Nat.{ℕ, zero, suc, _+_, _-_, _*_, _≤_, _<_}
+use native.Mathlib.Decide.{ℕ-discrete}
+use native.Mathlib.Omega.{arith}
+use lib.Dec.{T, eqb}
+use lib.ListN.{length, take, drop, getD, set, replicate, length-set}
+use lib.Seq.{sets, length-sets, getD-set-same, getD-set-other, drop-set-lt, drop-set-add, take-set-le}
+use Rattle.paper.specs.Numbers.{allIn}
+use Rattle.paper.specs.Store.{Cell, mostScenes, heights, zerosPlace, capacityOf, scenesHeld, keptCount, scenePlace, cellWords, cellPlace, blank, capacityOk, headerOk}
+use Rattle.laws.proofs.Undamaged.{Headed, headed, headed-ok}
+use Rattle.keeping.specs.Keeping.{keepIn, holdIn, cutList, cutLists, cutBack}
+
+-- ---- words stored in the header, or past it
+
+zeros-low : (l : List ℕ) (i v : ℕ) → i < 17 → take 15 (drop 17 (set l i v)) ≡ take 15 (drop 17 l)
+zeros-low l i v h = ap (take 15) (drop-set-lt 17 l i v h)
+
+zeros-high : (l : List ℕ) (i v : ℕ) → 32 ≤ i → take 15 (drop 17 (set l i v)) ≡ take 15 (drop 17 l)
+zeros-high l i v h =
+    let j : ℕ = i - 17 in
+    let e : i ≡ 17 + j = omega arith in
+    ap (λ (n : ℕ). take 15 (drop 17 (set l n v))) e ∙ ap (take 15) (drop-set-add 17 l j v) ∙ take-set-le 15 (drop 17 l) j v (omega arith)
+
+zeros-past : (c l : List ℕ) (a : ℕ) → 32 ≤ a → take 15 (drop 17 (sets l a c)) ≡ take 15 (drop 17 l)
+zeros-past [] l a h = refl
+zeros-past (v ∷ c) l a h = zeros-past c (set l a v) (suc a) (omega arith) ∙ zeros-high l a v h
+
+word-past : (c l : List ℕ) (a j : ℕ) → j < a → getD (sets l a c) j 0 ≡ getD l j 0
+word-past [] l a j h = refl
+word-past (v ∷ c) l a j h = word-past c (set l a v) (suc a) j (omega arith) ∙ getD-set-other l a j v 0 (λ e. omega (arith, e))
+
+-- ---- one count of the header changed
+
+-- of words 0 to 31, word i is v and the others are as they were
+pub record Changed (ws vs : List ℕ) (i v : ℕ) : Type 0 where
+  pub same-length : length vs ≡ length ws
+  pub here : getD vs i 0 ≡ v
+  pub others : (j : ℕ) → j < 32 → (j ≡ i → ⊥) → getD vs j 0 ≡ getD ws j 0
+  pub zeros : blank vs zerosPlace 15 ≡ blank ws zerosPlace 15
+
+count-first : (ws c : List ℕ) (a i v : ℕ) → 32 ≤ a → i < 17 → i < length ws → Changed ws (sets (set ws i v) a c) i v
+unfolding blank
+count-first ws c a i v past low inside = record {
+  same-length = length-sets (set ws i v) a c ∙ length-set ws i v;
+  here = word-past c (set ws i v) a i (omega arith) ∙ getD-set-same ws i v 0 inside;
+  others = λ j h ne. word-past c (set ws i v) a j (omega arith) ∙ getD-set-other ws i j v 0 ne;
+  zeros = ap (allIn (eqb 0)) (zeros-past c (set ws i v) a past ∙ zeros-low ws i v low);
+}
+
+count-last : (ws c : List ℕ) (a i v : ℕ) → 32 ≤ a → i < 17 → i < length ws → Changed ws (set (sets ws a c) i v) i v
+unfolding blank
+count-last ws c a i v past low inside = record {
+  same-length = length-set (sets ws a c) i v ∙ length-sets ws a c;
+  here = getD-set-same (sets ws a c) i v 0 (rw (length-sets ws a c) inside);
+  others = λ j h ne. getD-set-other (sets ws a c) i j v 0 ne ∙ word-past c ws a j (omega arith);
+  zeros = ap (allIn (eqb 0)) (zeros-low (sets ws a c) i v low ∙ zeros-past c ws a past);
+}
+
+module _ (ws vs : List ℕ) (t : T (headerOk ws)) where
+  abbrev facts : Headed ws
+  facts = headed ws t
+
+  -- a list's count
+  pub count-headed : (k v : ℕ) → Changed ws vs (2 + k) v → k < heights → v ≤ capacityOf ws → T (headerOk vs)
+  count-headed k v d h l =
+      let C : capacityOf vs ≡ capacityOf ws = d .others 0 (omega arith) (λ e. omega (arith, e)) in
+      headed-ok vs (record {
+        long = rw (C, d .same-length) (facts .long);
+        capacity = subst (λ (n : ℕ). T (capacityOk n)) (sym C) (facts .capacity);
+        held = rw (d .others 1 (omega arith) (λ e. omega (arith, e))) (facts .held);
+        few = λ j g. few j g C (ℕ-discrete j k);
+        header-zeros = subst T (sym (d .zeros)) (facts .header-zeros);
+      })
+    where
+      few : (j : ℕ) → j < heights → capacityOf vs ≡ capacityOf ws → Dec (j ≡ k) → keptCount vs j ≤ capacityOf vs
+      few j g C (yes e) = omega (arith, C, ap (λ (n : ℕ). keptCount vs n) e, d .here)
+      few j g C (no ne) = omega (arith, C, d .others (2 + j) (omega arith) (λ e. ne (omega (arith, e))), facts .few j g)
+
+  -- the count of scenes
+  pub scenes-headed : (v : ℕ) → Changed ws vs 1 v → v ≤ mostScenes → T (headerOk vs)
+  scenes-headed v d l =
+      let C : capacityOf vs ≡ capacityOf ws = d .others 0 (omega arith) (λ e. omega (arith, e)) in
+      headed-ok vs (record {
+        long = rw (C, d .same-length) (facts .long);
+        capacity = subst (λ (n : ℕ). T (capacityOk n)) (sym C) (facts .capacity);
+        held = rw (d .here) l;
+        few = λ j g. omega (arith, C, d .others (2 + j) (omega arith) (λ e. omega (arith, e)), facts .few j g);
+        header-zeros = subst T (sym (d .zeros)) (facts .header-zeros);
+      })
+
+-- ---- a cell more, a scene more, a list cut back
+
+past-header : (C k n : ℕ) → 32 ≤ cellPlace C k n
+past-header C zero n = omega arith
+past-header C (suc k) n = omega arith
+
+module _ (ws : List ℕ) (t : T (headerOk ws)) where
+  long-header : 32 ≤ length ws
+  long-header = omega (arith, headed ws t .long)
+
+  module _ (k : ℕ) (h : k < heights) where
+    pub keep-changed : (c : Cell) → Changed ws (keepIn k c ws) (2 + k) (suc (keptCount ws k))
+    unfolding keepIn
+    keep-changed c =
+        count-first ws c (cellPlace (capacityOf ws) k (keptCount ws k)) (2 + k) (suc (keptCount ws k)) (past-header (capacityOf ws) k (keptCount ws k))
+        (omega arith) (omega (arith, long-header))
+
+    pub cut-changed : (n : ℕ) → Changed ws (cutList k n ws) (2 + k) n
+    unfolding cutList
+    cut-changed n =
+        count-last ws (replicate (cellWords k * (keptCount ws k - n)) 0) (cellPlace (capacityOf ws) k n) (2 + k) n (past-header (capacityOf ws) k n)
+        (omega arith) (omega (arith, long-header))
+
+    pub keep-headed : (c : Cell) → keptCount ws k < capacityOf ws → T (headerOk (keepIn k c ws))
+    keep-headed c l = count-headed ws (keepIn k c ws) t k (suc (keptCount ws k)) (keep-changed c) h l
+
+    pub cut-headed : (n : ℕ) → n ≤ keptCount ws k → T (headerOk (cutList k n ws))
+    cut-headed n l = count-headed ws (cutList k n ws) t k n (cut-changed n) h (omega (arith, headed ws t .few k h))
+
+  pub hold-changed : (c : Cell) → Changed ws (holdIn c ws) 1 (suc (scenesHeld ws))
+  unfolding holdIn
+  hold-changed c = count-first ws c (scenePlace (scenesHeld ws)) 1 (suc (scenesHeld ws)) (omega arith) (omega arith) (omega (arith, long-header))
+
+  pub hold-headed : (c : Cell) → scenesHeld ws < mostScenes → T (headerOk (holdIn c ws))
+  hold-headed c l = scenes-headed ws (holdIn c ws) t (suc (scenesHeld ws)) (hold-changed c) l
+
+-- ---- the first m lists cut back
+
+-- the header is in order, and the counts of the other lists are as they were
+pub record CutSo (m : ℕ) (ws vs : List ℕ) : Type 0 where
+  pub in-order : T (headerOk vs)
+  pub same-length : length vs ≡ length ws
+  pub rest : (j : ℕ) → m ≤ j → j < heights → keptCount vs j ≡ keptCount ws j
+
+module _ (ns ws : List ℕ) (t : T (headerOk ws)) (l : (k : ℕ) → k < heights → getD ns k 0 ≤ keptCount ws k) where
+  pub lists-cut-so : (m : ℕ) → m ≤ heights → CutSo m ws (cutLists m ns ws)
+  unfolding cutLists
+  lists-cut-so zero h = record { in-order = t; same-length = refl; rest = λ j g s. refl }
+  lists-cut-so (suc k) h =
+      let vs : List ℕ = cutLists k ns ws in
+      let n : ℕ = getD ns k 0 in
+      let s : CutSo k ws vs = lists-cut-so k (omega arith) in
+      let d : Changed vs (cutList k n vs) (2 + k) n = cut-changed vs (s .in-order) k h n in
+      record {
+        in-order = cut-headed vs (s .in-order) k h n (omega (arith, l k h, s .rest k (omega arith) h));
+        same-length = d .same-length ∙ s .same-length;
+        rest = λ j g u. d .others (2 + j) (omega arith) (λ e. omega (arith, e)) ∙ s .rest j (omega arith) u;
+      }
+
+  pub cut-back-headed : T (headerOk (cutBack ns ws))
+  unfolding cutBack
+  cut-back-headed = lists-cut-so heights (omega arith) .in-order

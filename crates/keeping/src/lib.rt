@@ -1,0 +1,125 @@
+// Writing: one more cell, one more scene, and the lists cut back to counts taken before.
+ghost use mathlib.Core.Path.{_≡_};
+ghost use mathlib.Core.List.{[], _∷_};
+ghost use Prim.Native.Nat.{ℕ, _+_, _≤_, _<_};
+ghost use lib.Dec.{T};
+ghost use lib.ListN.{length, getD, set};
+ghost use lib.Seq.{sets};
+ghost use Rattle.paper.specs.Numbers.{tabulate};
+ghost use Rattle.paper.specs.Store.{mostScenes, heights, capacityOf, scenesHeld, keptCount, headerOk};
+ghost use Rattle.paper.specs.Match.{leafCell};
+ghost use Rattle.keeping.specs.Keeping.{keepIn, holdIn, cutList, cutBack};
+use store::CELL_WORDS;
+use store::FIRST_COUNT;
+use store::HEIGHTS;
+use store::HIGH_WORD;
+use store::capacity;
+use store::cell_place;
+use store::kept_count;
+use store::put_zeros;
+use store::scene_place;
+use store::scenes_held;
+
+// The place of the count of scenes.
+const SCENES_HELD: usize = 1;
+
+// Sets list k's count.
+fn set_count(store: &mut [u32], k: u32, count: u32)
+    requires { ⌜ k < heights ⌝ }
+    requires { ⌜ 17 ≤ length (now store) ⌝ }
+    ensures { λ _. ⌜ now (store .exit) ≡ set (now (store .entry)) (2 + k) count ⌝ }
+{
+    store[(FIRST_COUNT + k) as usize] = count;
+}
+
+// One more leaf, its high word first.
+pub fn keep_leaf(store: &mut [u32], leaf: u64)
+    requires { ⌜ T (headerOk (now store)) ⌝ }
+    requires { ⌜ keptCount (now store) 0 < capacityOf (now store) ⌝ }
+    ensures { λ _. ⌜ now (store .exit) ≡ keepIn 0 (leafCell leaf) (now (store .entry)) ⌝ }
+{
+    let count = kept_count(store, 0);
+    let at = cell_place(capacity(store), 0, count);
+    set_count(store, 0, count + 1);
+    store[at] = (leaf / HIGH_WORD) as u32;
+    store[at + 1] = (leaf % HIGH_WORD) as u32;
+}
+
+// Eight words in place of those from `at` on.
+fn put_cell(store: &mut [u32], at: usize, cell: [u32; 8])
+    requires { ⌜ at + 8 ≤ length (now store) ⌝ }
+    ensures { λ _. ⌜ now (store .exit) ≡ sets (now (store .entry)) at cell ⌝ }
+{
+    let mut i = 0;
+    while i < CELL_WORDS {
+        store[at + i] = cell[i];
+        i += 1;
+    }
+}
+
+// One more cell in list k, k not 0.
+pub fn keep_cell(store: &mut [u32], k: u32, cell: [u32; 8])
+    requires { ⌜ T (headerOk (now store)) ⌝ }
+    requires { ⌜ (1 ≤ k) × (k < heights) ⌝ }
+    requires { ⌜ keptCount (now store) k < capacityOf (now store) ⌝ }
+    ensures { λ _. ⌜ now (store .exit) ≡ keepIn k cell (now (store .entry)) ⌝ }
+{
+    let count = kept_count(store, k);
+    let at = cell_place(capacity(store), k, count);
+    set_count(store, k, count + 1);
+    put_cell(store, at, cell);
+}
+
+// One more scene.
+pub fn hold_scene(store: &mut [u32], depth: u32, root: u32)
+    requires { ⌜ T (headerOk (now store)) ⌝ }
+    requires { ⌜ scenesHeld (now store) < mostScenes ⌝ }
+    ensures { λ _. ⌜ now (store .exit) ≡ holdIn (depth ∷ root ∷ []) (now (store .entry)) ⌝ }
+{
+    let held = scenes_held(store);
+    let at = scene_place(held);
+    store[SCENES_HELD] = held + 1;
+    store[at] = depth;
+    store[at + 1] = root;
+}
+
+// How many cells each list keeps.
+pub fn counts(store: &[u32]) -> [u32; 15]
+    requires { ⌜ T (headerOk (now store)) ⌝ }
+    ensures { λ r. ⌜ r ≡ tabulate 0 heights (keptCount (now (store .entry))) ⌝ }
+{
+    let mut all = [0u32; 15];
+    let mut k = 0u32;
+    while k < HEIGHTS {
+        all[k as usize] = kept_count(store, k);
+        k += 1;
+    }
+    all
+}
+
+// List k back to its first `count` cells: only the words of the others, and the count, are written.
+fn cut_list(store: &mut [u32], k: u32, count: u32)
+    requires { ⌜ T (headerOk (now store)) ⌝ }
+    requires { ⌜ k < heights ⌝ }
+    requires { ⌜ count ≤ keptCount (now store) k ⌝ }
+    ensures { λ _. ⌜ now (store .exit) ≡ cutList k count (now (store .entry)) ⌝ }
+{
+    let units = capacity(store);
+    let end = cell_place(units, k, kept_count(store, k));
+    let at = cell_place(units, k, count);
+    put_zeros(store, at, end - at);
+    set_count(store, k, count);
+}
+
+// Each list back to so many cells as it kept when `counts` was taken.
+pub fn cut_back(store: &mut [u32], counts: [u32; 15])
+    requires { ⌜ T (headerOk (now store)) ⌝ }
+    requires { ⌜ ((k : ℕ) → k < heights → getD counts k 0 ≤ keptCount (now store) k) ⌝ }
+    ensures { λ _. ⌜ now (store .exit) ≡ cutBack counts (now (store .entry)) ⌝ }
+{
+    let mut k = 0u32;
+    while k < HEIGHTS {
+        cut_list(store, k, counts[k as usize]);
+        k += 1;
+    }
+}

@@ -1,0 +1,3 @@
+-- the scratch, and the order in it
+pub mod Scratch
+pub mod OrderParts

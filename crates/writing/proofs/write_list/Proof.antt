@@ -1,0 +1,154 @@
+-- `writing::write_list` meets its contract. The invariant: the records from the i-th on are left to write. Assumes nothing.
+use mathlib.Core.Path.{_≡_, sym, ap, subst, _∙_}
+use mathlib.Core.List.{List, _++_, map}
+use Prim.Native.Nat.{ℕ, suc, _+_, _-_, _≤_, _<_}
+use native.Mathlib.Numerals.{add-one}
+use native.Mathlib.Omega.{arith}
+use lib.ListN.{length, getD, drop}
+use borrow.Author.Needs.{needs}
+use Rattle.paper.specs.Numbers.{flatten}
+use Rattle.paper.specs.Store.{capacityOf, keptCount, keptOf}
+use Rattle.laws.proofs.StoreFacts.{store-header}
+use Rattle.order.specs.Scratch.{orderPlace}
+use Rattle.placing.specs.Placing.{orderIn}
+use Rattle.writing.specs.Writing.{recordIn, listIn}
+use Rattle.placing.proofs.Bounds.{order-room, order-at, order-length}
+use Rattle.writing.proofs.Behind.{Going, going-first, going-room, going-on, going-none, parts-from, parts-none}
+use Rattle.writing.proofs.write_list.Statement.{statement}
+use Rattle.writing.proofs.write_list.Tie as tie
+
+abbrev Inv-loop : tie.InvT-loop
+Inv-loop store k n scratch out₀ at c next₀ i₀ out next i =
+    (i ≤ n) × Going (flatten (map (recordIn (keptOf store) (capacityOf store) k scratch) (drop i (orderIn (capacityOf store) k n scratch)))) next out
+    (flatten (map (recordIn (keptOf store) (capacityOf store) k scratch) (orderIn (capacityOf store) k n scratch))) at out₀
+
+abbrev μ-loop : tie.MeasureT-loop
+μ-loop store k n scratch out₀ at c next₀ i₀ out next i = n - i
+
+-- the order, a record, and those from the i-th on
+abbrev C : tie.Start Inv-loop μ-loop → ℕ
+C c = capacityOf (c .args .store .now)
+
+abbrev order : tie.Start Inv-loop μ-loop → List ℕ
+order c = orderIn (C c) (c .args .k) (c .args .n) (c .args .scratch .now)
+
+abbrev one : tie.Start Inv-loop μ-loop → ℕ → List ℕ
+one c = recordIn (keptOf (c .args .store .now)) (C c) (c .args .k) (c .args .scratch .now)
+
+abbrev from : tie.Start Inv-loop μ-loop → ℕ → List ℕ
+from c i = flatten (map (one c) (drop i (order c)))
+
+room : (c : tie.Start Inv-loop μ-loop) → c .args .at + length (from c 0) ≤ length (c .args .out .now)
+unfolding listIn
+room c = c .pre .1 .1 .1
+
+capacity-requires : tie.Need-capacity-requires Inv-loop μ-loop
+capacity-requires c κs = let s = c .before .before .before in store-header (s .args .store .now) (s .pre .0)
+
+loop-holds : tie.Need-loop-holds Inv-loop μ-loop
+loop-holds c = let s = c .before .before .before .before in (omega arith, going-first (from s 0) (s .args .at) (s .args .out .now) (room s))
+
+order-at-requires : tie.Need-order-at-requires Inv-loop μ-loop
+order-at-requires c κs =
+    let p = c .before .before in
+    let s = p .before .before .before .before in
+    (omega (arith, p .capacity .ensures, s .pre .1 .0 .most), s .pre .1 .0 .list, omega (arith, p .capacity .ensures, s .pre .1 .1 .0 .few, c .loop-test .taken))
+
+-- the cell that is read is the i-th of the order, and kept
+abbrev start : tie.After-order-at Inv-loop μ-loop → tie.Start Inv-loop μ-loop
+start c = c .before .before .before .before .before .before .before
+
+there : (c : tie.After-order-at Inv-loop μ-loop) → c .order-at .result ≡ orderPlace (C (start c)) (start c .args .k) (c .before .before .loop .i)
+there c = c .order-at .ensures ∙ ap (λ (x : ℕ). orderPlace x (start c .args .k) (c .before .before .loop .i)) (c .before .before .before .capacity .ensures)
+
+inside : (c : tie.After-order-at Inv-loop μ-loop) → c .order-at .result < length (start c .args .scratch .now)
+inside c =
+    let s = start c in
+    let a = s .args in
+    let turn : c .before .before .loop .i < C s = omega (arith, s .pre .1 .1 .0 .few, c .before .loop-test .taken) in
+    omega (arith, there c, order-room (C s) (a .k) (a .scratch .now) (s .pre .1 .0) (c .before .before .loop .i) turn)
+
+abbrev cell : tie.After-order-at Inv-loop μ-loop → ℕ
+cell c = getD (start c .args .scratch .now) (c .order-at .result) 0
+
+told : (c : tie.After-order-at Inv-loop μ-loop) → cell c ≡ getD (order (start c)) (c .before .before .loop .i) 0
+told c =
+    let a = start c .args in
+    ap (λ (x : ℕ). getD (a .scratch .now) x 0) (there c) ∙ sym (order-at (C (start c)) (a .k) (a .n) (a .scratch .now) (c .before .before .loop .i) (c .before .loop-test .taken))
+
+is-kept : (c : tie.After-order-at Inv-loop μ-loop) → cell c < keptCount (start c .args .store .now) (start c .args .k)
+is-kept c =
+    let s = start c in
+    let a = s .args in
+    subst (λ (x : ℕ). getD (a .scratch .now) x 0 < keptCount (a .store .now) (a .k)) (sym (there c)) (s .pre .1 .1 .0 .kept (c .before .before .loop .i) (c .before .loop-test .taken))
+
+mul-write-record : tie.Need-mul-write-record Inv-loop μ-loop
+mul-write-record c = omega (arith, inside c, start c .good .1 .1 .1 .0)
+
+shared-slice-read-write-record : tie.Need-shared-slice-read-write-record Inv-loop μ-loop
+shared-slice-read-write-record c = omega (arith, inside (c .before))
+
+-- its record, and those behind it
+next : (c : tie.After-order-at Inv-loop μ-loop) → (let s = start c in let i = c .before .before .loop .i in from s i ≡ one s (cell c) ++ from s (suc i))
+next c =
+    let s = start c in
+    let i = c .before .before .loop .i in
+    parts-from (one s) (order s) i 0 (rw (order-length (C s) (s .args .k) (s .args .n) (s .args .scratch .now)) (c .before .loop-test .taken))
+    ∙ ap (λ (q : ℕ). one s q ++ from s (suc i)) (sym (told c))
+
+write-record-requires : tie.Need-write-record-requires Inv-loop μ-loop
+write-record-requires c κs =
+    let o = c .before .before in
+    let l = o .before .before .loop in
+    let s = start o in (
+      s .pre .0,
+      (
+        s .pre .1 .0,
+        (
+          is-kept o,
+          going-room (one s (cell o)) (from s (suc (l .i))) (from s (l .i)) (l .next) (l .out) (from s 0) (s .args .at) (s .args .out .now) (next o) (l .inv .1),
+        ),
+      ),
+    )
+
+loop-again : tie.Need-loop-again Inv-loop μ-loop
+loop-again c =
+    let w = c .before .before in
+    let o = w .before .before .before in
+    let l = o .before .before .loop in
+    let s = start o in
+    let a = s .args in
+    let n = w .write-record .result in
+    let out = w .write-record .last .1 .1 .1 .1 .0 in
+    let g = going-on (from s 0) (a .at) (a .out .now) (one s (cell o)) (l .next) (l .out) n out (w .write-record .ensures) (from s (suc (l .i))) (from s (l .i)) (next o) (l .inv .1) in
+    (omega (arith, o .before .loop-test .taken), subst (λ (j : ℕ). Going (from s j) n out (from s 0) (a .at) (a .out .now)) (sym (add-one (l .i))) g)
+
+same-length : tie.Need-same-length Inv-loop μ-loop
+same-length c = c .before .loop .inv .1 .long
+
+returns : tie.Need-returns Inv-loop μ-loop
+unfolding listIn
+returns c =
+    let l = c .before .loop in
+    let s = c .before .before .before .before .before .before in
+    let a = s .args in
+    let end : l .i ≡ a .n = omega (arith, l .inv .0, c .loop-test .left) in
+    going-none (from s 0) (a .at) (a .out .now) (l .next) (l .out) (from s (l .i)) (parts-none (one s) (order s) (l .i) (end ∙ sym (order-length (C s) (a .k) (a .n) (a .scratch .now)))) (l .inv .1)
+
+pub write-list-spec : {M : Type 1} → statement M
+write-list-spec =
+    tie.close
+    (tie.spec
+    Inv-loop
+    μ-loop
+    capacity-requires
+    loop-holds
+    order-at-requires
+    mul-write-record
+    shared-slice-read-write-record
+    write-record-requires
+    (λ c. search needs)
+    (λ c. search needs)
+    loop-again
+    same-length
+    returns)
