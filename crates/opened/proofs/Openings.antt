@@ -1,13 +1,13 @@
 -- The ways through an opening and a question on bytes held beside numbers, in the code's words: the refusals 3, 4, 5, 6 in their order, what an
 -- opening reads and holds, and when bytes don't open to numbers. By the value of each test in turn. Assumes nothing.
 use mathlib.Core.Path.{_≡_, refl, sym, _∙_, ap, ap₂}
-use mathlib.Core.Bool.{Bool, true, false, not, cond, _&&_}
+use mathlib.Core.Bool.{Bool, true, false, not, cond, _&&_, _||_}
 use mathlib.Core.List.{List, [], _∷_, map}
 use Prim.Native.Nat.{ℕ, _+_, _<_, _≤_}
 use native.Mathlib.Nat.{suc-ne-zero}
 use native.Mathlib.Numerals.{add-one}
 use borrow.Author.Tests.{eq-eqb, ne-eqb, eqb-true, eqb-false}
-use lib.Dec.{T, eqb, leb}
+use lib.Dec.{T, eqb, eqb→eq, leb}
 use lib.ListN.{length, drop, getD, replicate, length-replicate, drop-of-length-le}
 use lib.Seq.{drop-cons}
 use Rattle.paper.specs.Numbers.{sameList, tabulate}
@@ -21,9 +21,9 @@ use Rattle.paper.specs.Calls.{openOrder, openOutcome, opensTo, packedVoxelOrder
 use Rattle.paper.specs.Runs.{Bytes}
 use Rattle.paper.specs.declared.Refusal.the-variants.{BrokenRules}
 use Rattle.paper.specs.declared.Found.the-variants.{Refused}
-use Rattle.laws.proofs.Tests.{T-true}
+use Rattle.laws.proofs.Tests.{T-true, true-T, and-left}
 use Rattle.laws.proofs.Lists.{length-tabulate}
-use Rattle.laws.proofs.Refusals.{settled-accepted, settled-refused}
+use Rattle.laws.proofs.Refusals.{settled-accepted, settled-refused, settled-number}
 use Rattle.packed.specs.Header.{Opens}
 use Rattle.packed.proofs.Ways.{tested}
 use Rattle.opened.specs.declared.Header.{Header}
@@ -31,15 +31,34 @@ use Rattle.opened.specs.Opens.{toldBy, openTold, partOf}
 
 -- ---- two lists, from place k on
 
--- nothing before place k differs
-pub same-next : (a b : List ℕ) (k : ℕ) → k < length a → k < length b → getD a k 0 ≡ getD b k 0
+-- place k decides, or those after it
+same-next : (a b : List ℕ) (k : ℕ) → k < length a → k < length b → getD a k 0 ≡ getD b k 0
     → sameList (drop k a) (drop k b) ≡ sameList (drop (k + 1) a) (drop (k + 1) b)
 unfolding sameList
 same-next a b k ha hb e = rw (drop-cons a k 0 ha, drop-cons b k 0 hb, eq-eqb (getD a k 0) (getD b k 0) e, add-one k) refl
 
-pub same-not : (a b : List ℕ) (k : ℕ) → k < length a → k < length b → (getD a k 0 ≡ getD b k 0 → ⊥) → sameList (drop k a) (drop k b) ≡ false
+same-not : (a b : List ℕ) (k : ℕ) → k < length a → k < length b → (getD a k 0 ≡ getD b k 0 → ⊥) → sameList (drop k a) (drop k b) ≡ false
 unfolding sameList
 same-not a b k ha hb n = rw (drop-cons a k 0 ha, drop-cons b k 0 hb, ne-eqb (getD a k 0) (getD b k 0) n) refl
+
+same-first : (a b : List ℕ) (k : ℕ) → k < length a → k < length b
+    → sameList (drop k a) (drop k b) ≡ (eqb (getD a k 0) (getD b k 0) && sameList (drop (k + 1) a) (drop (k + 1) b))
+same-first a b k ha hb = go (eqb (getD a k 0) (getD b k 0)) refl
+  where
+    go : (t : Bool) → eqb (getD a k 0) (getD b k 0) ≡ t → sameList (drop k a) (drop k b) ≡ (t && sameList (drop (k + 1) a) (drop (k + 1) b))
+    go true e = same-next a b k ha hb (eqb-true (getD a k 0) (getD b k 0) e)
+    go false e = same-not a b k ha hb (eqb-false (getD a k 0) (getD b k 0) e)
+
+-- what was gathered before place k, with that place, and what the places after it say
+pub same-gathered : (a b : List ℕ) (k : ℕ) (A : Bool) {B : Bool} → k < length a → k < length b → B ≡ (A || not (sameList (drop k a) (drop k b)))
+    → B ≡ (A || not (eqb (getD a k 0) (getD b k 0)) || not (sameList (drop (k + 1) a) (drop (k + 1) b)))
+same-gathered a b k A ha hb g =
+    g ∙ ap (λ (t : Bool). A || not t) (same-first a b k ha hb) ∙ regroup A (eqb (getD a k 0) (getD b k 0)) (sameList (drop (k + 1) a) (drop (k + 1) b))
+  where
+    regroup : (x y z : Bool) → (x || not (y && z)) ≡ (x || not y || not z)
+    regroup true y z = refl
+    regroup false true z = refl
+    regroup false false z = refl
 
 pub same-end : (a b : List ℕ) (k : ℕ) → length a ≤ k → length b ≤ k → sameList (drop k a) (drop k b) ≡ true
 unfolding sameList
@@ -76,18 +95,30 @@ module _ (file : List ℕ) where
 abbrev by-tests : Bool → Bool → Bool → Bool → ℕ
 by-tests a b c d = firstOf (when (not a) 3 ∷ when (not b) 4 ∷ when (not c) 5 ∷ when (not d) 6 ∷ [])
 
-four-pass : (a b c d : Bool) → by-tests a b c d ≡ 0 → T b × T c × T d
+four-pass : (a b c d : Bool) → by-tests a b c d ≡ 0 → T a × T b × T c × T d
 unfolding firstOf
 four-pass false b c d e = absurd (suc-ne-zero 2 e)
 four-pass true false c d e = absurd (suc-ne-zero 3 e)
 four-pass true true false d e = absurd (suc-ne-zero 4 e)
 four-pass true true true false e = absurd (suc-ne-zero 5 e)
-four-pass true true true true e = (tt, tt, tt)
+four-pass true true true true e = (tt, tt, tt, tt)
 
 pub opens : (file : List ℕ) → Bytes file → firstOf (openOrder file) ≡ 0 → Opens file
 opens file bytes e =
     let p = four-pass (frontOk packedFront file) (lengthOk packedHead file) (depthOk (fileDepth file)) (headOk file) e in
-    record { tested = tested file bytes (T-true {b = lengthOk packedHead file} (p .0)) (T-true {b = depthOk (fileDepth file)} (p .1)); head = p .2 }
+    record { tested = tested file bytes (T-true {b = lengthOk packedHead file} (p .1)) (T-true {b = depthOk (fileDepth file)} (p .2)); head = p .3 }
+
+pub opens-front : (file : List ℕ) → firstOf (openOrder file) ≡ 0 → (frontOk packedFront file ≡ true) × (lengthOk packedHead file ≡ true)
+opens-front file e =
+    let p = four-pass (frontOk packedFront file) (lengthOk packedHead file) (depthOk (fileDepth file)) (headOk file) e in
+    (T-true {b = frontOk packedFront file} (p .0), T-true {b = lengthOk packedHead file} (p .1))
+
+-- bytes that open to numbers are not refused
+pub opens-number : (file starts : List ℕ) (D : ℕ) → opensTo file D starts ≡ true → firstOf (openOrder file) ≡ 0
+unfolding opensTo openOutcome
+opens-number file starts D e =
+    let n : T (eqb (openOutcome file .number) 0) = and-left (eqb (openOutcome file .number) 0) (sameList (openOutcome file .values) (D ∷ starts)) (true-T e) in
+    sym (settled-number (firstOf (openOrder file)) (fileDepth file ∷ startsOf file) (file ∷ []) ([] ∷ [])) ∙ eqb→eq (openOutcome file .number) 0 n
 
 -- ---- what an opening reads and holds
 

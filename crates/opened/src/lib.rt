@@ -87,14 +87,13 @@ pub fn part<'a>(file: &'a [u8], number: u32) -> &'a [u8]
 fn differ(a: [u32; 15], b: [u32; 15]) -> bool
     ensures { λ r. ⌜ r ≡ not (sameList a b) ⌝ }
 {
+    let mut found = false;
     let mut k = 0usize;
     while k < 15 {
-        if a[k] != b[k] {
-            return true;
-        }
+        found = found | (a[k] != b[k]);
         k += 1;
     }
-    false
+    found
 }
 
 // Whether bytes don't open to these numbers.
@@ -119,7 +118,7 @@ pub fn ask_bytes(bytes: &[u8], depth: u32, starts: [u32; 15], x: u32, y: u32, z:
     if opens_bad(bytes, depth, starts) {
         return Found::Refused(Refusal::BrokenRules);
     }
-    packed::packed_voxel(bytes, x, y, z)
+    packed::voxel_in(bytes, x, y, z)
 }
 
 // ---- over the structs that hold a slice

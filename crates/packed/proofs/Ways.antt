@@ -17,14 +17,12 @@ use Rattle.paper.specs.Order.{when, firstOf, settled}
 use Rattle.paper.specs.Calls.{packedOutside, packedBroken, packedVoxelOutcome}
 use Rattle.paper.specs.Runs.{Bytes}
 use Rattle.paper.specs.declared.Refusal.the-variants.{BadVersion, BadLength, BadDepth, BrokenRules, Outside}
-use Rattle.paper.specs.declared.Found.{Found}
 use Rattle.paper.specs.declared.Found.the-variants.{Refused}
 use Rattle.laws.proofs.Tests.{true-T, and-left, and-right}
 use Rattle.laws.proofs.Bytes.{bytes-take, bytes-drop, be-lt}
 use Rattle.packed.specs.declared.Reached.{Reached}
-use Rattle.packed.specs.declared.Reached.the-variants.{Broken, Solid, Empty}
 use Rattle.packed.specs.Header.{Tested}
-use Rattle.packed.specs.Walk.{reached}
+use Rattle.packed.specs.Walk.{reached, foundAt}
 
 -- ---- what the first three tests say
 
@@ -59,12 +57,6 @@ by-tests s n f l d o w =
     (when (not f) (numberOf BadVersion) ∷ when (not l) (numberOf BadLength) ∷ when (not d) (numberOf BadDepth) ∷ when o (numberOf Outside)
     ∷ when w (numberOf BrokenRules) ∷ []))
     (s ∷ n ∷ []) [] []
-
--- the answer for the walk's end
-abbrev pub foundAt : Reached → Found
-foundAt Broken = Refused BrokenRules
-foundAt (Solid n) = Found.Solid n
-foundAt (Empty n) = Found.Empty n
 
 way-found : (w : Way) → outcome (found (foundAt (reached w))) [] ≡ by-tests (bitFor (solid w)) (records w) true true true false (isBroken w)
 unfolding firstOf settled

@@ -10,6 +10,9 @@ use Rattle.paper.specs.Leaf.{leafVoxel}
 use Rattle.paper.specs.Outline.{edge}
 use Rattle.paper.specs.Store.{leafNo}
 use Rattle.paper.specs.Packed.{Link, noLink, linksAt, leafAt, recordOk, leafOk, Way, broken, ended}
+use Rattle.paper.specs.declared.Refusal.the-variants.{BrokenRules}
+use Rattle.paper.specs.declared.Found.{Found}
+use Rattle.paper.specs.declared.Found.the-variants.{Refused}
 use Rattle.packed.specs.declared.Reached.{Reached}
 use Rattle.packed.specs.declared.Reached.the-variants.{Broken, Solid, Empty}
 use Rattle.packed.specs.Records.{takenOk}
@@ -22,6 +25,12 @@ ends false n = Empty n
 abbrev pub reached : Way → Reached
 reached broken = Broken
 reached (ended b path) = ends b (length path)
+
+-- the answer for the walk's end
+abbrev pub foundAt : Reached → Found
+foundAt Broken = Refused BrokenRules
+foundAt (Solid n) = Found.Solid n
+foundAt (Empty n) = Found.Empty n
 
 -- n records more
 abbrev pub plus : ℕ → Reached → Reached

@@ -1,6 +1,6 @@
 // Packed bytes read: the header and its sizes, one record, and the walk of a packed voxel question.
 ghost use mathlib.Core.Path.{_≡_};
-ghost use mathlib.Core.Bool.{false, not};
+ghost use mathlib.Core.Bool.{true, false, not};
 ghost use mathlib.Core.List.{[]};
 ghost use Prim.Native.Nat.{suc, _+_, _-_, _*_, _%_, _^_, _≤_, _<_};
 ghost use lib.Dec.{T, eqb};
@@ -8,13 +8,14 @@ ghost use lib.ListN.{length, drop, getD};
 ghost use Rattle.paper.specs.Numbers.{num};
 ghost use Rattle.paper.specs.Rooms.{point, flip};
 ghost use Rattle.paper.specs.Leaf.{leafVoxel};
+ghost use Rattle.paper.specs.Outline.{frontOk, lengthOk};
 ghost use Rattle.paper.specs.Store.{leafNo};
-ghost use Rattle.paper.specs.Packed.{emptyMark, rootTag, topOf, sizeAt, listAt, headOk, startsOf, halves, codesOk, recordOk, linksAt, noLink, leafAt, wayIn};
+ghost use Rattle.paper.specs.Packed.{packedFront, packedHead, emptyMark, rootTag, topOf, sizeAt, listAt, headOk, startsOf, halves, codesOk, recordOk, linksAt, noLink, leafAt, wayIn};
 ghost use Rattle.paper.specs.Answers.{outcome, found};
 ghost use Rattle.paper.specs.Calls.{packedOutside, packedVoxelOutcome};
 ghost use Rattle.packed.specs.Header.{Tested, Sized, Opens, shareAt, lastLists};
 ghost use Rattle.packed.specs.Records.{linkIs, takenOk};
-ghost use Rattle.packed.specs.Walk.{reached, plus, leafEnd, seenAt, octant, wayAt};
+ghost use Rattle.packed.specs.Walk.{foundAt, reached, plus, leafEnd, seenAt, octant, wayAt};
 use numbers::be32;
 use numbers::wide;
 use outline::depth;
@@ -357,6 +358,17 @@ fn way_in(file: &[u8], x: u32, y: u32, z: u32) -> Reached
     walk(file, x, y, z)
 }
 
+// A walk's end as an answer.
+fn answer(end: Reached) -> Found
+    ensures { λ r. ⌜ r ≡ foundAt end ⌝ }
+{
+    match end {
+        Reached::Broken => Found::Refused(Refusal::BrokenRules),
+        Reached::Solid(n) => Found::Solid(n),
+        Reached::Empty(n) => Found::Empty(n),
+    }
+}
+
 // Packed voxel: whether a point is solid, with the number of records read; refused by 3, 4, 5, 10, 6.
 pub fn packed_voxel(file: &[u8], x: u32, y: u32, z: u32) -> Found
     ensures { λ r. ⌜ outcome (found r) [] ≡ packedVoxelOutcome (now (file .entry)) (point x y z) ⌝ }
@@ -376,10 +388,17 @@ pub fn packed_voxel(file: &[u8], x: u32, y: u32, z: u32) -> Found
     if head_bad(file) {
         return Found::Refused(Refusal::BrokenRules);
     }
-    let way = way_in(file, x, y, z);
-    match way {
-        Reached::Broken => Found::Refused(Refusal::BrokenRules),
-        Reached::Solid(n) => Found::Solid(n),
-        Reached::Empty(n) => Found::Empty(n),
+    answer(way_in(file, x, y, z))
+}
+
+// The same for a file whose header is tested: refused by 10, 6.
+pub fn voxel_in(file: &[u8], x: u32, y: u32, z: u32) -> Found
+    requires { ⌜ Opens (now file) ⌝ }
+    requires { ⌜ (frontOk packedFront (now file) ≡ true) × (lengthOk packedHead (now file) ≡ true) ⌝ }
+    ensures { λ r. ⌜ outcome (found r) [] ≡ packedVoxelOutcome (now (file .entry)) (point x y z) ⌝ }
+{
+    if outside(file, x, y, z) {
+        return Found::Refused(Refusal::Outside);
     }
+    answer(way_in(file, x, y, z))
 }

@@ -93,12 +93,27 @@ module _ (K : List (List Cell)) (k : ℕ) where
   unfolding pointerIn
   there-tally p b z = pointer-there K k p 0 origin (far (edge k)) b z ∙ box-whole K k (cellNo p) (bitXor (tagOf p) 0)
 
+  -- a pointer that is there, whole
+  pub named-whole : (p : ℕ) → badPointer (length (cellsAt K k)) p ≡ false → (p ≡ 0 → ⊥) → pointerIn K k p 0 origin (far (edge k)) ≡ wholeIn K k (cellNo p)
+  unfolding pointerIn
+  named-whole p b z = there-tally p b z
+
   module _ (c : Cell) (left : ℕ) where
     pub wholes-none : (found : ℕ) → left ≡ 0 → wholesIn K k c left found ≡ Solid found
     unfolding wholesBad wholesSolid sum
     wholes-none found e = rw e (ap Solid (add-zero found))
 
     module _ (z : left ≡ 0 → ⊥) where
+      -- the last child, of n voxels
+      module _ (n : ℕ) (e : pointerIn K k (getD c (left - 1) 0) 0 origin (far (edge k)) ≡ Solid n) where
+        pub wholes-next : (found : ℕ) → wholesIn K k c left found ≡ wholesIn K k c (left - 1) (found + n)
+        unfolding wholesBad wholesSolid pointerIn
+        wholes-next found = last-tally (λ i. bads (getD c i 0)) (λ i. solids (getD c i 0)) left z n e found
+
+        pub solid-next : wholesSolid K k c left ≡ wholesSolid K k c (left - 1) + n
+        unfolding wholesSolid pointerIn
+        solid-next = last-solid (λ i. bads (getD c i 0)) (λ i. solids (getD c i 0)) left z n e
+
       -- an absent child
       pub wholes-absent : (found : ℕ) → getD c (left - 1) 0 ≡ 0 → wholesIn K k c left found ≡ wholesIn K k c (left - 1) found
       unfolding wholesBad wholesSolid

@@ -8,7 +8,7 @@ ghost use Rattle.paper.specs.Numbers.{bitFor};
 ghost use Rattle.paper.specs.Rooms.{inBox, mirrored, boxCount};
 ghost use Rattle.paper.specs.Leaf.{voxelOf, leafVoxel};
 ghost use Rattle.paper.specs.Outline.{edge as edge-of};
-ghost use Rattle.paper.specs.Store.{heights, mostScenes, keptCount, sceneDepth, keptOf, anyBad, headerOk, sceneOk};
+ghost use Rattle.paper.specs.Store.{heights, mostScenes, keptCount, sceneDepth, keptOf, badPointer, anyBad, headerOk, sceneOk};
 ghost use Rattle.laws.proofs.Boxes.{clip as clip-of, clipped as clipped-of, origin, far};
 ghost use Rattle.walk.specs.Box.{at, hasVoxel, Upto, isWhole, seenBit, leafCount, boxIn, wholeIn, pointerIn, childrenSolid, childrenIn, wholesSolid, wholesIn, mostSolid, names as names-of, timesNamed, Without, sceneBox};
 use store::any_bad;
@@ -240,6 +240,34 @@ fn without(cell: [u32; 8], number: u32) -> [u32; 8]
     rest
 }
 
+// All voxels of the leaf that a pointer names.
+fn count_named(store: &[u32], p: u32) -> u64
+    requires { ⌜ T (headerOk (now store)) ⌝ }
+    requires { ⌜ badPointer (keptCount (now store) 0) p ≡ false ⌝ }
+    ensures { λ r. ⌜ pointerIn (keptOf (now (store .entry))) 0 p 0 origin (far (edge-of 0)) ≡ Tally.Solid r ⌝ }
+{
+    if p == 0 {
+        return 0;
+    }
+    whole_leaf(leaf_at(store, cell_number(p)))
+}
+
+// All voxels of the leaves of a cell.
+fn count_leaves(store: &[u32], cell: [u32; 8]) -> u64
+    requires { ⌜ T (headerOk (now store)) ⌝ }
+    requires { ⌜ anyBad (keptCount (now store) 0) cell ≡ false ⌝ }
+    requires { ⌜ wholesSolid (keptOf (now store)) 0 cell 8 ≤ mostSolid ⌝ }
+    ensures { λ r. ⌜ wholesIn (keptOf (now (store .entry))) 0 cell 8 0 ≡ Tally.Solid r ⌝ }
+{
+    let mut sum = 0u64;
+    let mut i = 8usize;
+    while i != 0 {
+        i -= 1;
+        sum += count_named(store, cell[i]);
+    }
+    sum
+}
+
 // All voxels of a cell of list k.
 pub fn count_whole(store: &[u32], k: u32, number: u32) -> Tally
     requires { ⌜ T (headerOk (now store)) ⌝ }
@@ -257,14 +285,17 @@ pub fn count_whole(store: &[u32], k: u32, number: u32) -> Tally
     count_wholes(store, k - 1, cell)
 }
 
-// All voxels of the children of a cell, of list k, the last first: those that name one cell are counted by entering it once,
-// and go absent.
+// All voxels of the children of a cell, of list k, the last first: leaves one by one; of other children, those that name one
+// cell are counted by entering it once, and go absent.
 fn count_wholes(store: &[u32], k: u32, cell: [u32; 8]) -> Tally
     requires { ⌜ T (headerOk (now store)) ⌝ }
     requires { ⌜ (k < heights) × (anyBad (keptCount (now store) k) cell ≡ false) ⌝ }
     requires { ⌜ wholesSolid (keptOf (now store)) k cell 8 ≤ mostSolid ⌝ }
     ensures { λ r. ⌜ r ≡ wholesIn (keptOf (now (store .entry))) k cell 8 0 ⌝ }
 {
+    if k == 0 {
+        return Tally::Solid(count_leaves(store, cell));
+    }
     let mut rest = cell;
     let mut i = CHILDREN;
     let mut sum = 0u64;

@@ -2,6 +2,7 @@
 -- By the ways through the question, and the callees' promises. Assumes nothing.
 use mathlib.Core.Path.{_≡_, sym, _∙_, ap}
 use mathlib.Core.Bool.{true, false, not}
+use mathlib.Core.List.{[]}
 use Prim.Native.Nat.{ℕ}
 use native.Mathlib.Omega.{arith}
 use borrow.Author.Tests.{not-true, not-false}
@@ -9,9 +10,10 @@ use Rattle.paper.specs.Rooms.{Point, point, depthOk}
 use Rattle.paper.specs.Outline.{frontOk, lengthOk, fileDepth}
 use Rattle.paper.specs.Packed.{packedFront, packedHead, headOk}
 use Rattle.paper.specs.Calls.{packedOutside}
+use Rattle.paper.specs.Answers.{outcome, found}
+use Rattle.paper.specs.declared.Found.{Found}
 use Rattle.laws.proofs.Tests.{true-T}
 use Rattle.packed.specs.Header.{Tested}
-use Rattle.packed.specs.declared.Reached.the-variants.{Broken, Solid, Empty}
 use Rattle.packed.proofs.Ways.{length-long, tested, bad-front, bad-length, bad-depth, far-out, bad-head, walked}
 use borrow.Author.Needs.{needs}
 use Rattle.packed.proofs.packed_voxel.Statement.{statement}
@@ -93,32 +95,14 @@ way-in-requires c κs =
 
 returns-6 : tie.Need-returns-6
 returns-6 c =
-    let o = c .before .before .before .before .before in
+    let r = c .before .way-in in
+    let o = c .before .before .before .before in
     let d = o .before .before in
     let l = d .before .before .before in
     let e = l .before .before in
     let s = e .before .before .before in
-    walked (s .args .file .now) (spot s) (front-ok e) (length-ok l) (depth-ok d) (inside-ok o) Broken (sym (c .enum-told .given .1) ∙ c .before .before .way-in .ensures)
-
-returns-7 : tie.Need-returns-7
-returns-7 c =
-    let o = c .before .before .before .before .before .before in
-    let d = o .before .before in
-    let l = d .before .before .before in
-    let e = l .before .before in
-    let s = e .before .before .before in
-    walked (s .args .file .now) (spot s) (front-ok e) (length-ok l) (depth-ok d) (inside-ok o) (Solid (c .before .way .given .0 .0))
-    (sym (c .before .way .given .1) ∙ c .before .before .before .way-in .ensures)
-
-returns-8 : tie.Need-returns-8
-returns-8 c =
-    let o = c .before .before .before .before .before .before in
-    let d = o .before .before in
-    let l = d .before .before .before in
-    let e = l .before .before in
-    let s = e .before .before .before in
-    walked (s .args .file .now) (spot s) (front-ok e) (length-ok l) (depth-ok d) (inside-ok o) (Empty (c .before .way2 .given .0 .0))
-    (sym (c .before .way2 .given .1) ∙ c .before .before .before .way-in .ensures)
+    ap (λ (f : Found). outcome (found f) []) (c .answer .ensures)
+    ∙ walked (s .args .file .now) (spot s) (front-ok e) (length-ok l) (depth-ok d) (inside-ok o) (r .result) (r .ensures)
 
 pub packed-voxel-spec : {M : Type 1} → statement M
-packed-voxel-spec = tie.close (tie.spec (λ c κs. search needs) returns (λ c κs. search needs) returns-2 depth-requires (λ c κs. search needs) returns-3 outside-requires returns-4 head-bad-requires returns-5 way-in-requires (λ c. search needs) (λ c. search needs) (λ c. search needs) returns-6 returns-7 returns-8)
+packed-voxel-spec = tie.close (tie.spec (λ c κs. search needs) returns (λ c κs. search needs) returns-2 depth-requires (λ c κs. search needs) returns-3 outside-requires returns-4 head-bad-requires returns-5 way-in-requires (λ c κs. search needs) returns-6)

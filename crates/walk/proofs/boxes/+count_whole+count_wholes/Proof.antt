@@ -30,6 +30,7 @@ use Rattle.store.proofs.kept_count.Reads as kept-count-reads
 use Rattle.store.proofs.any_bad.Reads as any-bad-reads
 use Rattle.store.proofs.cell_number.Reads as cell-number-reads
 use Rattle.walk.proofs.boxes.whole_leaf.Reads as whole-leaf-reads
+use Rattle.walk.proofs.boxes.count_leaves.Reads as count-leaves-reads
 use Rattle.walk.proofs.boxes.times_named.Reads as times-named-reads
 use Rattle.walk.proofs.boxes.wide.Reads as wide-reads
 use Rattle.walk.proofs.boxes.without.Reads as without-reads
@@ -58,7 +59,7 @@ abbrev count-whole-known : ℕ → count-whole-lts.Claims
 count-whole-known t = (leaf-at-reads.Asked, leaf-at-reads.Learnt, whole-leaf-reads.Asked, whole-leaf-reads.Learnt, cell-at-reads.Asked, cell-at-reads.Learnt, kept-count-reads.Asked, kept-count-reads.Learnt, any-bad-reads.Asked, any-bad-reads.Learnt, count-wholes-below t, count-wholes.Post)
 
 abbrev count-wholes-known : ℕ → count-wholes-lts.Claims
-count-wholes-known t = (cell-number-reads.Asked, cell-number-reads.Learnt, count-whole-below t, count-whole.Post, times-named-reads.Asked, times-named-reads.Learnt, wide-reads.Asked, wide-reads.Learnt, without-reads.Asked, without-reads.Learnt)
+count-wholes-known t = (count-leaves-reads.Asked, count-leaves-reads.Learnt, cell-number-reads.Asked, cell-number-reads.Learnt, count-whole-below t, count-whole.Post, times-named-reads.Asked, times-named-reads.Learnt, wide-reads.Asked, wide-reads.Learnt, without-reads.Asked, without-reads.Learnt)
 
 abbrev Inv-loop : count-wholes-lts.InvT-loop
 Inv-loop store k rest₀ i₀ sum₀ rest i sum =
@@ -82,14 +83,14 @@ times-is t c =
 
 -- what is found with the cell's count, and what is left to find, fit
 fits : (t : ℕ) (c : count-wholes-lts.After-without (count-wholes-known t) (count-wholes-at t) count-wholes.Post Inv-loop μ-loop) → (let l = c .before .before .before .before .before .before .before .before .before .before .loop in
-    let a = c .before .before .before .before .before .before .before .before .before .before .before .before .args in
+    let a = c .before .before .before .before .before .before .before .before .before .before .before .before .before .args in
     l .sum + (c .before .wide .result * c .before .before .before .before .n .given .0 .0 + wholesSolid (keptOf (a .store .now)) (a .k) (c .without .result) (l .i - 1)) ≤ mostSolid)
 fits t c =
     let l = c .before .before .before .before .before .before .before .before .before .before .loop in
-    let b = c .before .before .before .before .before .before .before .before .before .before .before .before in
+    let b = c .before .before .before .before .before .before .before .before .before .before .before .before .before in
     let a = b .args in
     rw (counted-solid (a .store .now) (a .k) (l .rest) (l .i) (b .pre .1 .1 .0 .0) (c .before .before .before .before .before .before .before .before .before .loop-test .taken) (l .inv .0) (l .inv .1) (c .before .before .before .before .before .before .before .cell-number .result) (c .before .before .before .before .n .given .0 .0)
-    (c .before .wide .result) (c .without .result) (c .before .before .before .before .before .before .before .before .if1 .left) (c .before .before .before .before .before .before .before .cell-number .ensures) (sym (c .before .before .before .before .before .before .count-whole .ensures) ∙ c .before .before .before .before .n .given .1)
+    (c .before .wide .result) (c .without .result) (c .before .before .before .before .before .before .before .before .if2 .left) (c .before .before .before .before .before .before .before .cell-number .ensures) (sym (c .before .before .before .before .before .before .count-whole .ensures) ∙ c .before .before .before .before .n .given .1)
     (times-is t c) (c .without .ensures)) at (l .inv .3)
 
 count-whole-leaf-at-requires : (t : ℕ) → count-whole-lts.Need-leaf-at-requires (count-whole-known t) (count-whole-at t) count-whole.Post
@@ -127,61 +128,71 @@ count-whole-returns-3 t c =
     ∙ ap (λ (l : Cell). wholesIn (keptOf s) (b .args .k - 1) l 8 0) (c .before .before .before .before .cell-at .ensures)
     ∙ whole-wholes s (b .args .k) (b .args .number) (b .pre .1 .1 .0) (c .before .before .before .before .before .if1 .left)
 
+count-wholes-count-leaves-requires : (t : ℕ) → count-wholes-lts.Need-count-leaves-requires (count-wholes-known t) (count-wholes-at t) count-wholes.Post Inv-loop μ-loop
+count-wholes-count-leaves-requires t c κs =
+    let b = c .before .before in
+    (b .pre .1 .0, (rw (c .if1 .taken) at (b .pre .1 .1 .0 .1), rw (c .if1 .taken) at (b .pre .1 .1 .1)))
+
+count-wholes-returns : (t : ℕ) → count-wholes-lts.Need-returns (count-wholes-known t) (count-wholes-at t) count-wholes.Post Inv-loop μ-loop
+count-wholes-returns t c =
+    let a = c .before .before .before .args in
+    sym (ap (λ (k : ℕ). wholesIn (keptOf (a .store .now)) k (a .cell) 8 0) (c .before .if1 .taken) ∙ c .count-leaves .ensures)
+
 count-wholes-loop-holds : (t : ℕ) → count-wholes-lts.Need-loop-holds (count-wholes-known t) (count-wholes-at t) count-wholes.Post Inv-loop μ-loop
-count-wholes-loop-holds t c = let p = c .before .pre .1 .1 in (omega arith, p .0 .1, λ j a b. absurd (omega arith), omega (arith, p .1), refl)
+count-wholes-loop-holds t c = let p = c .before .before .pre .1 .1 in (omega arith, p .0 .1, λ j a b. absurd (omega arith), omega (arith, p .1), refl)
 
 -- an absent child
 count-wholes-loop-again : (t : ℕ) → count-wholes-lts.Need-loop-again (count-wholes-known t) (count-wholes-at t) count-wholes.Post Inv-loop μ-loop
 count-wholes-loop-again t c =
     let l = c .before .before .loop in
-    let a = c .before .before .before .before .args in
+    let a = c .before .before .before .before .before .args in
     let z = c .before .loop-test .taken in
-    let e = solid-absent (keptOf (a .store .now)) (a .k) (l .rest) (l .i) z (c .if1 .taken) in (
+    let e = solid-absent (keptOf (a .store .now)) (a .k) (l .rest) (l .i) z (c .if2 .taken) in (
       omega (arith, l .inv .0),
       l .inv .1,
-      gone-absent (l .rest) (l .i) (c .if1 .taken) (l .inv .2),
+      gone-absent (l .rest) (l .i) (c .if2 .taken) (l .inv .2),
       omega (arith, e, l .inv .3),
-      sym (wholes-absent (keptOf (a .store .now)) (a .k) (l .rest) (l .i) z (l .sum) (c .if1 .taken)) ∙ l .inv .4,
+      sym (wholes-absent (keptOf (a .store .now)) (a .k) (l .rest) (l .i) z (l .sum) (c .if2 .taken)) ∙ l .inv .4,
     )
 
 count-wholes-count-whole-requires : (t : ℕ) → count-wholes-lts.Need-count-whole-requires (count-wholes-known t) (count-wholes-at t) count-wholes.Post Inv-loop μ-loop
 count-wholes-count-whole-requires t c κs =
     let l = c .before .before .before .loop in
-    let b = c .before .before .before .before .before in
+    let b = c .before .before .before .before .before .before in
     let a = b .args in
-    let n = last-kept (a .store .now) (a .k) (l .rest) (l .i) (b .pre .1 .1 .0 .0) (c .before .before .loop-test .taken) (l .inv .0) (l .inv .1) (c .before .if1 .left) in
+    let n = last-kept (a .store .now) (a .k) (l .rest) (l .i) (b .pre .1 .1 .0 .0) (c .before .before .loop-test .taken) (l .inv .0) (l .inv .1) (c .before .if2 .left) in
     (omega arith, (b .pre .1 .0, (b .pre .1 .1 .0 .0, omega (arith, c .cell-number .ensures, n))))
 
-count-wholes-returns : (t : ℕ) → count-wholes-lts.Need-returns (count-wholes-known t) (count-wholes-at t) count-wholes.Post Inv-loop μ-loop
-count-wholes-returns t c =
+count-wholes-returns-2 : (t : ℕ) → count-wholes-lts.Need-returns-2 (count-wholes-known t) (count-wholes-at t) count-wholes.Post Inv-loop μ-loop
+count-wholes-returns-2 t c =
     let l = c .before .before .before .before .before .before .loop in
-    let b = c .before .before .before .before .before .before .before .before in
+    let b = c .before .before .before .before .before .before .before .before .before in
     let a = b .args in
     sym
     (child-damaged (a .store .now) (a .k) (l .rest) (l .i) (b .pre .1 .1 .0 .0) (c .before .before .before .before .before .loop-test .taken) (l .inv .0) (l .inv .1) (l .sum) (c .before .before .before .cell-number .result)
-    (c .before .before .before .before .if1 .left) (c .before .before .before .cell-number .ensures) (sym (c .before .before .count-whole .ensures) ∙ c .enum-told .given .1))
+    (c .before .before .before .before .if2 .left) (c .before .before .before .cell-number .ensures) (sym (c .before .before .count-whole .ensures) ∙ c .enum-told .given .1))
     ∙ l .inv .4
 
 -- the children that name one cell
 count-wholes-loop-again-2 : (t : ℕ) → count-wholes-lts.Need-loop-again-2 (count-wholes-known t) (count-wholes-at t) count-wholes.Post Inv-loop μ-loop
 count-wholes-loop-again-2 t c =
     let l = c .before .before .before .before .before .before .before .before .before .before .loop in
-    let b = c .before .before .before .before .before .before .before .before .before .before .before .before in
+    let b = c .before .before .before .before .before .before .before .before .before .before .before .before .before in
     let a = b .args in
     let n = c .before .before .before .before .before .before .before .cell-number in (
       omega (arith, l .inv .0),
       without-bad (keptCount (a .store .now) (a .k)) (n .result) (l .rest) (c .without .result) (l .inv .1) (c .without .ensures),
-      gone-named (l .rest) (c .without .result) (n .result) (l .i) (omega (arith, l .inv .0)) (there-named (n .result) _ (c .before .before .before .before .before .before .before .before .if1 .left) (sym (n .ensures))) (c .without .ensures) (l .inv .2),
+      gone-named (l .rest) (c .without .result) (n .result) (l .i) (omega (arith, l .inv .0)) (there-named (n .result) _ (c .before .before .before .before .before .before .before .before .if2 .left) (sym (n .ensures))) (c .without .ensures) (l .inv .2),
       omega (arith, fits t c),
       counted-tally (a .store .now) (a .k) (l .rest) (l .i) (b .pre .1 .1 .0 .0) (c .before .before .before .before .before .before .before .before .before .loop-test .taken) (l .inv .0) (l .inv .1) (n .result) (c .before .before .before .before .n .given .0 .0)
-          (c .before .wide .result) (c .without .result) (c .before .before .before .before .before .before .before .before .if1 .left) (n .ensures) (sym (c .before .before .before .before .before .before .count-whole .ensures) ∙ c .before .before .before .before .n .given .1)
+          (c .before .wide .result) (c .without .result) (c .before .before .before .before .before .before .before .before .if2 .left) (n .ensures) (sym (c .before .before .before .before .before .before .count-whole .ensures) ∙ c .before .before .before .before .n .given .1)
           (times-is t c) (c .without .ensures) (l .sum) ∙ l .inv .4,
     )
 
-count-wholes-returns-2 : (t : ℕ) → count-wholes-lts.Need-returns-2 (count-wholes-known t) (count-wholes-at t) count-wholes.Post Inv-loop μ-loop
-count-wholes-returns-2 t c =
+count-wholes-returns-3 : (t : ℕ) → count-wholes-lts.Need-returns-3 (count-wholes-known t) (count-wholes-at t) count-wholes.Post Inv-loop μ-loop
+count-wholes-returns-3 t c =
     let l = c .before .loop in
-    let a = c .before .before .before .args in
+    let a = c .before .before .before .before .args in
     sym (wholes-none (keptOf (a .store .now)) (a .k) (l .rest) (l .i) (l .sum) (c .loop-test .left)) ∙ l .inv .4
 
 pub +count-whole+count-wholes-spec : {M : Type 1} → statement M
@@ -202,6 +213,8 @@ pub +count-whole+count-wholes-spec : {M : Type 1} → statement M
     (λ t. count-wholes-lts.spec (count-wholes-known t) (count-wholes-at t) count-wholes.Post
     Inv-loop
     μ-loop
+    (count-wholes-count-leaves-requires t)
+    (count-wholes-returns t)
     (count-wholes-loop-holds t)
     (λ c. search needs)
     (λ c. search needs)
@@ -213,7 +226,7 @@ pub +count-whole+count-wholes-spec : {M : Type 1} → statement M
     (count-wholes-count-whole-requires t)
     (λ c. search needs)
     (λ c. search needs)
-    (count-wholes-returns t)
+    (count-wholes-returns-2 t)
     (λ c κs. search needs)
     (λ c κs. search needs)
     (λ c κs. search needs)
@@ -221,4 +234,4 @@ pub +count-whole+count-wholes-spec : {M : Type 1} → statement M
     (λ c. omega (arith, fits t c))
     (λ c. search needs)
     (count-wholes-loop-again-2 t)
-    (count-wholes-returns-2 t))
+    (count-wholes-returns-3 t))
