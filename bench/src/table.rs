@@ -423,40 +423,37 @@ fn shares(all: &Measured) {
     println!(
         "\n## What damage tests take of a voxel question near surfaces, and the search of adding\n"
     );
-    println!("Header: instructions of a question on a scene that isn't there, which tests the header and refuses. The walk's tests: the same");
-    println!("walk in Rust over the same words, with all damage tests and without. Search: what adding takes more than adding the same");
-    println!("records with every leaf full, where few cells are kept.\n");
+    println!("Header: a question on a scene that isn't there, which tests the header and refuses. In Rust: the same walk over the same words,");
+    println!("with all damage tests as one would write them, and without any. Tests: what the store takes more than the walk without any.");
+    println!("Search: what adding takes more than adding the same records with every leaf full, where few cells are kept.\n");
     print_head(&[
         "room",
-        "voxel",
-        "header tests",
+        "store",
+        "header",
         "in Rust with tests",
         "without",
-        "tests' share in Rust",
-        "search's share of adding",
+        "tests' share of the store's, at most",
+        "search's share of adding, at least",
     ]);
+    let part = |all: Option<f64>, rest: Option<f64>| {
+        let share = all.zip(rest).map(|(all, rest)| 100.0 * (1.0 - rest / all));
+        share.map_or("-".to_string(), |share| format!("{share:.0} %"))
+    };
     for room in &all.rooms {
-        let item = "voxel, near surfaces";
-        let count = |who| all.instructions(item, room, who);
-        let (with, without) = (count("twin"), count("twin without tests"));
-        let part = |with: Option<f64>, without: Option<f64>| {
-            let share = with
-                .zip(without)
-                .map(|(a, b)| format!("{:.0} %", 100.0 * (1.0 - b / a)));
-            share.unwrap_or("-".to_string())
-        };
+        let count = |who| all.instructions("voxel, near surfaces", room, who);
         let add = |who| {
             let both = all.instructions("add", room, "store").is_some();
             let counted = all.instructions("add", room, who).filter(|_| both);
             counted.or(all.told("add", room, who))
         };
+        let without = count("twin without tests");
         print_row([
             room.clone(),
             cell(count("store")),
             cell(count("no such scene")),
-            cell(with),
+            cell(count("twin")),
             cell(without),
-            part(with, without),
+            part(count("store"), without),
             part(add("store"), add("equal leaves")),
         ]);
     }
