@@ -8,6 +8,11 @@ fn main() {
         Ok(path) => PathBuf::from(path),
         Err(_) => here.join("../target/staticlib/librooms_c.a"),
     };
+    assert!(
+        archive.exists(),
+        "no library {}: `rt staticlib rooms_c` writes it",
+        archive.display()
+    );
     println!("cargo:rerun-if-env-changed=ROOMS_LIB");
     println!("cargo:rerun-if-changed={}", archive.display());
     println!("cargo:rustc-link-arg={}", archive.display());

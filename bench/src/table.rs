@@ -189,6 +189,7 @@ pub fn print(all: &Measured) {
     whole_calls(all);
     growth(all);
     shares(all);
+    goals(all);
 }
 
 fn sizes(all: &Measured) {
@@ -333,8 +334,21 @@ fn whole_calls(all: &Measured) {
     }
 }
 
+/// How the check's work over n log n changes from one size to the next ten times larger; none where it was left out.
+fn growth_step(all: &Measured, kind: &str, from: usize, to: usize) -> Option<f64> {
+    let work = |size: usize| {
+        let room = format!("{kind} {size}");
+        let n = all.told("records", &room, "room")?;
+        let counted = all.instructions("check", &room, "store");
+        let sum = counted.or(all.told("check", &room, "store"))?;
+        Some(sum / (n * n.log2()))
+    };
+    Some(work(to)? / work(from)?)
+}
+
 fn growth(all: &Measured) {
-    println!("\n## Check: work a record as files grow, instructions (microseconds); a step's growth over ten times n log n\n");
+    println!("\n## Check: instructions a record (and microseconds) as files grow\n");
+    println!("The last columns: the work over n log n, against that at the size before; 1 or less is no faster than n log n.\n");
     let mut head = vec!["file".to_string()];
     head.extend(SIZES.iter().map(|size| format!("{size} records")));
     head.extend(
@@ -344,28 +358,64 @@ fn growth(all: &Measured) {
     );
     print_head(&head.iter().map(String::as_str).collect::<Vec<_>>());
     for (kind, _) in KINDS {
-        let rooms = SIZES.map(|size| format!("{kind} {size}"));
-        let records = |room: &str| all.told("records", room, "room");
         let mut fields = vec![kind.to_string()];
-        for room in &rooms {
-            let each = |sum: Option<f64>| sum.zip(records(room)).map(|(sum, n)| sum / n);
-            let count = each(all.instructions("check", room, "store"));
-            let time = each(all.told("check", room, "store")).map(|time| time / 1000.0);
+        for size in SIZES {
+            let room = format!("{kind} {size}");
+            let records = all.told("records", &room, "room");
+            let each = |sum: Option<f64>| sum.zip(records).map(|(sum, n)| sum / n);
+            let count = each(all.instructions("check", &room, "store"));
+            let time = each(all.told("check", &room, "store")).map(|time| time / 1000.0);
             fields.push(match time {
                 Some(time) => format!("{} ({time:.2})", cell(count)),
                 None => "left out: too long".to_string(),
             });
         }
-        for step in rooms.windows(2) {
-            let work = |room: &str| {
-                let n = records(room)?;
-                let counted = all.instructions("check", room, "store");
-                let sum = counted.or(all.told("check", room, "store"))?;
-                Some(sum / (n * n.log2()))
-            };
-            fields.push(cell(work(&step[1]).zip(work(&step[0])).map(|(b, a)| b / a)));
+        for step in SIZES.windows(2) {
+            fields.push(cell(growth_step(all, kind, step[0], step[1])));
         }
         print_row(fields);
+    }
+}
+
+/// Each goal with the room that is farthest from it.
+fn goals(all: &Measured) {
+    println!("\n## Goals\n");
+    print_head(&["goal", "at most", "worst", "room", "reached"]);
+    let told = |name: &str, goal: f64, worst: Option<(f64, &str)>| {
+        let reached = worst.map_or("not measured", |w| if w.0 <= goal { "yes" } else { "no" });
+        let (value, room) = worst.map_or((None, "-"), |(value, room)| (Some(value), room));
+        print_row([name, &short(goal), &cell(value), room, reached].map(str::to_string));
+    };
+    for row in rows() {
+        let aimed = all
+            .rooms
+            .iter()
+            .filter_map(|room| Some((room, (row.goal)(room)?)));
+        let mut aimed: Vec<(&String, f64)> = aimed.collect();
+        let value = |room: &str| (row.of)(all, room).map(|ratio| ratio.value);
+        let far = |room: &str| value(room).unwrap_or(f64::MAX);
+        aimed.sort_by(|a, b| a.1.total_cmp(&b.1).then(far(b.0).total_cmp(&far(a.0))));
+        aimed.dedup_by_key(|&mut (_, goal)| goal);
+        for (room, goal) in aimed {
+            told(
+                row.name,
+                goal,
+                value(room).map(|value| (value, room.as_str())),
+            );
+        }
+    }
+    for (kind, _) in KINDS {
+        for step in SIZES.windows(2) {
+            let name = format!(
+                "check's growth over n log n, {kind}, {} to {} records",
+                step[0], step[1]
+            );
+            told(
+                &name,
+                1.0,
+                growth_step(all, kind, step[0], step[1]).map(|value| (value, "-")),
+            );
+        }
     }
 }
 
@@ -373,40 +423,37 @@ fn shares(all: &Measured) {
     println!(
         "\n## What damage tests take of a voxel question near surfaces, and the search of adding\n"
     );
-    println!("Header: instructions of a question on a scene that isn't there, which tests the header and refuses. The walk's tests: the same");
-    println!("walk in Rust over the same words, with all damage tests and without. Search: what adding takes more than adding the same");
-    println!("records with every leaf full, where few cells are kept.\n");
+    println!("Header: a question on a scene that isn't there, which tests the header and refuses. In Rust: the same walk over the same words,");
+    println!("with all damage tests as one would write them, and without any. Tests: what the store takes more than the walk without any.");
+    println!("Search: what adding takes more than adding the same records with every leaf full, where few cells are kept.\n");
     print_head(&[
         "room",
-        "voxel",
-        "header tests",
+        "store",
+        "header",
         "in Rust with tests",
         "without",
-        "tests' share in Rust",
-        "search's share of adding",
+        "tests' share of the store's, at most",
+        "search's share of adding, at least",
     ]);
+    let part = |all: Option<f64>, rest: Option<f64>| {
+        let share = all.zip(rest).map(|(all, rest)| 100.0 * (1.0 - rest / all));
+        share.map_or("-".to_string(), |share| format!("{share:.0} %"))
+    };
     for room in &all.rooms {
-        let item = "voxel, near surfaces";
-        let count = |who| all.instructions(item, room, who);
-        let (with, without) = (count("twin"), count("twin without tests"));
-        let part = |with: Option<f64>, without: Option<f64>| {
-            let share = with
-                .zip(without)
-                .map(|(a, b)| format!("{:.0} %", 100.0 * (1.0 - b / a)));
-            share.unwrap_or("-".to_string())
-        };
+        let count = |who| all.instructions("voxel, near surfaces", room, who);
         let add = |who| {
             let both = all.instructions("add", room, "store").is_some();
             let counted = all.instructions("add", room, who).filter(|_| both);
             counted.or(all.told("add", room, who))
         };
+        let without = count("twin without tests");
         print_row([
             room.clone(),
             cell(count("store")),
             cell(count("no such scene")),
-            cell(with),
+            cell(count("twin")),
             cell(without),
-            part(with, without),
+            part(count("store"), without),
             part(add("store"), add("equal leaves")),
         ]);
     }

@@ -97,10 +97,8 @@ fn added(meter: &Meter, name: &str, file: &[u8], capacity: u32, words: PathBuf) 
             store
         })
     };
-    if meter.wants("add", name, "equal leaves") {
-        add("equal leaves", &equal_leaves(file));
-    }
     if meter.wants("add", name, "store") {
+        add("equal leaves", &equal_leaves(file));
         let store = add("store", file);
         if !meter.counting() {
             let bytes: Vec<u8> = store.iter().flat_map(|word| word.to_le_bytes()).collect();
