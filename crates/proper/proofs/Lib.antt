@@ -4,6 +4,8 @@ pub mod Loops
 pub mod Linking
 pub mod Along
 pub mod Earlier
+pub mod Keyed
+pub mod Groups
 pub mod Checking
 pub mod InFile
 pub mod PopularPlaces

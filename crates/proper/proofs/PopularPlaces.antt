@@ -17,7 +17,8 @@ use Rattle.laws.proofs.Tests.{and-left, and-right, and-T, all-at}
 use Rattle.laws.proofs.Lists.{allIn-head, allIn-tail, allIn-at, allIn-in, allIn-T, At, isIn-at, isIn-getD, length-count, getD-count}
 use Rattle.laws.proofs.Bytes.{bytes-drop}
 use Rattle.laws.proofs.PackedLists.{num2-lt, list-bytes}
-use Rattle.proper.specs.Places.{unitAt, markOf, marksAt, lowBy, linkRules, recordRules, apartIn, recordsMatch, listRules, popularAt, popularRules}
+use Rattle.least.specs.Keys.{markOf}
+use Rattle.proper.specs.Places.{unitAt, marksAt, lowBy, linkRules, recordRules, apartIn, recordsMatch, listRules, popularAt, popularRules}
 use Rattle.proper.specs.Phases.{countOf, countRecords, linkFits, countable, countsFall}
 use Rattle.proper.proofs.Marks.{tail-inside, list-length}
 use Rattle.proper.proofs.ByPlaces.{starts-late, mark-start}

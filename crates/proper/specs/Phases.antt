@@ -10,6 +10,7 @@ use Rattle.paper.specs.Numbers.{anyBelow, allIn, num, bytes, count}
 use Rattle.paper.specs.Packed.{topOf, isEmpty, startAt, listAt, headerAt, halves, Link, noLink, linksAt, recordOk, leafOk, startsFrom, startsOf}
 use Rattle.numbers.specs.Laid.{laid}
 use Rattle.packed.specs.Header.{Opens}
+use Rattle.least.specs.Keys.{markOf, Group}
 use Rattle.proper.specs.Places.{marksOn, unitAt, leavesMatch, recordsMatch, leafMask, recordMask, marksAt, recordRules, apartIn}
 
 -- ---- the places of a list of bytes
@@ -52,6 +53,10 @@ innerRules u m l = allIn (recordRules u m l) (placesIn l) && apartIn (recordsMat
 
 abbrev pub recordMarks : ℕ → List ℕ → List ℕ → List ℕ → List ℕ
 recordMarks u m l z = marksOn (recordMask u m l) 2 (placesIn l) z
+
+-- every mark is a group of mirrors; u the bytes that a place counts
+abbrev pub Grouped : ℕ → List ℕ → Type 0
+Grouped u m = (x : ℕ) → (markOf u m x ≡ 0 → ⊥) → Group (markOf u m x)
 
 -- the scratch when n lists are marked, from the leaves up: scratch position = file position
 unfoldable pub marksTail : List ℕ → ℕ → List ℕ
