@@ -10,17 +10,17 @@ use borrow.Author.Tests.{eq-eqb}
 use lib.Dec.{T, eqb, lit<}
 use lib.ListN.{length, getD, set, replicate}
 use lib.Seq.{getD-set-same, getD-set-other, set-out}
-use Rattle.paper.specs.Numbers.{allBelow, allIn, isIn, indexIn}
+use Rattle.paper.specs.Numbers.{allBelow, allIn, isIn}
 use Rattle.paper.specs.Packed.{listAt, placesAt}
 use Rattle.paper.specs.Runs.{Bytes}
 use Rattle.laws.proofs.Tests.{both-left, both-right, and-left}
-use Rattle.laws.proofs.Lists.{allIn-in, At, isIn-at}
 use Rattle.laws.proofs.Masks.{mask-lt}
 use Rattle.laws.proofs.PackedLists.{list-bytes}
 use Rattle.least.specs.Keys.{Group}
 use Rattle.proper.specs.Places.{marksOn, unitAt, leavesMatch, recordsMatch, leafMask, recordMask, marksAt, recordRules, apartIn, listRules}
 use Rattle.proper.specs.Phases.{Grouped}
 use Rattle.proper.proofs.Marks.{zeros-read}
+use Rattle.proper.proofs.Along.{allIn-isIn}
 use Rattle.proper.proofs.Keyed.{record-group, record-kept, leaf-group}
 
 -- what holds of every mark written and of what was there holds of the marks
@@ -63,12 +63,9 @@ zero-good n j ne = absurd (ne (zeros-read n j))
 rules-in : (bs : List ℕ) (k p : ℕ) → T (listRules bs (suc k)) → T (isIn p (placesAt bs (suc k))) → T (recordRules (unitAt k) (marksAt bs k) (listAt bs (suc k)) p)
 unfolding listRules
 rules-in bs k p t i =
-    let a : At p (placesAt bs (suc k)) = isIn-at p (placesAt bs (suc k)) i in
     let f : ℕ → Bool = recordRules (unitAt k) (marksAt bs k) (listAt bs (suc k)) in
-    subst (λ (q : ℕ). T (f q)) (a .is)
-    (allIn-in f 0 (placesAt bs (suc k))
-    (and-left (allIn f (placesAt bs (suc k))) (apartIn (recordsMatch (unitAt k) (marksAt bs k) (listAt bs (suc k))) (placesAt bs (suc k))) t)
-    (indexIn p (placesAt bs (suc k))) (a .inside))
+    allIn-isIn f (placesAt bs (suc k)) p
+    (and-left (allIn f (placesAt bs (suc k))) (apartIn (recordsMatch (unitAt k) (marksAt bs k) (listAt bs (suc k))) (placesAt bs (suc k))) t) i
 
 pub marks-grouped : (bs : List ℕ) → Bytes bs → (k : ℕ) → T (allBelow (suc k) (listRules bs)) → Grouped (unitAt k) (marksAt bs k)
 unfolding marksAt

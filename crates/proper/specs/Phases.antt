@@ -7,10 +7,11 @@ use Prim.Native.Nat.{ℕ, zero, suc, _+_, _-_, _*_, _/_, _%_, _^_, _≤_, _<_}
 use lib.Dec.{T, eqb, leb, ltb}
 use lib.ListN.{length, take, drop, getD, replicate}
 use Rattle.paper.specs.Numbers.{anyBelow, allIn, num, bytes, count}
-use Rattle.paper.specs.Packed.{topOf, isEmpty, startAt, listAt, headerAt, halves, Link, noLink, linksAt, recordOk, leafOk, startsFrom, startsOf}
+use Rattle.paper.specs.Store.{leafNo}
+use Rattle.paper.specs.Packed.{topOf, isEmpty, startAt, listAt, headerAt, halves, Link, noLink, linksAt, leafAt, recordOk, leafOk, startsFrom, startsOf}
 use Rattle.numbers.specs.Laid.{laid}
 use Rattle.packed.specs.Header.{Opens}
-use Rattle.least.specs.Keys.{markOf, Group}
+use Rattle.least.specs.Keys.{markOf, Group, leafKey}
 use Rattle.proper.specs.Places.{marksOn, unitAt, leavesMatch, recordsMatch, leafMask, recordMask, marksAt, recordRules, apartIn}
 
 -- ---- the places of a list of bytes
@@ -28,17 +29,11 @@ abbrev pub startsIn : ℕ → List ℕ → List ℕ
 startsIn zero l = leavesIn l
 startsIn (suc k) l = placesIn l
 
--- the starts before place p, from q on
-unfoldable pub startsTo : List ℕ → ℕ → ℕ → ℕ → List ℕ
-startsTo l zero q p = []
-startsTo l (suc n) q p = let r = q ∷ startsTo l n (q + halves 8 (headerAt l q)) p in cond (ltb q p) r []
-
 -- ---- phase 1: a list tested, and its marks written
 
--- one of the records at these places matches that at p, under some mirror
-unfoldable pub alikeIn : (ℕ → ℕ → ℕ → Bool) → ℕ → List ℕ → Bool
-alikeIn match p [] = false
-alikeIn match p (q ∷ qs) = let r = alikeIn match p qs in cond (anyBelow 8 (match p q)) true r
+-- the key of the leaf at place p
+abbrev pub leafKeyAt : List ℕ → ℕ → ℕ
+leafKeyAt l p = leafKey (leafNo (leafAt l p))
 
 -- a list of leaves
 unfoldable pub leavesRules : List ℕ → Bool

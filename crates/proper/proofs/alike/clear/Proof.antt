@@ -7,8 +7,8 @@ use lib.ListN.{length, set, drop, replicate, length-set}
 use lib.Seq.{drop-length}
 use borrow.Author.Fill.{fill-none, fill-more}
 use borrow.Author.Needs.{needs}
-use Rattle.proper.proofs.call.clear.Statement.{statement}
-use Rattle.proper.proofs.call.clear.Tie as tie
+use Rattle.proper.proofs.alike.clear.Statement.{statement}
+use Rattle.proper.proofs.alike.clear.Tie as tie
 
 abbrev Inv-loop : tie.InvT-loop
 Inv-loop scratch₀ i₀ scratch i = (i ≤ length scratch₀) × (length scratch ≡ length scratch₀) × (scratch ≡ replicate i 0 ++ drop i scratch₀)
