@@ -4,18 +4,19 @@ use mathlib.Core.Path.{_≡_, refl, sym, _∙_, ap, subst}
 use mathlib.Core.Bool.{Bool, true, false, cond, _&&_}
 use mathlib.Core.List.{List, [], _∷_, map}
 use Prim.Native.Nat.{ℕ, zero, suc, _+_, _-_, _*_, _/_, _%_, _^_, _<_, _≤_}
+use native.Mathlib.Nat.{le-of-suc-le-suc, not-suc-le-zero}
 use native.Mathlib.Numerals.{add-one}
 use native.Mathlib.Omega.{arith}
-use borrow.Author.Tests.{lt-ltb, le-ltb, lt-leb, le-leb, eqb-true, eqb-false}
+use borrow.Author.Tests.{lt-ltb, le-ltb, lt-leb, le-leb, ltb-true, eqb-true, eqb-false}
 use lib.Dec.{T, eqb, ltb, ltb→lt}
 use lib.ListN.{length, getD, set, take, drop, length-drop}
 use lib.Seq.{take-all}
-use Rattle.paper.specs.Numbers.{allIn, count}
+use Rattle.paper.specs.Numbers.{allIn, isIn, indexIn, count}
 use Rattle.paper.specs.Packed.{headerAt, halves, linksAt, recordOk, startsFrom}
 use Rattle.laws.proofs.Tests.{and-left, and-right}
 use Rattle.paper.specs.Runs.{Bytes}
 use Rattle.laws.proofs.Bytes.{bytes-drop}
-use Rattle.laws.proofs.Lists.{allIn-head, allIn-tail, allIn-in, allIn-T}
+use Rattle.laws.proofs.Lists.{allIn-head, allIn-tail, allIn-in, allIn-T, At, isIn-at}
 use Rattle.laws.proofs.PackedLists.{num2-lt, halves-one}
 use Rattle.packed.proofs.Records.{record-good}
 use Rattle.proper.specs.Places.{marksOn, linkRules, recordRules}
@@ -164,13 +165,40 @@ some-code (suc n) h l p = go (eqb (h % 4) 0) refl (some-code n (h / 4))
     go true e ih = let z : h % 4 ≡ 0 = eqb-true (h % 4) 0 e in omega (arith, ih (omega arith) (omega arith))
     go false e ih = omega (arith, eqb-false (h % 4) 0 e, halves-one n (h / 4))
 
-pub record-wide : (l : List ℕ) (p : ℕ) → Bytes l → T (recordOk l p) → 2 * p + 4 ≤ length l
+pub record-two : (l : List ℕ) (p : ℕ) → Bytes l → T (recordOk l p) → 2 ≤ widthAt l p
 unfolding recordOk
-record-wide l p b t =
+record-two l p b t =
     let h : 0 < headerAt l p = ltb→lt 0 (headerAt l p) (search (and-left, and-right)) in
-    omega (arith, record-inside l p t, some-code 8 (headerAt l p) (omega (arith, num2-lt (drop (2 * p) l) (bytes-drop (2 * p) l b))) h)
+    some-code 8 (headerAt l p) (omega (arith, num2-lt (drop (2 * p) l) (bytes-drop (2 * p) l b))) h
+
+pub record-wide : (l : List ℕ) (p : ℕ) → Bytes l → T (recordOk l p) → 2 * p + 4 ≤ length l
+record-wide l p b t = omega (arith, record-inside l p t, record-two l p b t)
 
 pub rules-all-whole : (u : ℕ) (m l ps : List ℕ) → T (allIn (recordRules u m l) ps) → T (allIn (recordOk l) ps)
 unfolding recordRules
 rules-all-whole u m l ps t =
     allIn-T (recordOk l) 0 ps (λ i h. and-left (recordOk l (getD ps i 0)) (allIn (linkRules u m) (linksAt l (getD ps i 0))) (allIn-in (recordRules u m l) 0 ps t i h))
+
+-- ---- what lies in a list
+
+pub allIn-isIn : (f : ℕ → Bool) (l : List ℕ) (x : ℕ) → T (allIn f l) → T (isIn x l) → T (f x)
+allIn-isIn f l x t i = let a : At x l = isIn-at x l i in subst (λ (y : ℕ). T (f y)) (a .is) (allIn-in f 0 l t (indexIn x l) (a .inside))
+
+starts-inside : (l : List ℕ) (n p q : ℕ) → q < length (startsFrom l n p) → 2 * getD (startsFrom l n p) q 0 < length l
+unfolding startsFrom
+starts-inside l zero p = λ q h. absurd (not-suc-le-zero h)
+starts-inside l (suc n) p = go (ltb (2 * p) (length l)) refl (starts-inside l n (p + halves 8 (headerAt l p)))
+  where
+    ss : List ℕ
+    ss = startsFrom l n (p + halves 8 (headerAt l p))
+
+    go : (b : Bool) → ltb (2 * p) (length l) ≡ b → ((q : ℕ) → q < length ss → 2 * getD ss q 0 < length l)
+        → (q : ℕ) → q < length (cond b (p ∷ ss) []) → 2 * getD (cond b (p ∷ ss) []) q 0 < length l
+    go false e ih q h = absurd (not-suc-le-zero h)
+    go true e ih zero h = ltb-true (2 * p) (length l) e
+    go true e ih (suc q) h = ih q (le-of-suc-le-suc h)
+
+pub in-inside : (l : List ℕ) (n q p : ℕ) → T (isIn p (startsFrom l n q)) → 2 * p < length l
+in-inside l n q p t =
+    let a : At p (startsFrom l n q) = isIn-at p (startsFrom l n q) t in
+    subst (λ (x : ℕ). 2 * x < length l) (a .is) (starts-inside l n q (indexIn p (startsFrom l n q)) (a .inside))

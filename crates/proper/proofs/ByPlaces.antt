@@ -27,7 +27,8 @@ use Rattle.laws.proofs.Matching.{LeafFits, selfAt, fits-at}
 use Rattle.laws.proofs.Masks.{marked, symmetries, mask-bit, mask-same, mask-odd}
 use Rattle.laws.proofs.PackedLists.{num4-lt, Fits, links-fit, halves-one, list-bytes, start-inside, start-small, link-some, graph-cells, record-cell, leaf-cell}
 use Rattle.laws.proofs.PackedWalk.{SoundLists, lists-of}
-use Rattle.proper.specs.Places.{unitAt, markOf, leavesMatch, linkMatch, selfBy, recordsMatch, leafMask, recordMask, marksAt, lowBy, linkRules, recordRules, apartIn, listRules, rootLow, namesPlace, timesNamed, popularAt, popularRules, rulesBy, packedBy}
+use Rattle.least.specs.Keys.{markOf}
+use Rattle.proper.specs.Places.{unitAt, leavesMatch, linkMatch, selfBy, recordsMatch, leafMask, recordMask, marksAt, lowBy, linkRules, recordRules, apartIn, listRules, rootLow, namesPlace, timesNamed, popularAt, popularRules, rulesBy, packedBy}
 use Rattle.proper.proofs.Marks.{zeros-read, marks-start, marks-other, list-length, tail-whole, tail-grows}
 
 -- ---- a record has eight links

@@ -17,8 +17,7 @@ use Rattle.laws.proofs.Lists.{getD-tabulate}
 use Rattle.proper.specs.Places.{marksOn, unitAt, leafMask, recordMask, leavesMatch, recordsMatch, recordRules, apartIn, marksAt, listRules}
 use Rattle.proper.specs.Phases.{placesIn, leavesIn, leavesRules, leafMarks, innerRules, recordMarks, marksTail, scratchAt, endAt, endIn, Listed}
 use Rattle.proper.proofs.Marks.{tail-inside, list-length, marksAt-length}
-use Rattle.proper.proofs.Along.{part-all}
-use Rattle.proper.proofs.Earlier.{in-inside}
+use Rattle.proper.proofs.Along.{part-all, in-inside}
 
 -- ---- a part cut out, and put back
 

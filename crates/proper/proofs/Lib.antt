@@ -3,7 +3,9 @@ pub mod ByPlaces
 pub mod Loops
 pub mod Linking
 pub mod Along
-pub mod Earlier
+pub mod Keyed
+pub mod Groups
+pub mod Slotted
 pub mod Checking
 pub mod InFile
 pub mod PopularPlaces

@@ -10,7 +10,8 @@ use lib.Dec.{eqb, ltb}
 use mathlib.Core.List.{List}
 use Rattle.paper.specs.Numbers.{allBelow}
 use Rattle.paper.specs.Packed.{Link, codeFor}
-use Rattle.proper.specs.Places.{markOf, linkMatch, lowBy, linkRules}
+use Rattle.least.specs.Keys.{markOf}
+use Rattle.proper.specs.Places.{linkMatch, lowBy, linkRules}
 
 -- ---- the rules of a pointer
 

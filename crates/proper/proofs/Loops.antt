@@ -4,7 +4,7 @@ use mathlib.Core.Path.{_≡_, refl, sym, _∙_, ap, ap₂}
 use mathlib.Core.Bool.{Bool, true, false, false≢true, cond, not, _&&_}
 use mathlib.Core.List.{List, [], _∷_}
 use Prim.Native.Nat.{ℕ, zero, suc, _+_, _-_, _*_, _^_, _<_, _≤_}
-use native.Mathlib.Nat.{le-antisymm, mul-le-mul-right}
+use native.Mathlib.Nat.{le-antisymm}
 use native.Mathlib.Numerals.{add-one}
 use native.Mathlib.Omega.{arith}
 use lib.Bits.{bitXor}
@@ -101,11 +101,6 @@ leaves-alike-is match n =
 pub mask-is : (p : ℕ → Bool) (m : ℕ) → m ≡ gather 0 (8 - 0) (λ t. bitFor (p t)) → m ≡ maskFor p
 unfolding maskFor
 mask-is p m e = e
-
--- ---- places in bytes
-
-pub place-fits : (u p : ℕ) → u ≤ 8 → p < 2 ^ 32 → u * p < 2 ^ 36
-place-fits u p hu hp = let h : u * p ≤ 8 * p = mul-le-mul-right p hu in omega (arith, h)
 
 -- ---- two tests one after the other
 

@@ -17,20 +17,16 @@ use Rattle.laws.proofs.Tests.{and-left, and-right, and-T, all-at}
 use Rattle.laws.proofs.Lists.{allIn-head, allIn-tail, allIn-at, allIn-in, allIn-T, At, isIn-at, isIn-getD, length-count, getD-count}
 use Rattle.laws.proofs.Bytes.{bytes-drop}
 use Rattle.laws.proofs.PackedLists.{num2-lt, list-bytes}
-use Rattle.proper.specs.Places.{unitAt, markOf, marksAt, lowBy, linkRules, recordRules, apartIn, recordsMatch, listRules, popularAt, popularRules}
+use Rattle.least.specs.Keys.{markOf}
+use Rattle.proper.specs.Places.{unitAt, marksAt, lowBy, linkRules, recordRules, apartIn, recordsMatch, listRules, popularAt, popularRules}
 use Rattle.proper.specs.Phases.{countOf, countRecords, linkFits, countable, countsFall}
 use Rattle.proper.proofs.Marks.{tail-inside, list-length}
 use Rattle.proper.proofs.ByPlaces.{starts-late, mark-start}
-use Rattle.proper.proofs.Along.{some-code, record-wide, rules-all-whole}
+use Rattle.proper.proofs.Along.{record-two, record-wide, rules-all-whole}
 use Rattle.proper.proofs.PopularCounts.{Roomy, Lands, counted, times-few}
 use Rattle.proper.proofs.PopularFalls.{falls-rules, falling-same}
 
 -- ---- the starts of an inner list
-
-record-two : (l : List ℕ) (p : ℕ) → Bytes l → T (recordOk l p) → 2 ≤ halves 8 (headerAt l p)
-unfolding recordOk
-record-two l p b t =
-    some-code 8 (headerAt l p) (omega (arith, num2-lt (drop (2 * p) l) (bytes-drop (2 * p) l b))) (ltb→lt 0 (headerAt l p) (search (and-left, and-right)))
 
 -- one of a list is its first, or one of the others
 is-one : (x p : ℕ) (ps : List ℕ) → T (isIn x (p ∷ ps)) → (p ≡ x) ⊎ T (isIn x ps)

@@ -7,9 +7,11 @@ use Prim.Native.Nat.{ℕ, zero, suc, _+_, _-_, _*_, _/_, _%_, _^_, _≤_, _<_}
 use lib.Dec.{T, eqb, leb, ltb}
 use lib.ListN.{length, take, drop, getD, replicate}
 use Rattle.paper.specs.Numbers.{anyBelow, allIn, num, bytes, count}
-use Rattle.paper.specs.Packed.{topOf, isEmpty, startAt, listAt, headerAt, halves, Link, noLink, linksAt, recordOk, leafOk, startsFrom, startsOf}
+use Rattle.paper.specs.Store.{leafNo}
+use Rattle.paper.specs.Packed.{topOf, isEmpty, startAt, listAt, headerAt, halves, Link, noLink, linksAt, leafAt, recordOk, leafOk, startsFrom, startsOf}
 use Rattle.numbers.specs.Laid.{laid}
 use Rattle.packed.specs.Header.{Opens}
+use Rattle.least.specs.Keys.{markOf, Group, leafKey}
 use Rattle.proper.specs.Places.{marksOn, unitAt, leavesMatch, recordsMatch, leafMask, recordMask, marksAt, recordRules, apartIn}
 
 -- ---- the places of a list of bytes
@@ -27,17 +29,11 @@ abbrev pub startsIn : ℕ → List ℕ → List ℕ
 startsIn zero l = leavesIn l
 startsIn (suc k) l = placesIn l
 
--- the starts before place p, from q on
-unfoldable pub startsTo : List ℕ → ℕ → ℕ → ℕ → List ℕ
-startsTo l zero q p = []
-startsTo l (suc n) q p = let r = q ∷ startsTo l n (q + halves 8 (headerAt l q)) p in cond (ltb q p) r []
-
 -- ---- phase 1: a list tested, and its marks written
 
--- one of the records at these places matches that at p, under some mirror
-unfoldable pub alikeIn : (ℕ → ℕ → ℕ → Bool) → ℕ → List ℕ → Bool
-alikeIn match p [] = false
-alikeIn match p (q ∷ qs) = let r = alikeIn match p qs in cond (anyBelow 8 (match p q)) true r
+-- the key of the leaf at place p
+abbrev pub leafKeyAt : List ℕ → ℕ → ℕ
+leafKeyAt l p = leafKey (leafNo (leafAt l p))
 
 -- a list of leaves
 unfoldable pub leavesRules : List ℕ → Bool
@@ -52,6 +48,10 @@ innerRules u m l = allIn (recordRules u m l) (placesIn l) && apartIn (recordsMat
 
 abbrev pub recordMarks : ℕ → List ℕ → List ℕ → List ℕ → List ℕ
 recordMarks u m l z = marksOn (recordMask u m l) 2 (placesIn l) z
+
+-- every mark is a group of mirrors; u the bytes that a place counts
+abbrev pub Grouped : ℕ → List ℕ → Type 0
+Grouped u m = (x : ℕ) → (markOf u m x ≡ 0 → ⊥) → Group (markOf u m x)
 
 -- the scratch when n lists are marked, from the leaves up: scratch position = file position
 unfoldable pub marksTail : List ℕ → ℕ → List ℕ

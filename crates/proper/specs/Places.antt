@@ -12,6 +12,7 @@ use Rattle.paper.specs.Leaf.{mirrorLeaf}
 use Rattle.paper.specs.Store.{leafNo}
 use Rattle.paper.specs.Packed.{topOf, rootTag, isEmpty, listAt, Link, noLink, linksAt, leafAt, recordOk, leafOk, codeFor, placesAt, topOk, headOk}
 use Rattle.laws.proofs.Masks.{maskFor, marked}
+use Rattle.least.specs.Keys.{markOf}
 
 -- ---- the marks of a list: f p at the first byte of each record, place p counting u bytes
 
@@ -23,10 +24,6 @@ marksOn f u (p ∷ ps) z = marksOn f u ps (set z (u * p) (f p))
 abbrev pub unitAt : ℕ → ℕ
 unitAt zero = 8
 unitAt (suc k) = 2
-
--- the mark of place x, 0 where no record starts
-abbrev pub markOf : ℕ → List ℕ → ℕ → ℕ
-markOf u m x = getD m (u * x) 0
 
 -- ---- matching. l: the bytes of a list; m: the marks one list down, u the bytes that a place counts there
 

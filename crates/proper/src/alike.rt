@@ -4,23 +4,42 @@ ghost use mathlib.Core.Bool.{not};
 ghost use Prim.Native.Nat.{_+_, _*_, _/_, _%_, _^_, _≤_, _<_};
 ghost use lib.Dec.{T, eqb};
 ghost use lib.ListN.{length, take, drop, replicate};
-ghost use Rattle.paper.specs.Numbers.{allIn, isIn, anyBelow, bitFor};
+ghost use mathlib.Core.List.{map};
+ghost use Rattle.paper.specs.Numbers.{allIn, bitFor};
 ghost use Rattle.paper.specs.Leaf.{mirrorLeaf};
 ghost use Rattle.paper.specs.Packed.{recordOk, leafOk};
 ghost use Rattle.laws.proofs.Masks.{maskFor};
 ghost use Rattle.packed.specs.Records.{linkIs};
-ghost use Rattle.proper.specs.Places.{selfBy, leavesMatch, linkMatch, recordsMatch, recordMask, apartIn};
-ghost use Rattle.proper.specs.Phases.{placesIn, leavesIn, startsTo, alikeIn};
+ghost use Rattle.sorted.specs.Slots.{slotsOf};
+ghost use Rattle.proper.specs.Places.{selfBy, leavesMatch, linkMatch, recordsMatch, recordMask, recordRules, apartIn};
+ghost use Rattle.proper.specs.Phases.{placesIn, leavesIn, leafKeyAt, Grouped};
 use crate::records::CHILDREN;
 use crate::records::HALF;
 use crate::records::LEAF_UNIT;
 use crate::records::MIRRORS;
-use crate::records::mark;
 use crate::records::width;
 use leaf::mirror_leaf;
+use least::least_leaf;
+use least::mark;
+use numbers::put_number;
 use packed::Pointer;
 use packed::leaf;
 use packed::pointer_at;
+use sorted::two_equal;
+
+// The bytes of a slot that holds a place.
+const SLOT: usize = 4;
+
+// All bytes zero.
+pub fn clear(scratch: &mut [u8])
+    ensures { λ _. ⌜ now (scratch .exit) ≡ replicate (length (now (scratch .entry))) 0 ⌝ }
+{
+    let mut i = 0usize;
+    while i < scratch.len() {
+        scratch[i] = 0;
+        i += 1;
+    }
+}
 
 // ---- leaves
 
@@ -44,52 +63,34 @@ fn same_leaf(a: u64, b: u64) -> u8
     if a == b { 1 } else { 0 }
 }
 
-// Whether leaf a matches leaf b under some mirror.
-fn leaves_alike(a: u64, b: u64) -> bool
-    ensures { λ r. ⌜ r ≡ anyBelow 8 (λ t. eqb a (mirrorLeaf t b)) ⌝ }
-{
-    let mut mirror = 0u32;
-    while mirror < MIRRORS {
-        if a == mirror_leaf(b, mirror) {
-            return true;
-        }
-        mirror += 1;
-    }
-    false
-}
-
-// Whether an earlier leaf matches that at a place.
-fn leaf_before(leaves: &[u8], place: u32) -> bool
+// Lays the leaves' keys over their share.
+fn lay_keys(leaves: &[u8], share: &mut [u8])
     requires { ⌜ length (now leaves) % 8 ≡ 0 ⌝ }
-    ensures { λ r. ⌜ r ≡ anyBelow place (λ q. anyBelow 8 (leavesMatch (now (leaves .entry)) place q)) ⌝ }
+    requires { ⌜ length (now leaves) < 2 ^ 32 ⌝ }
+    requires { ⌜ length (now share) ≡ length (now leaves) ⌝ }
+    ensures { λ _. ⌜ (slotsOf 8 (length (now (leaves .entry)) / 8) (now (share .exit)) ≡ map (leafKeyAt (now (leaves .entry))) (leavesIn (now (leaves .entry)))) × (length (now (share .exit)) ≡ length (now (share .entry))) ⌝ }
 {
-    let this = leaf(leaves, place);
-    let mut other = 0u32;
-    while other < place {
-        if leaves_alike(this, leaf(leaves, other)) {
-            return true;
-        }
-        other += 1;
+    let count = (leaves.len() / LEAF_UNIT) as u32;
+    let mut place = 0u32;
+    while place < count {
+        let key = least_leaf(leaf(leaves, place));
+        put_number(share, LEAF_UNIT * (place as usize), LEAF_UNIT, key);
+        place += 1;
     }
-    false
 }
 
-// Whether two of the leaves match. The share is lent for the work, and is left as it was.
+// Whether two of the leaves match: their keys are sorted in the share, which is lent for the work and left as it was.
 pub fn two_leaves_match(leaves: &[u8], share: &mut [u8]) -> bool
     requires { ⌜ length (now leaves) % 8 ≡ 0 ⌝ }
     requires { ⌜ length (now leaves) < 2 ^ 32 ⌝ }
     requires { ⌜ now share ≡ replicate (length (now leaves)) 0 ⌝ }
     ensures { λ r. ⌜ (r ≡ not (apartIn (leavesMatch (now (leaves .entry))) (leavesIn (now (leaves .entry))))) × (now (share .exit) ≡ now (share .entry)) ⌝ }
 {
-    let count = (leaves.len() / LEAF_UNIT) as u32;
-    let mut place = 0u32;
-    while place < count {
-        if leaf_before(leaves, place) {
-            return true;
-        }
-        place += 1;
-    }
-    false
+    let count = leaves.len() / LEAF_UNIT;
+    lay_keys(leaves, share);
+    let found = two_equal(leaves, share, LEAF_UNIT, LEAF_UNIT, count);
+    clear(share);
+    found
 }
 
 // ---- records
@@ -159,55 +160,36 @@ fn bit_for(test: bool) -> u8
     if test { 1 } else { 0 }
 }
 
-// Whether the record at a place matches another under some mirror.
-fn records_alike(list: &[u8], place: u32, other: u32, marks: &[u8], unit: usize) -> bool
-    requires { ⌜ T (recordOk (now list) place) × T (recordOk (now list) other) ⌝ }
-    requires { ⌜ unit ≤ 8 ⌝ }
-    ensures { λ r. ⌜ r ≡ anyBelow 8 (recordsMatch unit (now (marks .entry)) (now (list .entry)) place other) ⌝ }
-{
-    let mut mirror = 0u32;
-    while mirror < MIRRORS {
-        if records_match(list, place, other, marks, unit, mirror) {
-            return true;
-        }
-        mirror += 1;
-    }
-    false
-}
-
-// Whether an earlier record matches that at a place.
-fn record_before(list: &[u8], place: u32, marks: &[u8], unit: usize) -> bool
-    requires { ⌜ T (allIn (recordOk (now list)) (placesIn (now list))) × T (isIn place (placesIn (now list))) ⌝ }
-    requires { ⌜ (length (now list) % 2 ≡ 0) × (length (now list) < 2 ^ 32) ⌝ }
-    requires { ⌜ unit ≤ 8 ⌝ }
-    ensures { λ r. ⌜ r ≡ alikeIn (recordsMatch unit (now (marks .entry)) (now (list .entry))) place (startsTo (now (list .entry)) (length (now (list .entry)) / 2) 0 place) ⌝ }
-{
-    let mut other = 0u32;
-    while other < place {
-        if records_alike(list, place, other, marks, unit) {
-            return true;
-        }
-        other += width(list, other);
-    }
-    false
-}
-
-// Whether two of the records match. `shares` has the list's own share, lent for the work and left as it was, and after it
-// the marks one list down.
-pub fn two_match(list: &[u8], shares: &mut [u8], unit: usize) -> bool
+// Lays the records' places over the list's own share, and answers how many they are.
+fn lay_places(list: &[u8], shares: &mut [u8]) -> usize
     requires { ⌜ T (allIn (recordOk (now list)) (placesIn (now list))) ⌝ }
+    requires { ⌜ (length (now list) % 2 ≡ 0) × (length (now list) < 2 ^ 32) ⌝ }
+    requires { ⌜ length (now list) ≤ length (now shares) ⌝ }
+    ensures { λ r. ⌜ (slotsOf 4 r (now (shares .exit)) ≡ placesIn (now (list .entry))) × (4 * r ≤ length (now (list .entry))) × (drop (length (now (list .entry))) (now (shares .exit)) ≡ drop (length (now (list .entry))) (now (shares .entry))) × (length (now (shares .exit)) ≡ length (now (shares .entry))) ⌝ }
+{
+    let mut count = 0usize;
+    let mut place = 0u32;
+    while HALF * (place as usize) < list.len() {
+        put_number(shares, SLOT * count, SLOT, place as u64);
+        count += 1;
+        place += width(list, place);
+    }
+    count
+}
+
+// Whether two of the records match: their places are sorted by the records' keys. `shares` has the list's own share, lent
+// for the work and left as it was, and after it the marks one list down.
+pub fn two_match(list: &[u8], shares: &mut [u8], unit: usize) -> bool
+    requires { ⌜ T (allIn (recordRules unit (drop (length (now list)) (now shares)) (now list)) (placesIn (now list))) ⌝ }
+    requires { ⌜ Grouped unit (drop (length (now list)) (now shares)) ⌝ }
     requires { ⌜ (length (now list) % 2 ≡ 0) × (length (now list) < 2 ^ 32) ⌝ }
     requires { ⌜ (length (now list) ≤ length (now shares)) × (take (length (now list)) (now shares) ≡ replicate (length (now list)) 0) ⌝ }
     requires { ⌜ unit ≤ 8 ⌝ }
     ensures { λ r. ⌜ (r ≡ not (apartIn (recordsMatch unit (drop (length (now (list .entry))) (now (shares .entry))) (now (list .entry))) (placesIn (now (list .entry))))) × (now (shares .exit) ≡ now (shares .entry)) ⌝ }
 {
     let own = list.len();
-    let mut place = 0u32;
-    while HALF * (place as usize) < list.len() {
-        if record_before(list, place, &shares[own..], unit) {
-            return true;
-        }
-        place += width(list, place);
-    }
-    false
+    let count = lay_places(list, shares);
+    let found = two_equal(list, shares, unit, SLOT, count);
+    clear(&mut shares[0..own]);
+    found
 }

@@ -12,6 +12,7 @@ ghost use Rattle.paper.specs.Calls.{checkOutcome};
 ghost use Rattle.packed.specs.Header.{Tested, Opens};
 ghost use Rattle.proper.specs.Places.{listRules, rootLow, rulesBy, packedBy};
 ghost use Rattle.proper.specs.Phases.{scratchAt, Listed};
+use crate::alike::clear;
 use crate::lists::list_end;
 use crate::lists::lists_bad;
 use crate::popular::popular_lists_bad;
@@ -35,17 +36,6 @@ const FRONT: u8 = 0x21;
 const HEAD: usize = 7;
 
 const EMPTY_MARK: u8 = 8;
-
-// All bytes zero.
-fn clear(scratch: &mut [u8])
-    ensures { λ _. ⌜ now (scratch .exit) ≡ replicate (length (now (scratch .entry))) 0 ⌝ }
-{
-    let mut i = 0usize;
-    while i < scratch.len() {
-        scratch[i] = 0;
-        i += 1;
-    }
-}
 
 // Whether the top list has not exactly one record.
 fn top_bad(file: &[u8], starts: [u32; 15], top: u32) -> bool

@@ -7,7 +7,7 @@ ghost use lib.ListN.{length, take, drop, replicate};
 ghost use Rattle.paper.specs.Numbers.{allIn, allBelow};
 ghost use Rattle.paper.specs.Packed.{topOf, startAt, recordOk, leafOk};
 ghost use Rattle.proper.specs.Places.{unitAt, recordRules, listRules};
-ghost use Rattle.proper.specs.Phases.{endIn, placesIn, leavesIn, leavesRules, leafMarks, innerRules, recordMarks, scratchAt, Listed};
+ghost use Rattle.proper.specs.Phases.{endIn, placesIn, leavesIn, leavesRules, leafMarks, innerRules, recordMarks, Grouped, scratchAt, Listed};
 use crate::alike::leaf_mask;
 use crate::alike::record_mask;
 use crate::alike::two_leaves_match;
@@ -113,6 +113,7 @@ fn inner_list_bad(list: &[u8], shares: &mut [u8], unit: usize) -> bool
     requires { ⌜ (length (now list) % 2 ≡ 0) × (length (now list) < 2 ^ 32) ⌝ }
     requires { ⌜ length (now list) ≤ length (now shares) ⌝ }
     requires { ⌜ take (length (now list)) (now shares) ≡ replicate (length (now list)) 0 ⌝ }
+    requires { ⌜ Grouped unit (drop (length (now list)) (now shares)) ⌝ }
     requires { ⌜ unit ≤ 8 ⌝ }
     ensures { λ r. ⌜ (r ≡ not (innerRules unit (drop (length (now (list .entry))) (now (shares .entry))) (now (list .entry)))) × (now (shares .exit) ≡ cond r (now (shares .entry)) (recordMarks unit (drop (length (now (list .entry))) (now (shares .entry))) (now (list .entry)) (now (shares .entry)))) ⌝ }
 {
@@ -151,6 +152,7 @@ pub fn unit_of(k: u32) -> usize
 fn list_bad(file: &[u8], scratch: &mut [u8], starts: [u32; 15], k: u32) -> bool
     requires { ⌜ Listed (now file) starts ⌝ }
     requires { ⌜ k ≤ topOf (now file) ⌝ }
+    requires { ⌜ T (allBelow k (listRules (now file))) ⌝ }
     requires { ⌜ now scratch ≡ scratchAt (now file) k ⌝ }
     ensures { λ r. ⌜ (r ≡ not (listRules (now (file .entry)) k)) × (now (scratch .exit) ≡ cond r (now (scratch .entry)) (scratchAt (now (file .entry)) (suc k))) ⌝ }
 {

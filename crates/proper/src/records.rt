@@ -7,7 +7,8 @@ ghost use lib.ListN.{length};
 ghost use Rattle.paper.specs.Numbers.{allIn};
 ghost use Rattle.paper.specs.Packed.{headerAt, halves, codeFor, linksAt, recordOk};
 ghost use Rattle.packed.specs.Records.{linkIs};
-ghost use Rattle.proper.specs.Places.{markOf, lowBy, linkRules};
+ghost use Rattle.proper.specs.Places.{lowBy, linkRules};
+use least::mark;
 use numbers::wide;
 use packed::Pointer;
 use packed::pointer_at;
@@ -40,18 +41,6 @@ pub fn width(list: &[u8], place: u32) -> u32
         left -= 1;
     }
     sum
-}
-
-// The mark of a place, 0 where none is.
-pub fn mark(marks: &[u8], unit: usize, place: u32) -> u32
-    requires { ⌜ unit ≤ 8 ⌝ }
-    ensures { λ r. ⌜ (r ≡ markOf unit (now (marks .entry)) place) × (r < 256) ⌝ }
-{
-    let at = unit * (place as usize);
-    if marks.len() <= at {
-        return 0;
-    }
-    wide(marks[at])
 }
 
 // Whether a lower tag has the same meaning, for a record with this mask.

@@ -1,61 +1,42 @@
--- `two_leaves_match` meets its contract. The invariant: no leaf before `place` matches an earlier one. Assumes nothing.
-use mathlib.Core.Path.{_≡_, refl, sym, _∙_}
-use mathlib.Core.Bool.{Bool, false}
+-- `two_leaves_match` meets its contract: the keys laid are equal exactly where two leaves match, and the share is zero again. Assumes nothing.
+use mathlib.Core.Path.{_≡_, refl, sym, _∙_, ap}
 use mathlib.Core.List.{List}
-use Prim.Native.Nat.{ℕ, _≤_, _-_, _/_}
+use mathlib.Core.Logic.{inl, inr}
+use Prim.Native.Nat.{ℕ, _≤_, _*_, _/_}
 use native.Mathlib.Omega.{arith}
-use lib.ListN.{length}
+use lib.ListN.{length, drop, replicate, length-replicate}
 use borrow.Author.Needs.{needs}
-use Rattle.paper.specs.Numbers.{anyBelow}
-use Rattle.laws.proofs.Tests.{at-any}
-use Rattle.proper.specs.Places.{leavesMatch}
-use Rattle.proper.proofs.Loops.{any-more, any-end, leaves-alike-is}
+use Rattle.paper.specs.Runs.{Bytes}
+use Rattle.sorted.specs.Slots.{slotsOf}
+use Rattle.proper.proofs.Slotted.{leaves-elements, leaves-tell}
 use Rattle.proper.proofs.alike.two_leaves_match.Statement.{statement}
 use Rattle.proper.proofs.alike.two_leaves_match.Tie as tie
 
--- leaf q matches an earlier one
-abbrev again : List ℕ → ℕ → Bool
-again leaves q = anyBelow q (λ r. anyBelow 8 (leavesMatch leaves q r))
+-- the share is as long as the leaves
+long : (s : tie.Start) → length (s .args .share .now) ≡ length (s .args .leaves .now)
+long s = ap length (s .pre .1 .1) ∙ length-replicate (length (s .args .leaves .now)) 0
 
-abbrev Inv-loop : tie.InvT-loop
-Inv-loop leaves share count place₀ place = (place ≤ length leaves / 8) × (anyBelow place (again leaves) ≡ false)
+lay-keys-requires : tie.Need-lay-keys-requires
+lay-keys-requires c κs = let s = c .before .before .before in (s .pre .0, (s .pre .1 .0, long s))
 
-abbrev μ-loop : tie.MeasureT-loop
-μ-loop leaves share count place₀ place = length leaves / 8 - place
+two-equal-requires : tie.Need-two-equal-requires
+two-equal-requires c κs =
+    let s = c .before .before .before .before .before .before .before in
+    let k = c .before .before .before .lay-keys in
+    let leaves : List ℕ = s .args .leaves .now in
+    let same : length (k .last .1 .0) ≡ length leaves = k .ensures .1 ∙ long s in
+    ((inr refl, omega arith), ((omega arith, omega (arith, same), s .pre .1 .0), leaves-elements leaves (slotsOf 8 (length leaves / 8) (k .last .1 .0))))
 
-cast-count : tie.Need-cast-count Inv-loop μ-loop
-cast-count c = omega (arith, c .before .before .pre .1 .0)
-
-loop-holds : tie.Need-loop-holds Inv-loop μ-loop
-loop-holds c = (omega arith, refl)
-
-leaf-before-requires : tie.Need-leaf-before-requires Inv-loop μ-loop
-leaf-before-requires c κs = c .before .before .before .before .pre .0
-
-returns : tie.Need-returns Inv-loop μ-loop
+returns : tie.Need-returns
 returns c =
-    let a = c .before .before .before .before .before .before .args in
-    let l = c .before .before .before .loop in (
-      sym (leaves-alike-is (leavesMatch (a .leaves .now)) (length (a .leaves .now) / 8)
-          ∙ at-any (length (a .leaves .now) / 8) (again (a .leaves .now)) (l .place) (c .before .before .loop-test .taken) (sym (c .before .leaf-before .ensures) ∙ c .if1 .taken)),
-      refl,
-    )
-
-loop-again : tie.Need-loop-again Inv-loop μ-loop
-loop-again c =
-    let a = c .before .before .before .before .before .before .args in
-    let l = c .before .before .before .loop in
-    (omega arith, any-more (l .place) (again (a .leaves .now)) (l .inv .1) (sym (c .before .leaf-before .ensures) ∙ c .if1 .left))
-
-returns-2 : tie.Need-returns-2 Inv-loop μ-loop
-returns-2 c =
-    let a = c .before .before .before .before .args in
-    let l = c .before .loop in (
-      sym (leaves-alike-is (leavesMatch (a .leaves .now)) (length (a .leaves .now) / 8)
-          ∙ any-end (l .place) (length (a .leaves .now) / 8) (again (a .leaves .now)) (l .inv .0) (c .loop-test .left) (l .inv .1)),
-      refl,
+    let s = c .before .before .before .before .before .before .before .before .before .before .before .before .before .before in
+    let k = c .before .before .before .before .before .before .before .before .before .before .lay-keys in
+    let t = c .before .before .before .before .before .before .two-equal in
+    let leaves : List ℕ = s .args .leaves .now in
+    let by : Bytes leaves = λ i. omega (arith, c .before .before .before .before .before .before .before .before .before .before .before .before .before .shared-slice-known .given i) in (
+      t .ensures .0 ∙ leaves-tell leaves by 8 (drop (length leaves) (k .last .1 .0)) (slotsOf 8 (length leaves / 8) (k .last .1 .0)) (k .ensures .0),
+      c .before .before .clear .ensures ∙ ap (λ (n : ℕ). replicate n 0) (t .ensures .2 ∙ k .ensures .1 ∙ long s) ∙ sym (s .pre .1 .1),
     )
 
 pub two-leaves-match-spec : {M : Type 1} → statement M
-two-leaves-match-spec =
-    tie.close (tie.spec Inv-loop μ-loop cast-count loop-holds leaf-before-requires returns (λ c. search needs) (λ c. search needs) loop-again returns-2)
+two-leaves-match-spec = tie.close (tie.spec lay-keys-requires two-equal-requires (λ c κs. search needs) (λ c. search needs) returns)

@@ -27,7 +27,7 @@ abbrev apart : List ℕ → List ℕ → ℕ → Bool
 apart list shares unit = apartIn (recordsMatch unit (drop (length list) shares) list) (placesIn list)
 
 records-bad-requires : tie.Need-records-bad-requires
-records-bad-requires c κs = (c .before .before .before .before .pre .0, c .before .before .before .before .pre .1 .1 .1)
+records-bad-requires c κs = (c .before .before .before .before .pre .0, c .before .before .before .before .pre .1 .1 .1 .1)
 
 -- what the first call answers
 first : (c : tie.After-records-bad)
@@ -43,17 +43,23 @@ returns c =
     let a = c .before .before .before .before .before .before .args in
     (bad-first (rules (a .list .now) (a .shares .now) (a .unit)) (apart (a .list .now) (a .shares .now) (a .unit)) (c .before .records-bad .result) (first (c .before)) (c .if1 .taken), refl)
 
+-- where it finds nothing the records keep their rules, so each is whole
+kept : (c : tie.After-records-bad) → c .records-bad .result ≡ false
+    → let s = c .before .before .before .before .before in T (rules (s .args .list .now) (s .args .shares .now) (s .args .unit))
+kept c e =
+    let a = c .before .before .before .before .before .args in
+    true-T (not-false (rules (a .list .now) (a .shares .now) (a .unit)) (sym (first c) ∙ e))
+
 whole : (c : tie.After-records-bad) → c .records-bad .result ≡ false
     → let s = c .before .before .before .before .before in T (allIn (recordOk (s .args .list .now)) (placesIn (s .args .list .now)))
 whole c e =
     let a = c .before .before .before .before .before .args in
-    rules-all-whole (a .unit) (drop (length (a .list .now)) (a .shares .now)) (a .list .now) (placesIn (a .list .now))
-    (true-T (not-false (rules (a .list .now) (a .shares .now) (a .unit)) (sym (first c) ∙ e)))
+    rules-all-whole (a .unit) (drop (length (a .list .now)) (a .shares .now)) (a .list .now) (placesIn (a .list .now)) (kept c e)
 
 two-match-requires : tie.Need-two-match-requires
 two-match-requires c κs =
     let s = c .before .before .before .before .before .before .before in
-    (whole (c .before .before) (c .before .if1 .left), (s .pre .0, ((s .pre .1 .0, s .pre .1 .1 .0), s .pre .1 .1 .1)))
+    (kept (c .before .before) (c .before .if1 .left), (s .pre .1 .1 .1 .0, (s .pre .0, ((s .pre .1 .0, s .pre .1 .1 .0), s .pre .1 .1 .1 .1))))
 
 same-length-2 : tie.Need-same-length-2
 same-length-2 c = ap length (c .before .before .before .two-match .ensures .1)
@@ -73,7 +79,7 @@ mark-records-requires : tie.Need-mark-records-requires
 mark-records-requires c κs =
     let s = c .before .before .before .before .before .before .before .before .before .before .before .before in (
       whole (c .before .before .before .before .before .before .before) (c .before .before .before .before .before .before .if1 .left),
-      (s .pre .0, (subst (λ (n : ℕ). length (s .args .list .now) ≤ n) (sym (ap length (c .before .before .before .before .two-match .ensures .1))) (s .pre .1 .0), s .pre .1 .1 .1)),
+      (s .pre .0, (subst (λ (n : ℕ). length (s .args .list .now) ≤ n) (sym (ap length (c .before .before .before .before .two-match .ensures .1))) (s .pre .1 .0), s .pre .1 .1 .1 .1)),
     )
 
 same-length-3 : tie.Need-same-length-3

@@ -4,11 +4,15 @@ use mathlib.Core.Bool.{cond, not}
 use mathlib.Core.List.{List}
 use Prim.Native.Nat.{ℕ, suc, _-_, _≤_, _<_, _%_, _^_}
 use native.Mathlib.Omega.{arith}
+use lib.Dec.{T}
 use lib.ListN.{length, getD, take, drop, replicate}
 use borrow.Author.Needs.{needs}
+use Rattle.paper.specs.Numbers.{allBelow}
 use Rattle.paper.specs.Packed.{startAt, listAt}
+use Rattle.paper.specs.Runs.{Bytes}
 use Rattle.proper.specs.Places.{unitAt, marksAt, listRules}
-use Rattle.proper.specs.Phases.{leavesRules, leafMarks, innerRules, recordMarks, endAt}
+use Rattle.proper.specs.Phases.{leavesRules, leafMarks, innerRules, recordMarks, Grouped, endAt}
+use Rattle.proper.proofs.Groups.{marks-grouped}
 use Rattle.proper.proofs.InFile.{start-is, end-is, list-in, end-in, eights, list-short, LeafCut, leaf-cut, InnerCut, inner-cut, evens, rules-inner, scratch-length, shares-long, shares-own, shares-marks}
 use Rattle.proper.proofs.lists.list_bad.Statement.{statement}
 use Rattle.proper.proofs.lists.list_bad.Tie as tie
@@ -37,14 +41,14 @@ reach c =
 
 -- the scratch is as long as the file
 long : (s : tie.Start) → length (s .args .scratch .now) ≡ length (s .args .file .now)
-long s = ap length (s .pre .1 .1) ∙ scratch-length (s .args .file .now) (s .args .t3) (s .pre .0) (s .args .k) (omega (arith, s .pre .1 .0))
+long s = ap length (s .pre .1 .1 .1) ∙ scratch-length (s .args .file .now) (s .args .t3) (s .pre .0) (s .args .k) (omega (arith, s .pre .1 .0))
 
 -- the leaves, as they are cut
 leaves : (c : tie.After-list-end) → c .before .before .before .args .k ≡ 0
     → let s = c .before .before .before in LeafCut (s .args .file .now) (s .args .t3) (s .pre .0) (s .args .k) (getD (s .args .t3) (s .args .k) 0) (c .list-end .result) (s .args .scratch .now)
 leaves c e =
     let s = c .before .before .before in
-    leaf-cut (s .args .file .now) (s .args .t3) (s .pre .0) (s .args .k) (getD (s .args .t3) (s .args .k) 0) (c .list-end .result) (s .args .scratch .now) e (first s) (last c) (s .pre .1 .1)
+    leaf-cut (s .args .file .now) (s .args .t3) (s .pre .0) (s .args .k) (getD (s .args .t3) (s .args .k) 0) (c .list-end .result) (s .args .scratch .now) e (first s) (last c) (s .pre .1 .1 .1)
 
 leaf-list-bad-requires : tie.Need-leaf-list-bad-requires
 leaf-list-bad-requires c κs =
@@ -74,7 +78,7 @@ inner c =
     let s = e .before .before .before in
     inner-cut (s .args .file .now) (s .args .t3) (s .pre .0) (s .args .k) (getD (s .args .t3) (s .args .k) 0) (e .list-end .result) (c .list-end2 .result) (s .args .scratch .now)
     (c .before .if1 .left) (s .pre .1 .0) (first s) (last e)
-    (c .list-end2 .ensures ∙ end-is (s .args .file .now) (s .args .t3) (s .pre .0) (s .args .k - 1) (omega (arith, s .pre .1 .0))) (s .pre .1 .1)
+    (c .list-end2 .ensures ∙ end-is (s .args .file .now) (s .args .t3) (s .pre .0) (s .args .k - 1) (omega (arith, s .pre .1 .0))) (s .pre .1 .1 .1)
 
 -- where the shares end
 bound : (c : tie.After-list-end2) → let s = c .before .before .before .before .before .before in
@@ -91,13 +95,21 @@ inner-list-bad-requires c κs =
     let f : List ℕ = s .args .file .now in
     let cut = inner e in
     let j : ℕ = cut .j in
-    let M : List ℕ = take (e .list-end2 .result - getD (s .args .t3) (s .args .k) 0) (drop (getD (s .args .t3) (s .args .k) 0) (s .args .scratch .now)) in (
+    let a : ℕ = getD (s .args .t3) (s .args .k) 0 in
+    let L : List ℕ = take (e .before .before .before .list-end .result - a) (drop a f) in
+    let M : List ℕ = take (e .list-end2 .result - a) (drop a (s .args .scratch .now)) in
+    let by : Bytes f = λ i. omega (arith, e .before .before .before .before .before .shared-slice-known .given i) in
+    let eu : c .unit-of .result ≡ unitAt j = c .unit-of .ensures .0 ∙ ap unitAt (cut .below) in
+    let em : drop (length L) M ≡ marksAt f j = ap₂ (λ (x y : List ℕ). drop (length x) y) (cut .list) (cut .share) ∙ shares-marks f (s .args .t3) (s .pre .0) j (cut .in-top) in (
       subst (λ (L : List ℕ). (length L % 2 ≡ 0) × (length L < 2 ^ 32)) (sym (cut .list)) (evens f (s .args .t3) (s .pre .0) j (cut .in-top), list-short f (s .args .t3) (s .pre .0) (suc j) (cut .in-top)),
       (
         subst (λ (L : List ℕ). length L ≤ length M) (sym (cut .list)) (subst (λ (m : List ℕ). length (listAt f (suc j)) ≤ length m) (sym (cut .share)) (shares-long f (s .args .t3) (s .pre .0) j (cut .in-top))),
         (
           subst (λ (L : List ℕ). take (length L) M ≡ replicate (length L) 0) (sym (cut .list)) (ap (take (length (listAt f (suc j)))) (cut .share) ∙ shares-own f (s .args .t3) (s .pre .0) j (cut .in-top)),
-          c .unit-of .ensures .1,
+          (
+            subst (λ (n : ℕ). Grouped n (drop (length L) M)) (sym eu) (subst (Grouped (unitAt j)) (sym em) (marks-grouped f by j (subst (λ (n : ℕ). T (allBelow n (listRules f))) (cut .is) (s .pre .1 .1 .0)))),
+            c .unit-of .ensures .1,
+          ),
         ),
       ),
     )

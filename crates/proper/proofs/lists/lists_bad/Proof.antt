@@ -5,11 +5,12 @@ use mathlib.Core.List.{List}
 use Prim.Native.Nat.{ℕ, suc, _≤_, _-_}
 use native.Mathlib.Numerals.{add-one}
 use native.Mathlib.Omega.{arith}
+use borrow.Author.Tests.{not-false}
 use lib.ListN.{length}
 use borrow.Author.Needs.{needs}
-use Rattle.paper.specs.Numbers.{anyBelow}
+use Rattle.paper.specs.Numbers.{allBelow, anyBelow}
 use Rattle.paper.specs.Packed.{topOf}
-use Rattle.laws.proofs.Tests.{at-any}
+use Rattle.laws.proofs.Tests.{at-any, true-T}
 use Rattle.proper.specs.Places.{listRules}
 use Rattle.proper.specs.Phases.{scratchAt}
 use Rattle.proper.proofs.Loops.{any-more, any-end, not-all}
@@ -32,7 +33,9 @@ loop-holds c = (omega arith, refl, c .before .before .pre .1 .1, refl)
 list-bad-requires : tie.Need-list-bad-requires Inv-loop μ-loop
 list-bad-requires c κs =
     let s = c .before .before .before .before .before in
-    (s .pre .0, (omega (arith, c .before .loop-test .taken, s .pre .1 .0), c .before .before .loop .inv .2))
+    let l = c .before .before .loop in
+    let f : List ℕ = s .args .file .now in
+    (s .pre .0, (omega (arith, c .before .loop-test .taken, s .pre .1 .0), (true-T (not-false (allBelow (l .k) (listRules f)) (not-all (l .k) (listRules f) ∙ l .inv .3)), l .inv .2)))
 
 returns : tie.Need-returns Inv-loop μ-loop
 returns c =

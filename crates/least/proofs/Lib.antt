@@ -1,0 +1,4 @@
+pub mod Leasts
+pub mod Tags
+pub mod Images
+pub mod Reading
