@@ -2,6 +2,7 @@
 pub mod Reading
 pub mod Header
 pub mod Records
+pub mod CodeSums
 pub mod Seen
 pub mod Steps
 pub mod Lists

@@ -167,20 +167,16 @@ pub fn starts(file: &[u8]) -> [u32; 15]
 
 // ---- one record
 
-// The half-words of a record up to the pointer of child n: its header and the pointers before.
+// The half-words of a record up to the pointer of child n: its header and the pointers before. The codes are added two by two,
+// then four by four.
 fn halves(n: u32, header: u32) -> u32
     requires { ⌜ n ≤ 8 ⌝ }
     ensures { λ r. ⌜ (r ≡ halves n header) × (r ≤ 1 + 3 * n) ⌝ }
 {
-    let mut sum = 1u32;
-    let mut rest = header;
-    let mut left = n;
-    while 0 < left {
-        sum += rest % 4;
-        rest = rest / 4;
-        left -= 1;
-    }
-    sum
+    let codes = header % (1u32 << (2 * n));
+    let pairs = (codes & 0x3333) + ((codes >> 2) & 0x3333);
+    let fours = (pairs & 0x0f0f) + ((pairs >> 4) & 0x0f0f);
+    1 + fours % 256 + fours / 256
 }
 
 // Whether one of the eight codes is 3: both its bits are set.

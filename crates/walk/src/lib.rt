@@ -1,4 +1,4 @@
-// Voxel, cell and box questions on a store's words, by recursion over heights. A list is named by k: that of height k + 2.
+// Voxel, cell and box questions on a store's words, list by list from the root down. A list is named by k: that of height k + 2.
 mod boxes; // how many solid voxels a box holds
 mod box_call; // box, with its whole outcome
 mod calls; // voxel, with its whole outcome
