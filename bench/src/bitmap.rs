@@ -8,6 +8,7 @@ pub struct Bitmap {
 }
 
 impl Bitmap {
+    #[inline(never)]
     pub fn of(file: &[u8]) -> Bitmap {
         let (depth, records) = Records::of(file);
         let words = vec![0; (1usize << (3 * depth)).div_ceil(64)];
@@ -120,6 +121,7 @@ impl Bitmap {
     }
 
     /// The room as an outline.
+    #[inline(never)]
     pub fn outline(&self) -> Vec<u8> {
         let mut records = Vec::new();
         outline::write_cell(&mut records, self.depth, [0; 3], &|[x, y, z]| {

@@ -19,6 +19,7 @@ struct Known {
 }
 
 impl Graph {
+    #[inline(never)]
     pub fn of(file: &[u8]) -> Graph {
         let (depth, records) = Records::of(file);
         let mut graph = Graph {
@@ -153,6 +154,7 @@ impl Graph {
     }
 
     /// The room as an outline.
+    #[inline(never)]
     pub fn outline(&self) -> Vec<u8> {
         let mut records = Vec::new();
         if self.root != 0 {
@@ -176,6 +178,7 @@ impl Graph {
     }
 
     /// The graph as bytes: its counts, its cells, its leaves.
+    #[inline(never)]
     pub fn save(&self) -> Vec<u8> {
         let mut out = Vec::with_capacity(16 + self.bytes());
         for n in [

@@ -14,6 +14,7 @@ pub struct Octree {
 }
 
 impl Octree {
+    #[inline(never)]
     pub fn of(file: &[u8]) -> Octree {
         let (depth, records) = Records::of(file);
         let root = records.map_or(Cell::Empty, |mut records| read(&mut records, depth));
@@ -113,6 +114,7 @@ impl Octree {
     }
 
     /// The room as an outline.
+    #[inline(never)]
     pub fn outline(&self) -> Vec<u8> {
         let mut records = Vec::new();
         self.root.write(&mut records);

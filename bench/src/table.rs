@@ -37,23 +37,23 @@ impl Measured {
         Self::get(&self.times, item, room, who)
     }
 
-    /// Instructions a question, the loop's own taken off.
+    /// Instructions a question.
     pub fn instructions(&self, item: &str, room: &str, who: &str) -> Option<f64> {
-        let all = Self::get(&self.counts, item, room, who)?;
-        let asked = ["voxel", "cell", "opened question", "packed voxel"];
-        let single = asked
-            .iter()
-            .any(|kind| item.split(',').next() == Some(kind));
-        let own = if single {
-            Self::get(&self.counts, "loop, uniform", room, "loop")?
-        } else {
-            0.0
-        };
-        Some(all - own)
+        Self::get(&self.counts, item, room, who)
     }
 
     fn by_time(&self, (a, b): (&str, &str), (c, d): (&str, &str), room: &str) -> Option<f64> {
         Some(self.told(a, room, b)? / self.told(c, room, d)?)
+    }
+
+    /// The check's work on one file over that on another: by instructions if both were counted, else by the clock.
+    fn growth(&self, from: &str, to: &str) -> Option<f64> {
+        let count = |room| self.instructions("check", room, "store");
+        let time = |room| self.told("check", room, "store");
+        let works = count(to)
+            .zip(count(from))
+            .or_else(|| time(to).zip(time(from)));
+        works.map(|(to, from)| to / from)
     }
 
     fn ratio(&self, (a, b): (&str, &str), (c, d): (&str, &str), room: &str) -> Option<Ratio> {
@@ -180,7 +180,7 @@ fn print_head(fields: &[&str]) {
 pub fn print(all: &Measured) {
     println!("Buffers lent to the store (its words, scratch, output) are written with zeros before each measured call; the plain");
     println!("structures allocate within theirs. Times are processor time of the thread, the fastest of five rounds (one above 0.5 s).");
-    println!("Instructions are callgrind's, the loop's own taken off. All answers were compared and agree.");
+    println!("Instructions are callgrind's, of the call alone: the code that asks isn't counted. All answers were compared and agree.");
     sizes(all);
     ratios(all);
     for room in &all.rooms {
@@ -334,16 +334,12 @@ fn whole_calls(all: &Measured) {
     }
 }
 
-/// How the check's work over n log n changes from one size to the next ten times larger; none where it was left out.
+/// How the check's work over n log n changes from one size to a larger; none where one was left out.
 fn growth_step(all: &Measured, kind: &str, from: usize, to: usize) -> Option<f64> {
-    let work = |size: usize| {
-        let room = format!("{kind} {size}");
-        let n = all.told("records", &room, "room")?;
-        let counted = all.instructions("check", &room, "store");
-        let sum = counted.or(all.told("check", &room, "store"))?;
-        Some(sum / (n * n.log2()))
-    };
-    Some(work(to)? / work(from)?)
+    let [from, to] = [from, to].map(|size| format!("{kind} {size}"));
+    let ratio = all.growth(&from, &to)?;
+    let spread = |room: &str| all.told("records", room, "room").map(|n| n * n.log2());
+    Some(ratio / (spread(&to)? / spread(&from)?))
 }
 
 fn growth(all: &Measured) {

@@ -255,7 +255,6 @@ impl Subject<'_> {
         let ask = |item: &str, who: &str, ask: &dyn Fn(Point) -> u64| {
             self.asked(&format!("{item}, {where_}"), who, points, ask)
         };
-        ask("loop", "loop", &|[x, y, z]| u64::from(black_box(x ^ y ^ z)));
         ask("voxel", "store", &|[x, y, z]| {
             calls::voxel(store, 0, x, y, z).map_or(2, u64::from)
         });
