@@ -4,7 +4,7 @@ use mathlib.Core.Path.{_≡_, refl, sym, _∙_, subst, ap, ap₂}
 use mathlib.Core.Bool.{Bool, true, false, cond, not, _&&_}
 use mathlib.Core.List.{List, [], _∷_, map}
 use mathlib.Core.Logic.{_⊎_, inl, inr}
-use Prim.Native.Nat.{ℕ, zero, suc, _+_, _-_, _*_, _/_, _%_, _^_, _<_, _≤_}
+use Prim.Native.Nat.{ℕ, zero, suc, _+_, _-_, _*_, _%_, _^_, _<_, _≤_}
 use native.Mathlib.Nat.{le-of-suc-le-suc, not-suc-le-zero}
 use native.Mathlib.Decide.{ℕ-discrete}
 use native.Mathlib.Omega.{arith}
@@ -16,7 +16,7 @@ use Rattle.paper.specs.Numbers.{allBelow, num, count, allIn, isIn, indexIn}
 use Rattle.paper.specs.Outline.{lengthOk}
 use Rattle.paper.specs.Store.{Cell, cellNo, tagOf, pointer, leafNo, cellsAt, cellAt}
 use Rattle.paper.specs.Match.{pointerMatch, cellMatch, matches}
-use Rattle.paper.specs.Packed.{packedHead, topOf, rootTag, isEmpty, sizeAt, tailAt, listAt, headerAt, halves, Link, noLink, readLinks, linksAt, leafAt, recordOk, leafOk, codeFor, startsFrom, placesAt, byNumber, cellsOf, graphOf, linkOk, linksOk, wholeAt, names, popularity, namedOk, apartOk, tagLow, pointerLow, tagsOk, fallingOk, graphOk, sizesOk, topOk, listsOk, rootOk, headOk, packedRules}
+use Rattle.paper.specs.Packed.{packedHead, topOf, rootTag, isEmpty, sizeAt, tailAt, listAt, headerAt, halves, Link, noLink, linksAt, leafAt, recordOk, leafOk, codeFor, startsFrom, placesAt, byNumber, cellsOf, graphOf, linkOk, linksOk, wholeAt, names, popularity, namedOk, apartOk, tagLow, pointerLow, tagsOk, fallingOk, graphOk, sizesOk, topOk, listsOk, rootOk, headOk, packedRules}
 use Rattle.paper.specs.Runs.{Bytes}
 use Rattle.laws.proofs.Tests.{T-true, true-T, iff-eq, and-left, and-right, and-T, and5, and5-T, all-at, all-T, all-same}
 use Rattle.laws.proofs.Lists.{allIn-at, allIn-in, allIn-T, At, isIn-at, isIn-getD, Once, index-getD, length-count, getD-count}
@@ -28,19 +28,10 @@ use Rattle.laws.proofs.Masks.{marked, symmetries, mask-bit, mask-same, mask-odd
 use Rattle.laws.proofs.PackedLists.{num4-lt, Fits, links-fit, halves-one, list-bytes, start-inside, start-small, link-some, graph-cells, record-cell, leaf-cell}
 use Rattle.laws.proofs.PackedWalk.{SoundLists, lists-of}
 use Rattle.least.specs.Keys.{markOf}
-use Rattle.proper.specs.Places.{unitAt, leavesMatch, linkMatch, selfBy, recordsMatch, leafMask, recordMask, marksAt, lowBy, linkRules, recordRules, apartIn, listRules, rootLow, namesPlace, timesNamed, popularAt, popularRules, rulesBy, packedBy}
+use Rattle.alike.specs.Matching.{leavesMatch, linkMatch, selfBy, recordsMatch, leafMask, recordMask, lowBy, linkRules, recordRules, apartIn}
+use Rattle.proper.specs.Places.{unitAt, marksAt, listRules, rootLow, namesPlace, timesNamed, popularAt, popularRules, rulesBy, packedBy}
+use Rattle.alike.proofs.Linking.{links-length}
 use Rattle.proper.proofs.Marks.{zeros-read, marks-start, marks-other, list-length, tail-whole, tail-grows}
-
--- ---- a record has eight links
-
-read-length : (n h : ℕ) (l : List ℕ) → length (readLinks n h l) ≡ n
-unfolding readLinks
-read-length zero h l = refl
-read-length (suc n) h l = ap suc (read-length n (h / 4) (drop (2 * (h % 4)) l))
-
-pub links-length : (l : List ℕ) (p : ℕ) → length (linksAt l p) ≡ 8
-unfolding linksAt
-links-length l p = read-length 8 (headerAt l p) (drop (2 * p + 2) l)
 
 -- ---- no place twice
 

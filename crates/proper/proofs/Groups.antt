@@ -17,11 +17,11 @@ use Rattle.laws.proofs.Tests.{both-left, both-right, and-left}
 use Rattle.laws.proofs.Masks.{mask-lt}
 use Rattle.laws.proofs.PackedLists.{list-bytes}
 use Rattle.least.specs.Keys.{Group}
-use Rattle.proper.specs.Places.{marksOn, unitAt, leavesMatch, recordsMatch, leafMask, recordMask, marksAt, recordRules, apartIn, listRules}
-use Rattle.proper.specs.Phases.{Grouped}
+use Rattle.alike.specs.Matching.{leavesMatch, recordsMatch, leafMask, recordMask, recordRules, apartIn, Grouped}
+use Rattle.proper.specs.Places.{marksOn, unitAt, marksAt, listRules}
 use Rattle.proper.proofs.Marks.{zeros-read}
-use Rattle.proper.proofs.Along.{allIn-isIn}
-use Rattle.proper.proofs.Keyed.{record-group, record-kept, leaf-group}
+use Rattle.alike.proofs.Along.{allIn-isIn}
+use Rattle.alike.proofs.Keyed.{record-group, record-kept, leaf-group}
 
 -- what holds of every mark written and of what was there holds of the marks
 marks-each : (P : ℕ → Type 0) (f : ℕ → ℕ) (u : ℕ) (ps z : List ℕ) → ((p : ℕ) → T (isIn p ps) → P (f p)) → ((j : ℕ) → P (getD z j 0))

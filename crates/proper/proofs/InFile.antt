@@ -14,10 +14,11 @@ use Rattle.paper.specs.Store.{heights}
 use Rattle.paper.specs.Packed.{topOf, isEmpty, sizeAt, tailAt, startAt, listAt, placesAt, sizesOk, rootOk, headOk, startsOf, startsFrom, leafOk}
 use Rattle.laws.proofs.Tests.{and-right}
 use Rattle.laws.proofs.Lists.{getD-tabulate}
-use Rattle.proper.specs.Places.{marksOn, unitAt, leafMask, recordMask, leavesMatch, recordsMatch, recordRules, apartIn, marksAt, listRules}
-use Rattle.proper.specs.Phases.{placesIn, leavesIn, leavesRules, leafMarks, innerRules, recordMarks, marksTail, scratchAt, endAt, endIn, Listed}
+use Rattle.alike.specs.Matching.{leafMask, recordMask, leavesMatch, recordsMatch, recordRules, apartIn, placesIn, leavesIn}
+use Rattle.proper.specs.Places.{marksOn, unitAt, marksAt, listRules}
+use Rattle.proper.specs.Phases.{leavesRules, leafMarks, innerRules, recordMarks, marksTail, scratchAt, endAt, endIn, Listed}
 use Rattle.proper.proofs.Marks.{tail-inside, list-length, marksAt-length}
-use Rattle.proper.proofs.Along.{part-all, in-inside}
+use Rattle.alike.proofs.Along.{part-all, in-inside}
 
 -- ---- a part cut out, and put back
 

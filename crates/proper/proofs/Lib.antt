@@ -1,11 +1,7 @@
 pub mod Marks
 pub mod ByPlaces
-pub mod Loops
-pub mod Linking
 pub mod Along
-pub mod Keyed
 pub mod Groups
-pub mod Slotted
 pub mod Checking
 pub mod InFile
 pub mod PopularPlaces

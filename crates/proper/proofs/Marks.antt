@@ -12,7 +12,8 @@ use lib.ListN.{length, getD, set, drop, replicate, length-set, length-replicate,
 use lib.Seq.{getD-set-same, getD-set-other}
 use Rattle.paper.specs.Numbers.{isIn}
 use Rattle.paper.specs.Packed.{packedHead, topOf, sizeAt, tailAt, startAt, listAt, placesAt, sizesOk}
-use Rattle.proper.specs.Places.{marksOn, unitAt, leafMask, recordMask, marksAt}
+use Rattle.alike.specs.Matching.{leafMask, recordMask}
+use Rattle.proper.specs.Places.{marksOn, unitAt, marksAt}
 
 -- zeros read
 pub zeros-read : (n i : ℕ) → _≡_ {A = ℕ} (getD (replicate n 0) i 0) 0

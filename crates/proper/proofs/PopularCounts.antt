@@ -21,8 +21,8 @@ use Rattle.numbers.specs.Laid.{laid}
 use Rattle.numbers.proofs.Laying.{length-laid}
 use Rattle.proper.specs.Places.{namesPlace, timesNamed}
 use Rattle.proper.specs.Phases.{linkTo, countOf, oneMore, countLink, countLinks, countRecords}
-use Rattle.proper.proofs.Loops.{not-allIn}
-use Rattle.proper.proofs.ByPlaces.{links-length}
+use Rattle.alike.proofs.Loops.{not-allIn}
+use Rattle.alike.proofs.Linking.{links-length}
 
 -- ---- four bytes laid over others
 

@@ -9,20 +9,20 @@ use Prim.Native.Nat.{ℕ, zero, suc, _+_, _-_, _*_, _^_, _<_, _≤_}
 use native.Mathlib.Omega.{arith}
 use borrow.Author.Tests.{eq-eqb, eqb-true, le-leb, ltb-true, ltb-false}
 use lib.Dec.{T, eqb, ltb, ltb→lt}
-use lib.ListN.{length, getD, drop, replicate}
+use lib.ListN.{length, getD, replicate}
 use Rattle.paper.specs.Numbers.{allBelow, allIn, isIn, indexIn, count}
 use Rattle.paper.specs.Packed.{topOf, sizeAt, tailAt, listAt, headerAt, halves, Link, noLink, linksAt, recordOk, codeFor, startsFrom, placesAt, sizesOk}
 use Rattle.paper.specs.Runs.{Bytes}
 use Rattle.laws.proofs.Tests.{and-left, and-right, and-T, all-at}
 use Rattle.laws.proofs.Lists.{allIn-head, allIn-tail, allIn-at, allIn-in, allIn-T, At, isIn-at, isIn-getD, length-count, getD-count}
-use Rattle.laws.proofs.Bytes.{bytes-drop}
-use Rattle.laws.proofs.PackedLists.{num2-lt, list-bytes}
+use Rattle.laws.proofs.PackedLists.{list-bytes}
 use Rattle.least.specs.Keys.{markOf}
-use Rattle.proper.specs.Places.{unitAt, marksAt, lowBy, linkRules, recordRules, apartIn, recordsMatch, listRules, popularAt, popularRules}
+use Rattle.alike.specs.Matching.{lowBy, linkRules, recordRules, apartIn, recordsMatch}
+use Rattle.proper.specs.Places.{unitAt, marksAt, listRules, popularAt, popularRules}
 use Rattle.proper.specs.Phases.{countOf, countRecords, linkFits, countable, countsFall}
 use Rattle.proper.proofs.Marks.{tail-inside, list-length}
 use Rattle.proper.proofs.ByPlaces.{starts-late, mark-start}
-use Rattle.proper.proofs.Along.{record-two, record-wide, rules-all-whole}
+use Rattle.alike.proofs.Along.{record-two, record-wide, rules-all-whole}
 use Rattle.proper.proofs.PopularCounts.{Roomy, Lands, counted, times-few}
 use Rattle.proper.proofs.PopularFalls.{falls-rules, falling-same}
 

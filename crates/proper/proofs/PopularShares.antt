@@ -13,7 +13,8 @@ use Rattle.paper.specs.Numbers.{allBelow, allIn, count}
 use Rattle.paper.specs.Packed.{topOf, startAt, listAt, recordOk, placesAt}
 use Rattle.paper.specs.Runs.{Bytes}
 use Rattle.proper.specs.Places.{unitAt, listRules, popularRules}
-use Rattle.proper.specs.Phases.{placesIn, leavesIn, startsIn, countRecords, countable, countsFall, endAt, endIn, Shared, Listed}
+use Rattle.alike.specs.Matching.{placesIn, leavesIn}
+use Rattle.proper.specs.Phases.{startsIn, countRecords, countable, countsFall, endAt, endIn, Shared, Listed}
 use Rattle.proper.proofs.Marks.{list-length}
 use Rattle.proper.proofs.InFile.{sized, start-is, end-is, list-in, end-in, cut-is, places-leaf, places-inner, list-short}
 use Rattle.proper.proofs.PopularCounts.{window}

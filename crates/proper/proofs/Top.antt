@@ -11,11 +11,12 @@ use Rattle.paper.specs.Numbers.{allBelow, allIn, count}
 use Rattle.paper.specs.Packed.{topOf, rootTag, rootOk, sizeAt, startAt, listAt, recordOk, placesAt, sizesOk, headOk, topOk}
 use Rattle.laws.proofs.Tests.{T-true, true-T, iff-eq, all-at, and-left}
 use Rattle.laws.proofs.Lists.{length-count}
-use Rattle.proper.specs.Places.{unitAt, marksAt, recordRules, listRules, lowBy, rootLow}
-use Rattle.proper.specs.Phases.{placesIn, scratchAt, endAt, endIn, Listed}
+use Rattle.alike.specs.Matching.{recordRules, lowBy, placesIn}
+use Rattle.proper.specs.Places.{unitAt, marksAt, listRules, rootLow}
+use Rattle.proper.specs.Phases.{scratchAt, endAt, endIn, Listed}
 use Rattle.proper.proofs.Marks.{list-length}
 use Rattle.proper.proofs.ByPlaces.{tag-small}
-use Rattle.proper.proofs.Along.{restFrom, widthAt, rest-all, rest-none, rest-more, rest-head, record-inside, rules-all-whole}
+use Rattle.alike.proofs.Along.{restFrom, widthAt, rest-all, rest-none, rest-more, rest-head, record-inside, rules-all-whole}
 use Rattle.proper.proofs.PopularPlaces.{starts-few}
 use Rattle.proper.proofs.InFile.{start-is, end-is, list-in, end-in, cut-is, places-inner, evens, first-mark, sized}
 

@@ -3,26 +3,17 @@
 use mathlib.Core.Path.{_≡_}
 use mathlib.Core.Bool.{Bool, true, false, cond, not, _&&_}
 use mathlib.Core.List.{List, [], _∷_, _++_, map}
-use Prim.Native.Nat.{ℕ, zero, suc, _+_, _-_, _*_, _/_, _%_, _^_, _≤_, _<_}
+use Prim.Native.Nat.{ℕ, zero, suc, _+_, _-_, _*_, _%_, _^_, _<_}
 use lib.Dec.{T, eqb, leb, ltb}
-use lib.ListN.{length, take, drop, getD, replicate}
-use Rattle.paper.specs.Numbers.{anyBelow, allIn, num, bytes, count}
-use Rattle.paper.specs.Store.{leafNo}
-use Rattle.paper.specs.Packed.{topOf, isEmpty, startAt, listAt, headerAt, halves, Link, noLink, linksAt, leafAt, recordOk, leafOk, startsFrom, startsOf}
+use lib.ListN.{length, drop, getD, replicate}
+use Rattle.paper.specs.Numbers.{anyBelow, allIn, num, bytes}
+use Rattle.paper.specs.Packed.{isEmpty, startAt, Link, noLink, linksAt, recordOk, leafOk, startsOf}
 use Rattle.numbers.specs.Laid.{laid}
 use Rattle.packed.specs.Header.{Opens}
-use Rattle.least.specs.Keys.{markOf, Group, leafKey}
-use Rattle.proper.specs.Places.{marksOn, unitAt, leavesMatch, recordsMatch, leafMask, recordMask, marksAt, recordRules, apartIn}
+use Rattle.alike.specs.Matching.{placesIn, leavesIn, leavesMatch, recordsMatch, leafMask, recordMask, recordRules, apartIn}
+use Rattle.proper.specs.Places.{marksOn, unitAt, marksAt}
 
 -- ---- the places of a list of bytes
-
--- at which its records start, divided from the front
-abbrev pub placesIn : List ℕ → List ℕ
-placesIn l = startsFrom l (length l / 2) 0
-
--- at which its leaves do
-abbrev pub leavesIn : List ℕ → List ℕ
-leavesIn l = count 0 (length l / 8)
 
 -- the places of list k, by its bytes
 abbrev pub startsIn : ℕ → List ℕ → List ℕ
@@ -30,10 +21,6 @@ startsIn zero l = leavesIn l
 startsIn (suc k) l = placesIn l
 
 -- ---- phase 1: a list tested, and its marks written
-
--- the key of the leaf at place p
-abbrev pub leafKeyAt : List ℕ → ℕ → ℕ
-leafKeyAt l p = leafKey (leafNo (leafAt l p))
 
 -- a list of leaves
 unfoldable pub leavesRules : List ℕ → Bool
@@ -48,10 +35,6 @@ innerRules u m l = allIn (recordRules u m l) (placesIn l) && apartIn (recordsMat
 
 abbrev pub recordMarks : ℕ → List ℕ → List ℕ → List ℕ → List ℕ
 recordMarks u m l z = marksOn (recordMask u m l) 2 (placesIn l) z
-
--- every mark is a group of mirrors; u the bytes that a place counts
-abbrev pub Grouped : ℕ → List ℕ → Type 0
-Grouped u m = (x : ℕ) → (markOf u m x ≡ 0 → ⊥) → Group (markOf u m x)
 
 -- the scratch when n lists are marked, from the leaves up: scratch position = file position
 unfoldable pub marksTail : List ℕ → ℕ → List ℕ

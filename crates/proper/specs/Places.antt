@@ -4,15 +4,12 @@
 use mathlib.Core.Bool.{Bool, true, false, cond, not, _&&_}
 use mathlib.Core.List.{List, [], _∷_}
 use Prim.Native.Nat.{ℕ, zero, suc, _+_, _-_, _*_}
-use lib.Bits.{bitXor}
 use lib.Dec.{eqb, leb, ltb}
 use lib.ListN.{length, getD, set, replicate}
 use Rattle.paper.specs.Numbers.{allBelow, allIn}
-use Rattle.paper.specs.Leaf.{mirrorLeaf}
-use Rattle.paper.specs.Store.{leafNo}
-use Rattle.paper.specs.Packed.{topOf, rootTag, isEmpty, listAt, Link, noLink, linksAt, leafAt, recordOk, leafOk, codeFor, placesAt, topOk, headOk}
-use Rattle.laws.proofs.Masks.{maskFor, marked}
+use Rattle.paper.specs.Packed.{topOf, rootTag, isEmpty, listAt, Link, linksAt, leafOk, placesAt, topOk, headOk}
 use Rattle.least.specs.Keys.{markOf}
+use Rattle.alike.specs.Matching.{leavesMatch, recordsMatch, leafMask, recordMask, lowBy, recordRules, apartIn}
 
 -- ---- the marks of a list: f p at the first byte of each record, place p counting u bytes
 
@@ -25,34 +22,6 @@ abbrev pub unitAt : ℕ → ℕ
 unitAt zero = 8
 unitAt (suc k) = 2
 
--- ---- matching. l: the bytes of a list; m: the marks one list down, u the bytes that a place counts there
-
--- leaves p and q match under t
-unfoldable pub leavesMatch : List ℕ → ℕ → ℕ → ℕ → Bool
-leavesMatch l p q t = eqb (leafNo (leafAt l p)) (mirrorLeaf t (leafNo (leafAt l q)))
-
--- two pointers match under t; `self x v`: the record at place x matches itself under v
-unfoldable pub linkMatch : (ℕ → ℕ → Bool) → ℕ → Link → Link → Bool
-linkMatch self t r s =
-    let m : Bool = self (r .place) (bitXor (bitXor (r .tag) (s .tag)) t) in
-    cond (eqb (r .code) 0) (eqb (s .code) 0) (cond (eqb (s .code) 0) false (cond (eqb (r .place) (s .place)) m false))
-
--- by the marks
-abbrev pub selfBy : ℕ → List ℕ → ℕ → ℕ → Bool
-selfBy u m x v = marked (markOf u m x) v
-
--- the records at places p and q match under t
-unfoldable pub recordsMatch : ℕ → List ℕ → List ℕ → ℕ → ℕ → ℕ → Bool
-recordsMatch u m l p q t =
-    allBelow 8 (λ i. linkMatch (selfBy u m) t (getD (linksAt l p) i noLink) (getD (linksAt l q) (bitXor i t) noLink))
-
--- their masks
-unfoldable pub leafMask : List ℕ → ℕ → ℕ
-leafMask l p = maskFor (leavesMatch l p p)
-
-unfoldable pub recordMask : ℕ → List ℕ → List ℕ → ℕ → ℕ
-recordMask u m l p = maskFor (recordsMatch u m l p p)
-
 -- the marks of list k
 unfoldable pub marksAt : List ℕ → ℕ → List ℕ
 marksAt bs zero = marksOn (leafMask (listAt bs 0)) 8 (placesAt bs 0) (replicate (length (listAt bs 0)) 0)
@@ -60,24 +29,6 @@ marksAt bs (suc k) =
     marksOn (recordMask (unitAt k) (marksAt bs k) (listAt bs (suc k))) 2 (placesAt bs (suc k)) (replicate (length (listAt bs (suc k))) 0)
 
 -- ---- the rules of one list
-
--- a tag is the lowest with its meaning: no lower one differs from it by a mirror of this mask
-unfoldable pub lowBy : ℕ → ℕ → Bool
-lowBy mask tag = allBelow tag (λ v. not (marked mask (bitXor v tag)))
-
--- a pointer names the start of a record, is short exactly when its place is at most 8,191, and its tag is the lowest
-unfoldable pub linkRules : ℕ → List ℕ → Link → Bool
-linkRules u m r =
-    let mask : ℕ = markOf u m (r .place) in
-    cond (eqb (r .code) 0) true (ltb 0 mask && eqb (r .code) (codeFor (r .place)) && lowBy mask (r .tag))
-
--- a whole record, with good pointers
-unfoldable pub recordRules : ℕ → List ℕ → List ℕ → ℕ → Bool
-recordRules u m l p = recordOk l p && allIn (linkRules u m) (linksAt l p)
-
--- no two of the records at these places match under any mirror
-unfoldable pub apartIn : (ℕ → ℕ → ℕ → Bool) → List ℕ → Bool
-apartIn match ps = allBelow (length ps) (λ q. allBelow q (λ r. allBelow 8 (λ t. not (match (getD ps q 0) (getD ps r 0) t))))
 
 unfoldable pub listRules : List ℕ → ℕ → Bool
 listRules bs zero = allIn (leafOk (listAt bs 0)) (placesAt bs 0) && apartIn (leavesMatch (listAt bs 0)) (placesAt bs 0)

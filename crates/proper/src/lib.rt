@@ -1,9 +1,7 @@
 // The check of untrusted packed bytes, by places and symmetry masks. Phase 1 goes from the leaves up and leaves in the
 // scratch, at the first byte of each record, its symmetry mask; phase 2 counts there the records that name it.
-mod alike; // masks and matching
 mod call; // the call
 mod lists; // phase 1: lists tested and marked
 mod popular; // phase 2: popularity
-mod records; // one record
 
 pub use call::check;

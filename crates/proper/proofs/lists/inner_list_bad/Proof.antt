@@ -11,11 +11,11 @@ use borrow.Author.Needs.{needs}
 use Rattle.paper.specs.Numbers.{allIn}
 use Rattle.paper.specs.Packed.{recordOk}
 use Rattle.laws.proofs.Tests.{true-T}
-use Rattle.proper.specs.Places.{recordsMatch, recordRules, apartIn}
-use Rattle.proper.specs.Phases.{placesIn, innerRules, recordMarks}
+use Rattle.alike.specs.Matching.{recordsMatch, recordRules, apartIn, placesIn}
+use Rattle.proper.specs.Phases.{innerRules, recordMarks}
 use Rattle.proper.proofs.Marks.{marks-length}
-use Rattle.proper.proofs.Loops.{bad-first, bad-second, good-both}
-use Rattle.proper.proofs.Along.{part-all, rules-all-whole}
+use Rattle.alike.proofs.Loops.{bad-first, bad-second, good-both}
+use Rattle.alike.proofs.Along.{part-all, rules-all-whole}
 use Rattle.proper.proofs.lists.inner_list_bad.Statement.{statement}
 use Rattle.proper.proofs.lists.inner_list_bad.Tie as tie
 

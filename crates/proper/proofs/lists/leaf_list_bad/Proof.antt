@@ -5,10 +5,10 @@ use Prim.Native.Nat.{ℕ}
 use lib.ListN.{length, length-replicate}
 use Rattle.paper.specs.Numbers.{allIn}
 use Rattle.paper.specs.Packed.{leafOk}
-use Rattle.proper.specs.Places.{leavesMatch, leafMask, apartIn}
-use Rattle.proper.specs.Phases.{leavesIn, leavesRules, leafMarks}
+use Rattle.alike.specs.Matching.{leavesMatch, leafMask, apartIn, leavesIn}
+use Rattle.proper.specs.Phases.{leavesRules, leafMarks}
 use Rattle.proper.proofs.Marks.{marks-length}
-use Rattle.proper.proofs.Loops.{bad-first, bad-second, good-both}
+use Rattle.alike.proofs.Loops.{bad-first, bad-second, good-both}
 use Rattle.proper.proofs.lists.leaf_list_bad.Statement.{statement}
 use Rattle.proper.proofs.lists.leaf_list_bad.Tie as tie
 

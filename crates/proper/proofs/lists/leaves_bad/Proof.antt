@@ -11,7 +11,7 @@ use Rattle.paper.specs.Numbers.{anyBelow}
 use Rattle.paper.specs.Store.{leafNo}
 use Rattle.paper.specs.Packed.{leafAt, leafOk}
 use Rattle.laws.proofs.Tests.{at-any}
-use Rattle.proper.proofs.Loops.{any-more, any-end, leaves-bad-is}
+use Rattle.alike.proofs.Loops.{any-more, any-end, leaves-bad-is}
 use Rattle.proper.proofs.lists.leaves_bad.Statement.{statement}
 use Rattle.proper.proofs.lists.leaves_bad.Tie as tie
 

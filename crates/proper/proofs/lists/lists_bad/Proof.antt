@@ -13,7 +13,7 @@ use Rattle.paper.specs.Packed.{topOf}
 use Rattle.laws.proofs.Tests.{at-any, true-T}
 use Rattle.proper.specs.Places.{listRules}
 use Rattle.proper.specs.Phases.{scratchAt}
-use Rattle.proper.proofs.Loops.{any-more, any-end, not-all}
+use Rattle.alike.proofs.Loops.{any-more, any-end, not-all}
 use Rattle.proper.proofs.lists.lists_bad.Statement.{statement}
 use Rattle.proper.proofs.lists.lists_bad.Tie as tie
 

@@ -9,8 +9,10 @@ use borrow.Author.Needs.{needs}
 use Rattle.paper.specs.Numbers.{count}
 use Rattle.paper.specs.Leaf.{mirrorLeaf}
 use Rattle.laws.proofs.Masks.{maskFor}
-use Rattle.proper.specs.Places.{marksOn, leavesMatch, leafMask}
-use Rattle.proper.proofs.Along.{count-more, count-none, marks-next, marks-none}
+use Rattle.alike.specs.Matching.{leavesMatch, leafMask}
+use Rattle.proper.specs.Places.{marksOn}
+use Rattle.alike.proofs.Along.{count-more, count-none}
+use Rattle.proper.proofs.Along.{marks-next, marks-none}
 use Rattle.proper.proofs.lists.mark_leaves.Statement.{statement}
 use Rattle.proper.proofs.lists.mark_leaves.Tie as tie
 

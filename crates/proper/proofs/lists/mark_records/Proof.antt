@@ -11,9 +11,10 @@ use borrow.Author.Needs.{needs}
 use Rattle.paper.specs.Numbers.{allIn}
 use Rattle.paper.specs.Packed.{headerAt, recordOk}
 use Rattle.laws.proofs.PackedLists.{halves-one}
-use Rattle.proper.specs.Places.{marksOn, recordMask}
-use Rattle.proper.specs.Phases.{placesIn}
-use Rattle.proper.proofs.Along.{restFrom, widthAt, rest-all, rest-none, rest-head, rest-tail, marks-more, marks-none, part-all, record-inside}
+use Rattle.alike.specs.Matching.{recordMask, placesIn}
+use Rattle.proper.specs.Places.{marksOn}
+use Rattle.alike.proofs.Along.{restFrom, widthAt, rest-all, rest-none, rest-head, rest-tail, part-all, record-inside}
+use Rattle.proper.proofs.Along.{marks-more, marks-none}
 use Rattle.proper.proofs.lists.mark_records.Statement.{statement}
 use Rattle.proper.proofs.lists.mark_records.Tie as tie
 

@@ -4,7 +4,6 @@ use mathlib.Core.Bool.{Bool, true, false, not}
 use Prim.Native.Nat.{ℕ, _≤_, _-_, _*_, _+_}
 use native.Mathlib.Omega.{arith}
 use borrow.Author.Tests.{not-true, not-false}
-use lib.Dec.{T}
 use lib.ListN.{length}
 use borrow.Author.Needs.{needs}
 use Rattle.paper.specs.Numbers.{allIn}
@@ -12,9 +11,8 @@ use Rattle.paper.specs.Packed.{linksAt, recordOk}
 use Rattle.laws.proofs.Tests.{true-T}
 use Rattle.laws.proofs.PackedLists.{halves-one}
 use Rattle.paper.specs.Packed.{headerAt}
-use Rattle.proper.specs.Places.{linkRules, recordRules}
-use Rattle.proper.specs.Phases.{placesIn}
-use Rattle.proper.proofs.Along.{restFrom, rest-all, rest-none, rest-passes, rest-fails, allIn-none, record-inside, rules-whole, rules-links}
+use Rattle.alike.specs.Matching.{linkRules, recordRules, placesIn}
+use Rattle.alike.proofs.Along.{restFrom, rest-all, rest-none, rest-passes, rest-fails, allIn-none, record-inside, rules-whole, rules-links}
 use Rattle.proper.proofs.lists.records_bad.Statement.{statement}
 use Rattle.proper.proofs.lists.records_bad.Tie as tie
 

@@ -10,8 +10,10 @@ use borrow.Author.Needs.{needs}
 use Rattle.paper.specs.Numbers.{allIn}
 use Rattle.paper.specs.Packed.{headerAt, recordOk}
 use Rattle.laws.proofs.PackedLists.{halves-one}
-use Rattle.proper.specs.Phases.{placesIn, countRecords, countable}
-use Rattle.proper.proofs.Along.{restFrom, widthAt, rest-all, rest-none, rest-head, rest-tail, counts-more, counts-none, countable-whole, record-inside}
+use Rattle.alike.specs.Matching.{placesIn}
+use Rattle.proper.specs.Phases.{countRecords, countable}
+use Rattle.alike.proofs.Along.{restFrom, widthAt, rest-all, rest-none, rest-head, rest-tail, record-inside}
+use Rattle.proper.proofs.Along.{counts-more, counts-none, countable-whole}
 use Rattle.proper.proofs.popular.count_records.Statement.{statement}
 use Rattle.proper.proofs.popular.count_records.Tie as tie
 

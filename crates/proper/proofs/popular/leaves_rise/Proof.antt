@@ -9,7 +9,8 @@ use lib.ListN.{length, drop}
 use borrow.Author.Needs.{needs}
 use Rattle.paper.specs.Numbers.{count, num}
 use Rattle.proper.specs.Phases.{countOf, fallsFrom}
-use Rattle.proper.proofs.Along.{count-more, count-none, falls-none, falls-zero, falls-rise, falls-more}
+use Rattle.alike.proofs.Along.{count-more, count-none}
+use Rattle.proper.proofs.Along.{falls-none, falls-zero, falls-rise, falls-more}
 use Rattle.proper.proofs.popular.leaves_rise.Statement.{statement}
 use Rattle.proper.proofs.popular.leaves_rise.Tie as tie
 

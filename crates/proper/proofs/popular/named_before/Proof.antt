@@ -9,7 +9,7 @@ use Rattle.paper.specs.Numbers.{anyBelow}
 use Rattle.paper.specs.Packed.{linksAt}
 use Rattle.laws.proofs.Tests.{at-any}
 use Rattle.proper.specs.Phases.{linkTo}
-use Rattle.proper.proofs.Loops.{any-more, any-end}
+use Rattle.alike.proofs.Loops.{any-more, any-end}
 use Rattle.proper.proofs.PopularCounts.{goesTo}
 use Rattle.proper.proofs.popular.named_before.Statement.{statement}
 use Rattle.proper.proofs.popular.named_before.Tie as tie

@@ -13,7 +13,7 @@ use Rattle.paper.specs.Packed.{topOf}
 use Rattle.laws.proofs.Tests.{at-any}
 use Rattle.proper.specs.Places.{popularRules}
 use Rattle.proper.specs.Phases.{endAt}
-use Rattle.proper.proofs.Loops.{any-more, any-end, not-all}
+use Rattle.alike.proofs.Loops.{any-more, any-end, not-all}
 use Rattle.proper.proofs.PopularShares.{all-zero}
 use Rattle.proper.proofs.popular.popular_lists_bad.Statement.{statement}
 use Rattle.proper.proofs.popular.popular_lists_bad.Tie as tie

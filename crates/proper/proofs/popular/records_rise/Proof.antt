@@ -11,8 +11,10 @@ use borrow.Author.Needs.{needs}
 use Rattle.paper.specs.Numbers.{allIn}
 use Rattle.paper.specs.Packed.{headerAt, recordOk}
 use Rattle.laws.proofs.PackedLists.{halves-one}
-use Rattle.proper.specs.Phases.{placesIn, countOf, fallsFrom}
-use Rattle.proper.proofs.Along.{restFrom, widthAt, rest-all, rest-none, rest-more, rest-head, rest-tail, falls-none, falls-zero, falls-rise, falls-more, record-inside, record-wide}
+use Rattle.alike.specs.Matching.{placesIn}
+use Rattle.proper.specs.Phases.{countOf, fallsFrom}
+use Rattle.alike.proofs.Along.{restFrom, widthAt, rest-all, rest-none, rest-more, rest-head, rest-tail, record-inside, record-wide}
+use Rattle.proper.proofs.Along.{falls-none, falls-zero, falls-rise, falls-more}
 use Rattle.proper.proofs.popular.records_rise.Statement.{statement}
 use Rattle.proper.proofs.popular.records_rise.Tie as tie
 

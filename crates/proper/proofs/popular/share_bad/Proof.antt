@@ -6,7 +6,8 @@ use lib.Dec.{T}
 use lib.ListN.{length}
 use borrow.Author.Needs.{needs}
 use Rattle.paper.specs.Numbers.{allIn}
-use Rattle.proper.specs.Phases.{placesIn, countable}
+use Rattle.alike.specs.Matching.{placesIn}
+use Rattle.proper.specs.Phases.{countable}
 use Rattle.proper.proofs.PopularShares.{leaves-end, records-end}
 use Rattle.proper.proofs.popular.share_bad.Statement.{statement}
 use Rattle.proper.proofs.popular.share_bad.Tie as tie

@@ -1,0 +1,155 @@
+-- Loops along a list of records, from start to start: the starts from place p on, and what a loop has of a test at those left. A list has an even
+-- number of bytes. By induction on the number of starts. Assumes nothing.
+use mathlib.Core.Path.{_≡_, refl, sym, _∙_, ap, subst}
+use mathlib.Core.Bool.{Bool, true, false, cond}
+use mathlib.Core.List.{List, [], _∷_}
+use Prim.Native.Nat.{ℕ, zero, suc, _+_, _-_, _*_, _/_, _%_, _^_, _<_, _≤_}
+use native.Mathlib.Nat.{le-of-suc-le-suc, not-suc-le-zero}
+use native.Mathlib.Numerals.{add-one}
+use native.Mathlib.Omega.{arith}
+use borrow.Author.Tests.{lt-ltb, le-ltb, ltb-true, eqb-true, eqb-false}
+use lib.Dec.{T, eqb, ltb, ltb→lt}
+use lib.ListN.{length, getD, take, drop, length-drop}
+use lib.Seq.{take-all}
+use Rattle.paper.specs.Numbers.{allIn, isIn, indexIn, count}
+use Rattle.paper.specs.Packed.{headerAt, halves, linksAt, recordOk, startsFrom}
+use Rattle.laws.proofs.Tests.{and-left, and-right}
+use Rattle.paper.specs.Runs.{Bytes}
+use Rattle.laws.proofs.Bytes.{bytes-drop}
+use Rattle.laws.proofs.Lists.{allIn-head, allIn-tail, allIn-in, allIn-T, At, isIn-at}
+use Rattle.laws.proofs.PackedLists.{num2-lt, halves-one}
+use Rattle.packed.proofs.Records.{record-good}
+use Rattle.alike.specs.Matching.{linkRules, recordRules, placesIn}
+
+-- the starts from place p on
+abbrev pub restFrom : List ℕ → ℕ → List ℕ
+restFrom l p = startsFrom l (length l / 2 - p) p
+
+-- the half-words of the record at p
+abbrev pub widthAt : List ℕ → ℕ → ℕ
+widthAt l p = halves 8 (headerAt l p)
+
+starts-none : (l : List ℕ) (n p : ℕ) → length l ≤ 2 * p → startsFrom l n p ≡ []
+unfolding startsFrom
+starts-none l zero p h = refl
+starts-none l (suc n) p h = rw (le-ltb (2 * p) (length l) h)
+
+starts-same : (l : List ℕ) → length l % 2 ≡ 0 → (n m p : ℕ) → length l / 2 ≤ n + p → length l / 2 ≤ m + p → startsFrom l n p ≡ startsFrom l m p
+unfolding startsFrom
+starts-same l e zero m p a b = sym (starts-none l m p (omega arith))
+starts-same l e (suc n) zero p a b = starts-none l (suc n) p (omega arith)
+starts-same l e (suc n) (suc m) p a b =
+    ap (λ (r : List ℕ). cond (ltb (2 * p) (length l)) (p ∷ r) [])
+    (starts-same l e n m (p + halves 8 (headerAt l p)) (omega (arith, halves-one 8 (headerAt l p))) (omega (arith, halves-one 8 (headerAt l p))))
+
+pub rest-all : (l : List ℕ) → restFrom l 0 ≡ placesIn l
+rest-all l = let e : length l / 2 - 0 ≡ length l / 2 = omega arith in ap (λ (n : ℕ). startsFrom l n 0) e
+
+pub rest-none : (l : List ℕ) (p : ℕ) → length l ≤ 2 * p → restFrom l p ≡ []
+rest-none l p h = starts-none l (length l / 2 - p) p h
+
+-- a part from place a on is what is left
+pub part-all : (l : List ℕ) (a : ℕ) → take (length l - a) (drop a l) ≡ drop a l
+part-all l a = take-all (length l - a) (drop a l) (omega (arith, length-drop a l))
+
+module _ (l : List ℕ) (even : length l % 2 ≡ 0) (p : ℕ) (h : 2 * p < length l) where
+  pub rest-more : restFrom l p ≡ p ∷ restFrom l (p + widthAt l p)
+  unfolding startsFrom
+  rest-more =
+      let n : length l / 2 - p ≡ suc (length l / 2 - p - 1) = omega arith in
+      rw (n, lt-ltb (2 * p) (length l) h)
+      (ap (λ (r : List ℕ). p ∷ r) (starts-same l even (length l / 2 - p - 1) (length l / 2 - (p + widthAt l p)) (p + widthAt l p)
+      (omega (arith, halves-one 8 (headerAt l p))) (omega arith)))
+
+  -- a test of all
+  pub rest-passes : (f : ℕ → Bool) → f p ≡ true → allIn f (restFrom l p) ≡ allIn f (restFrom l (p + widthAt l p))
+  unfolding allIn
+  rest-passes f e = ap (allIn f) rest-more ∙ rw e
+
+  pub rest-fails : (f : ℕ → Bool) → f p ≡ false → allIn f (restFrom l p) ≡ false
+  unfolding allIn
+  rest-fails f e = ap (allIn f) rest-more ∙ rw e
+
+  pub rest-head : (f : ℕ → Bool) → T (allIn f (restFrom l p)) → T (f p)
+  rest-head f t = allIn-head f p (restFrom l (p + widthAt l p)) (subst (λ (r : List ℕ). T (allIn f r)) rest-more t)
+
+  pub rest-tail : (f : ℕ → Bool) → T (allIn f (restFrom l p)) → T (allIn f (restFrom l (p + widthAt l p)))
+  rest-tail f t = allIn-tail f p (restFrom l (p + widthAt l p)) (subst (λ (r : List ℕ). T (allIn f r)) rest-more t)
+
+-- ---- leaves: numbers from p to n
+
+pub count-more : (n p : ℕ) → p < n → count p (n - p) ≡ p ∷ count (p + 1) (n - (p + 1))
+unfolding count
+count-more n p h =
+    let e : n - p ≡ suc (n - (p + 1)) = omega arith in
+    rw e (ap (λ (q : ℕ). p ∷ count q (n - (p + 1))) (sym (add-one p)))
+
+pub count-none : (n p : ℕ) → n ≤ p → count p (n - p) ≡ []
+unfolding count
+count-none n p h = let e : n - p ≡ 0 = omega arith in rw e
+
+pub allIn-none : (f : ℕ → Bool) (ps : List ℕ) → ps ≡ [] → allIn f ps ≡ true
+unfolding allIn
+allIn-none f ps e = ap (allIn f) e
+
+-- ---- one record
+
+-- a whole record ends inside its list
+pub record-inside : (l : List ℕ) (p : ℕ) → T (recordOk l p) → 2 * (p + widthAt l p) ≤ length l
+record-inside l p t = record-good l p t .room
+
+pub rules-whole : (u : ℕ) (m l : List ℕ) (p : ℕ) → recordOk l p ≡ false → recordRules u m l p ≡ false
+unfolding recordRules
+rules-whole u m l p e = rw e
+
+pub rules-links : (u : ℕ) (m l : List ℕ) (p : ℕ) → recordOk l p ≡ true → recordRules u m l p ≡ allIn (linkRules u m) (linksAt l p)
+unfolding recordRules
+rules-links u m l p e = rw e
+
+-- a header that is not zero has a code that is not, so the record has four bytes at least
+pub some-code : (n h : ℕ) → h < 4 ^ n → 0 < h → 2 ≤ halves n h
+unfolding halves
+some-code zero h l p = absurd (omega arith)
+some-code (suc n) h l p = go (eqb (h % 4) 0) refl (some-code n (h / 4))
+  where
+    go : (b : Bool) → eqb (h % 4) 0 ≡ b → (h / 4 < 4 ^ n → 0 < h / 4 → 2 ≤ halves n (h / 4)) → 2 ≤ h % 4 + halves n (h / 4)
+    go true e ih = let z : h % 4 ≡ 0 = eqb-true (h % 4) 0 e in omega (arith, ih (omega arith) (omega arith))
+    go false e ih = omega (arith, eqb-false (h % 4) 0 e, halves-one n (h / 4))
+
+pub record-two : (l : List ℕ) (p : ℕ) → Bytes l → T (recordOk l p) → 2 ≤ widthAt l p
+unfolding recordOk
+record-two l p b t =
+    let h : 0 < headerAt l p = ltb→lt 0 (headerAt l p) (search (and-left, and-right)) in
+    some-code 8 (headerAt l p) (omega (arith, num2-lt (drop (2 * p) l) (bytes-drop (2 * p) l b))) h
+
+pub record-wide : (l : List ℕ) (p : ℕ) → Bytes l → T (recordOk l p) → 2 * p + 4 ≤ length l
+record-wide l p b t = omega (arith, record-inside l p t, record-two l p b t)
+
+pub rules-all-whole : (u : ℕ) (m l ps : List ℕ) → T (allIn (recordRules u m l) ps) → T (allIn (recordOk l) ps)
+unfolding recordRules
+rules-all-whole u m l ps t =
+    allIn-T (recordOk l) 0 ps (λ i h. and-left (recordOk l (getD ps i 0)) (allIn (linkRules u m) (linksAt l (getD ps i 0))) (allIn-in (recordRules u m l) 0 ps t i h))
+
+-- ---- what lies in a list
+
+pub allIn-isIn : (f : ℕ → Bool) (l : List ℕ) (x : ℕ) → T (allIn f l) → T (isIn x l) → T (f x)
+allIn-isIn f l x t i = let a : At x l = isIn-at x l i in subst (λ (y : ℕ). T (f y)) (a .is) (allIn-in f 0 l t (indexIn x l) (a .inside))
+
+starts-inside : (l : List ℕ) (n p q : ℕ) → q < length (startsFrom l n p) → 2 * getD (startsFrom l n p) q 0 < length l
+unfolding startsFrom
+starts-inside l zero p = λ q h. absurd (not-suc-le-zero h)
+starts-inside l (suc n) p = go (ltb (2 * p) (length l)) refl (starts-inside l n (p + halves 8 (headerAt l p)))
+  where
+    ss : List ℕ
+    ss = startsFrom l n (p + halves 8 (headerAt l p))
+
+    go : (b : Bool) → ltb (2 * p) (length l) ≡ b → ((q : ℕ) → q < length ss → 2 * getD ss q 0 < length l)
+        → (q : ℕ) → q < length (cond b (p ∷ ss) []) → 2 * getD (cond b (p ∷ ss) []) q 0 < length l
+    go false e ih q h = absurd (not-suc-le-zero h)
+    go true e ih zero h = ltb-true (2 * p) (length l) e
+    go true e ih (suc q) h = ih q (le-of-suc-le-suc h)
+
+pub in-inside : (l : List ℕ) (n q p : ℕ) → T (isIn p (startsFrom l n q)) → 2 * p < length l
+in-inside l n q p t =
+    let a : At p (startsFrom l n q) = isIn-at p (startsFrom l n q) t in
+    subst (λ (x : ℕ). 2 * x < length l) (a .is) (starts-inside l n q (indexIn p (startsFrom l n q)) (a .inside))

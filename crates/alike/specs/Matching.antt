@@ -1,0 +1,84 @@
+-- Matching as code tests it: by places and marks. A list's MARKS are as many bytes as the list has: at the first byte of each record its symmetry mask
+-- (bit t: it matches itself under t), 0 elsewhere. A record's mask, its matching and the lowest tag of a pointer to it need the marks one list down
+-- only. Definitions only.
+use mathlib.Core.Path.{_≡_}
+use mathlib.Core.Bool.{Bool, true, false, cond, not, _&&_}
+use mathlib.Core.List.{List}
+use Prim.Native.Nat.{ℕ, _/_}
+use lib.Bits.{bitXor}
+use lib.Dec.{eqb, ltb}
+use lib.ListN.{length, getD}
+use Rattle.paper.specs.Numbers.{allBelow, allIn, count}
+use Rattle.paper.specs.Leaf.{mirrorLeaf}
+use Rattle.paper.specs.Store.{leafNo}
+use Rattle.paper.specs.Packed.{Link, noLink, linksAt, leafAt, recordOk, codeFor, startsFrom}
+use Rattle.laws.proofs.Masks.{maskFor, marked}
+use Rattle.least.specs.Keys.{markOf, Group, leafKey}
+
+-- ---- the places of a list of bytes
+
+-- at which its records start, divided from the front
+abbrev pub placesIn : List ℕ → List ℕ
+placesIn l = startsFrom l (length l / 2) 0
+
+-- at which its leaves do
+abbrev pub leavesIn : List ℕ → List ℕ
+leavesIn l = count 0 (length l / 8)
+
+-- ---- matching. l: the bytes of a list; m: the marks one list down, u the bytes that a place counts there
+
+-- leaves p and q match under t
+unfoldable pub leavesMatch : List ℕ → ℕ → ℕ → ℕ → Bool
+leavesMatch l p q t = eqb (leafNo (leafAt l p)) (mirrorLeaf t (leafNo (leafAt l q)))
+
+-- two pointers match under t; `self x v`: the record at place x matches itself under v
+unfoldable pub linkMatch : (ℕ → ℕ → Bool) → ℕ → Link → Link → Bool
+linkMatch self t r s =
+    let m : Bool = self (r .place) (bitXor (bitXor (r .tag) (s .tag)) t) in
+    cond (eqb (r .code) 0) (eqb (s .code) 0) (cond (eqb (s .code) 0) false (cond (eqb (r .place) (s .place)) m false))
+
+-- by the marks
+abbrev pub selfBy : ℕ → List ℕ → ℕ → ℕ → Bool
+selfBy u m x v = marked (markOf u m x) v
+
+-- the records at places p and q match under t
+unfoldable pub recordsMatch : ℕ → List ℕ → List ℕ → ℕ → ℕ → ℕ → Bool
+recordsMatch u m l p q t =
+    allBelow 8 (λ i. linkMatch (selfBy u m) t (getD (linksAt l p) i noLink) (getD (linksAt l q) (bitXor i t) noLink))
+
+-- their masks
+unfoldable pub leafMask : List ℕ → ℕ → ℕ
+leafMask l p = maskFor (leavesMatch l p p)
+
+unfoldable pub recordMask : ℕ → List ℕ → List ℕ → ℕ → ℕ
+recordMask u m l p = maskFor (recordsMatch u m l p p)
+
+-- every mark is a group of mirrors; u the bytes that a place counts
+abbrev pub Grouped : ℕ → List ℕ → Type 0
+Grouped u m = (x : ℕ) → (markOf u m x ≡ 0 → ⊥) → Group (markOf u m x)
+
+-- ---- the rules of one record
+
+-- a tag is the lowest with its meaning: no lower one differs from it by a mirror of this mask
+unfoldable pub lowBy : ℕ → ℕ → Bool
+lowBy mask tag = allBelow tag (λ v. not (marked mask (bitXor v tag)))
+
+-- a pointer names the start of a record, is short exactly when its place is at most 8,191, and its tag is the lowest
+unfoldable pub linkRules : ℕ → List ℕ → Link → Bool
+linkRules u m r =
+    let mask : ℕ = markOf u m (r .place) in
+    cond (eqb (r .code) 0) true (ltb 0 mask && eqb (r .code) (codeFor (r .place)) && lowBy mask (r .tag))
+
+-- a whole record, with good pointers
+unfoldable pub recordRules : ℕ → List ℕ → List ℕ → ℕ → Bool
+recordRules u m l p = recordOk l p && allIn (linkRules u m) (linksAt l p)
+
+-- no two of the records at these places match under any mirror
+unfoldable pub apartIn : (ℕ → ℕ → ℕ → Bool) → List ℕ → Bool
+apartIn match ps = allBelow (length ps) (λ q. allBelow q (λ r. allBelow 8 (λ t. not (match (getD ps q 0) (getD ps r 0) t))))
+
+-- ---- keys
+
+-- the key of the leaf at place p
+abbrev pub leafKeyAt : List ℕ → ℕ → ℕ
+leafKeyAt l p = leafKey (leafNo (leafAt l p))

@@ -1,0 +1,194 @@
+// Matching and symmetry masks, by the marks one list down, and whether two records of a list match.
+ghost use mathlib.Core.Path.{_≡_};
+ghost use mathlib.Core.Bool.{not};
+ghost use Prim.Native.Nat.{_+_, _*_, _/_, _%_, _^_, _≤_, _<_};
+ghost use lib.Dec.{T, eqb};
+ghost use lib.ListN.{length, take, drop, replicate};
+ghost use mathlib.Core.List.{map};
+ghost use Rattle.paper.specs.Numbers.{allIn, bitFor};
+ghost use Rattle.paper.specs.Leaf.{mirrorLeaf};
+ghost use Rattle.paper.specs.Packed.{recordOk};
+ghost use Rattle.laws.proofs.Masks.{maskFor};
+ghost use Rattle.packed.specs.Records.{linkIs};
+ghost use Rattle.sorted.specs.Slots.{slotsOf};
+ghost use Rattle.alike.specs.Matching.{selfBy, leavesMatch, linkMatch, recordsMatch, recordMask, recordRules, apartIn, placesIn, leavesIn, leafKeyAt, Grouped};
+use crate::records::CHILDREN;
+use crate::records::HALF;
+use crate::records::LEAF_UNIT;
+use crate::records::MIRRORS;
+use crate::records::width;
+use leaf::mirror_leaf;
+use least::least_leaf;
+use least::mark;
+use numbers::put_number;
+use packed::Pointer;
+use packed::leaf;
+use packed::pointer_at;
+use sorted::two_equal;
+
+// The bytes of a slot that holds a place.
+const SLOT: usize = 4;
+
+// All bytes zero.
+pub fn clear(scratch: &mut [u8])
+    ensures { λ _. ⌜ now (scratch .exit) ≡ replicate (length (now (scratch .entry))) 0 ⌝ }
+{
+    let mut i = 0usize;
+    while i < scratch.len() {
+        scratch[i] = 0;
+        i += 1;
+    }
+}
+
+// ---- leaves
+
+// The mirrors under which a leaf matches itself.
+pub fn leaf_mask(leaf: u64) -> u8
+    ensures { λ r. ⌜ r ≡ maskFor (λ t. eqb leaf (mirrorLeaf t leaf)) ⌝ }
+{
+    let mut mirror = MIRRORS;
+    let mut mask = 0u8;
+    while mirror != 0 {
+        mirror -= 1;
+        mask = 2 * mask + same_leaf(leaf, mirror_leaf(leaf, mirror));
+    }
+    mask
+}
+
+// 1 for equal leaves, else 0.
+fn same_leaf(a: u64, b: u64) -> u8
+    ensures { λ r. ⌜ r ≡ bitFor (eqb a b) ⌝ }
+{
+    if a == b { 1 } else { 0 }
+}
+
+// Lays the leaves' keys over their share.
+fn lay_keys(leaves: &[u8], share: &mut [u8])
+    requires { ⌜ length (now leaves) % 8 ≡ 0 ⌝ }
+    requires { ⌜ length (now leaves) < 2 ^ 32 ⌝ }
+    requires { ⌜ length (now share) ≡ length (now leaves) ⌝ }
+    ensures { λ _. ⌜ (slotsOf 8 (length (now (leaves .entry)) / 8) (now (share .exit)) ≡ map (leafKeyAt (now (leaves .entry))) (leavesIn (now (leaves .entry)))) × (length (now (share .exit)) ≡ length (now (share .entry))) ⌝ }
+{
+    let count = (leaves.len() / LEAF_UNIT) as u32;
+    let mut place = 0u32;
+    while place < count {
+        let key = least_leaf(leaf(leaves, place));
+        put_number(share, LEAF_UNIT * (place as usize), LEAF_UNIT, key);
+        place += 1;
+    }
+}
+
+// Whether two of the leaves match: their keys are sorted in the share, which is lent for the work and left as it was.
+pub fn two_leaves_match(leaves: &[u8], share: &mut [u8]) -> bool
+    requires { ⌜ length (now leaves) % 8 ≡ 0 ⌝ }
+    requires { ⌜ length (now leaves) < 2 ^ 32 ⌝ }
+    requires { ⌜ now share ≡ replicate (length (now leaves)) 0 ⌝ }
+    ensures { λ r. ⌜ (r ≡ not (apartIn (leavesMatch (now (leaves .entry))) (leavesIn (now (leaves .entry))))) × (now (share .exit) ≡ now (share .entry)) ⌝ }
+{
+    let count = leaves.len() / LEAF_UNIT;
+    lay_keys(leaves, share);
+    let found = two_equal(leaves, share, LEAF_UNIT, LEAF_UNIT, count);
+    clear(share);
+    found
+}
+
+// ---- records
+
+// Whether two pointers match under a mirror.
+fn link_match(marks: &[u8], unit: usize, mirror: u32, a: Pointer, b: Pointer) -> bool
+    requires { ⌜ (unit ≤ 8) × (mirror < 8) × (a .tag < 8) × (b .tag < 8) ⌝ }
+    ensures { λ r. ⌜ r ≡ linkMatch (selfBy unit (now (marks .entry))) mirror (linkIs a) (linkIs b) ⌝ }
+{
+    if a.code == 0 {
+        return b.code == 0;
+    }
+    if b.code == 0 {
+        return false;
+    }
+    if a.place != b.place {
+        return false;
+    }
+    (mark(marks, unit, a.place) >> (a.tag ^ b.tag ^ mirror)) % 2 == 1
+}
+
+// Whether the records at two places match under a mirror.
+fn records_match(
+    list: &[u8],
+    place: u32,
+    other: u32,
+    marks: &[u8],
+    unit: usize,
+    mirror: u32,
+) -> bool
+    requires { ⌜ T (recordOk (now list) place) × T (recordOk (now list) other) ⌝ }
+    requires { ⌜ (unit ≤ 8) × (mirror < 8) ⌝ }
+    ensures { λ r. ⌜ r ≡ recordsMatch unit (now (marks .entry)) (now (list .entry)) place other mirror ⌝ }
+{
+    let mut i = CHILDREN;
+    while i != 0 {
+        i -= 1;
+        let a = pointer_at(list, place, i);
+        let b = pointer_at(list, other, i ^ mirror);
+        if link_match(marks, unit, mirror, a, b) {
+            continue;
+        }
+        return false;
+    }
+    true
+}
+
+// The mirrors under which the record at a place matches itself.
+pub fn record_mask(list: &[u8], place: u32, marks: &[u8], unit: usize) -> u8
+    requires { ⌜ T (recordOk (now list) place) ⌝ }
+    requires { ⌜ unit ≤ 8 ⌝ }
+    ensures { λ r. ⌜ r ≡ recordMask unit (now (marks .entry)) (now (list .entry)) place ⌝ }
+{
+    let mut mirror = MIRRORS;
+    let mut mask = 0u8;
+    while mirror != 0 {
+        mirror -= 1;
+        mask = 2 * mask + bit_for(records_match(list, place, place, marks, unit, mirror));
+    }
+    mask
+}
+
+// 1 for true, 0 for false.
+fn bit_for(test: bool) -> u8
+    ensures { λ r. ⌜ r ≡ bitFor test ⌝ }
+{
+    if test { 1 } else { 0 }
+}
+
+// Lays the records' places over the list's own share, and answers how many they are.
+fn lay_places(list: &[u8], shares: &mut [u8]) -> usize
+    requires { ⌜ T (allIn (recordOk (now list)) (placesIn (now list))) ⌝ }
+    requires { ⌜ (length (now list) % 2 ≡ 0) × (length (now list) < 2 ^ 32) ⌝ }
+    requires { ⌜ length (now list) ≤ length (now shares) ⌝ }
+    ensures { λ r. ⌜ (slotsOf 4 r (now (shares .exit)) ≡ placesIn (now (list .entry))) × (4 * r ≤ length (now (list .entry))) × (drop (length (now (list .entry))) (now (shares .exit)) ≡ drop (length (now (list .entry))) (now (shares .entry))) × (length (now (shares .exit)) ≡ length (now (shares .entry))) ⌝ }
+{
+    let mut count = 0usize;
+    let mut place = 0u32;
+    while HALF * (place as usize) < list.len() {
+        put_number(shares, SLOT * count, SLOT, place as u64);
+        count += 1;
+        place += width(list, place);
+    }
+    count
+}
+
+// Whether two of the records match: their places are sorted by the records' keys. `shares` has the list's own share, lent
+// for the work and left as it was, and after it the marks one list down.
+pub fn two_match(list: &[u8], shares: &mut [u8], unit: usize) -> bool
+    requires { ⌜ T (allIn (recordRules unit (drop (length (now list)) (now shares)) (now list)) (placesIn (now list))) ⌝ }
+    requires { ⌜ Grouped unit (drop (length (now list)) (now shares)) ⌝ }
+    requires { ⌜ (length (now list) % 2 ≡ 0) × (length (now list) < 2 ^ 32) ⌝ }
+    requires { ⌜ (length (now list) ≤ length (now shares)) × (take (length (now list)) (now shares) ≡ replicate (length (now list)) 0) ⌝ }
+    requires { ⌜ unit ≤ 8 ⌝ }
+    ensures { λ r. ⌜ (r ≡ not (apartIn (recordsMatch unit (drop (length (now (list .entry))) (now (shares .entry))) (now (list .entry))) (placesIn (now (list .entry))))) × (now (shares .exit) ≡ now (shares .entry)) ⌝ }
+{
+    let own = list.len();
+    let count = lay_places(list, shares);
+    let found = two_equal(list, shares, unit, SLOT, count);
+    clear(&mut shares[0..own]);
+    found
+}

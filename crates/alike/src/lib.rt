@@ -1,0 +1,16 @@
+// Records of one list beside each other: their masks, and whether two match under some mirror, by places and by the marks
+// one list down.
+mod alike; // masks and matching
+mod records; // one record
+
+pub use alike::clear;
+pub use alike::leaf_mask;
+pub use alike::record_mask;
+pub use alike::two_leaves_match;
+pub use alike::two_match;
+pub use records::CHILDREN;
+pub use records::HALF;
+pub use records::LEAF_UNIT;
+pub use records::links_bad;
+pub use records::tag_high;
+pub use records::width;
