@@ -1,4 +1,4 @@
--- Loops that look for a number below n that passes a test, and the rules of a list as such a search; the marks of tests gathered. By the tests' own
+-- Loops that look for a number below n that passes a test, and the rules of a list as such a search; two tests one after the other. By the tests' own
 -- laws. Assumes nothing.
 use mathlib.Core.Path.{_≡_, refl, sym, _∙_, ap}
 use mathlib.Core.Bool.{Bool, true, false, false≢true, cond, not, _&&_}
@@ -9,11 +9,11 @@ use native.Mathlib.Numerals.{add-one}
 use native.Mathlib.Omega.{arith}
 use lib.Bits.{bitXor}
 use lib.ListN.{length, getD}
-use Rattle.paper.specs.Numbers.{both, allBelow, anyBelow, allIn, count, bitFor, gather}
+use Rattle.paper.specs.Numbers.{both, allBelow, anyBelow, allIn, count}
 use Rattle.paper.specs.Packed.{leafOk}
 use Rattle.laws.proofs.Tests.{any-same}
 use Rattle.laws.proofs.Lists.{length-count, getD-count}
-use Rattle.laws.proofs.Masks.{maskFor, marked}
+use Rattle.laws.proofs.Masks.{marked}
 use Rattle.alike.specs.Matching.{lowBy}
 
 -- ---- a search by rising numbers
@@ -74,12 +74,6 @@ leaves-bad-is l n =
     not-allIn (leafOk l) 0 (count 0 n) ∙ ap (λ (m : ℕ). anyBelow m (λ i. not (leafOk l (getD (count 0 n) i 0)))) (length-count n 0)
     ∙ any-same n (λ i. not (leafOk l (getD (count 0 n) i 0))) (λ i. not (leafOk l i))
     (λ i h. ap (λ (j : ℕ). not (leafOk l j)) (getD-count n 0 i h ∙ omega arith))
-
--- ---- masks gathered from the highest mirror down
-
-pub mask-is : (p : ℕ → Bool) (m : ℕ) → m ≡ gather 0 (8 - 0) (λ t. bitFor (p t)) → m ≡ maskFor p
-unfolding maskFor
-mask-is p m e = e
 
 -- ---- two tests one after the other
 

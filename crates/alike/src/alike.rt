@@ -2,13 +2,11 @@
 ghost use mathlib.Core.Path.{_≡_};
 ghost use mathlib.Core.Bool.{not};
 ghost use Prim.Native.Nat.{_+_, _*_, _/_, _%_, _^_, _≤_, _<_};
-ghost use lib.Dec.{T, eqb};
+ghost use lib.Dec.{T};
 ghost use lib.ListN.{length, take, drop, replicate};
 ghost use mathlib.Core.List.{map};
 ghost use Rattle.paper.specs.Numbers.{allIn, bitFor};
-ghost use Rattle.paper.specs.Leaf.{mirrorLeaf};
 ghost use Rattle.paper.specs.Packed.{recordOk};
-ghost use Rattle.laws.proofs.Masks.{maskFor};
 ghost use Rattle.packed.specs.Records.{linkIs};
 ghost use Rattle.sorted.specs.Slots.{slotsOf};
 ghost use Rattle.alike.specs.Matching.{selfBy, leavesMatch, linkMatch, recordsMatch, recordMask, recordRules, apartIn, placesIn, leavesIn, leafKeyAt, Grouped};
@@ -17,7 +15,6 @@ use crate::records::HALF;
 use crate::records::LEAF_UNIT;
 use crate::records::MIRRORS;
 use crate::records::width;
-use leaf::mirror_leaf;
 use least::least_leaf;
 use least::mark;
 use numbers::put_number;
@@ -41,26 +38,6 @@ pub fn clear(scratch: &mut [u8])
 }
 
 // ---- leaves
-
-// The mirrors under which a leaf matches itself.
-pub fn leaf_mask(leaf: u64) -> u8
-    ensures { λ r. ⌜ r ≡ maskFor (λ t. eqb leaf (mirrorLeaf t leaf)) ⌝ }
-{
-    let mut mirror = MIRRORS;
-    let mut mask = 0u8;
-    while mirror != 0 {
-        mirror -= 1;
-        mask = 2 * mask + same_leaf(leaf, mirror_leaf(leaf, mirror));
-    }
-    mask
-}
-
-// 1 for equal leaves, else 0.
-fn same_leaf(a: u64, b: u64) -> u8
-    ensures { λ r. ⌜ r ≡ bitFor (eqb a b) ⌝ }
-{
-    if a == b { 1 } else { 0 }
-}
 
 // Lays the leaves' keys over their share.
 fn lay_keys(leaves: &[u8], share: &mut [u8])

@@ -4,7 +4,6 @@ mod alike; // masks and matching
 mod records; // one record
 
 pub use alike::clear;
-pub use alike::leaf_mask;
 pub use alike::record_mask;
 pub use alike::two_leaves_match;
 pub use alike::two_match;

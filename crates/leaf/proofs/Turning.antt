@@ -11,7 +11,7 @@ use lib.Bits.{bitAnd, bitOr, bitXor, xor-zero-r, and-shr, and-mod, or-shr, or-mo
 use lib.Dec.{T, eqb, leb, ltb, eqb→eq, leb→le, ltb→lt}
 use lib.Pow.{shr-shr, pow-pos}
 use borrow.Author.Tests.{leb-false, eqb-false}
-use Rattle.paper.specs.Numbers.{allBelow, bit, bitFor, gather}
+use Rattle.paper.specs.Numbers.{allBelow, bit, bitFor}
 use Rattle.paper.specs.Rooms.{point, flip, mirror}
 use Rattle.paper.specs.Leaf.{bitOf, voxelOf, leafVoxel, leafOf, mirrorLeaf}
 use Rattle.laws.proofs.Tests.{true-T, all-at, and-left, and-right}

@@ -1,5 +1,5 @@
 -- A leaf's bits moved by changing their numbers: what one axis of a mirror does. Definitions only.
-use mathlib.Core.Bool.{Bool, true, cond, _&&_, _||_}
+use mathlib.Core.Bool.{Bool, cond, _&&_, _||_}
 use Prim.Native.Nat.{ℕ, _+_, _-_, _*_, _^_}
 use lib.Bits.{bitXor}
 use lib.Dec.{eqb, leb, ltb}

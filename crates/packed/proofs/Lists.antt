@@ -7,15 +7,15 @@ use Prim.Native.Nat.{ℕ, zero, suc, _+_, _-_, _*_, _%_, _^_, _<_, _≤_}
 use native.Mathlib.Nat.{mod-eq-of-lt, not-suc-le-zero}
 use native.Mathlib.Numerals.{one-add}
 use native.Mathlib.Omega.{arith}
-use borrow.Author.Tests.{ne-eqb, eq-eqb, le-leb, not-false, eqb-true, eqb-false}
+use borrow.Author.Tests.{ne-eqb, eq-eqb, not-false}
 use lib.Dec.{T, eqb, leb, ltb, leb→le, ltb→lt}
 use lib.ListN.{length, take, drop, getD, length-drop}
 use lib.Seq.{take-all}
-use Rattle.paper.specs.Rooms.{Point, point, Inside, mirror, childNo, inChild, least, deepest}
+use Rattle.paper.specs.Rooms.{Point, point, Inside, mirror, childNo, inChild, least}
 use Rattle.paper.specs.Outline.{edge, fileDepth}
 use Rattle.paper.specs.Leaf.{leafVoxel}
 use Rattle.paper.specs.Store.{leafNo}
-use Rattle.paper.specs.Packed.{emptyMark, rootTag, isEmpty, topOf, sizeAt, tailAt, startAt, listAt, headOk, rootOk, sizesOk, startsOf, Link, noLink, linksAt, leafAt, recordOk, leafOk, Step, Way, broken, ended, after, unless, packedWay, wayIn}
+use Rattle.paper.specs.Packed.{emptyMark, rootTag, isEmpty, topOf, sizeAt, tailAt, startAt, listAt, headOk, rootOk, sizesOk, Link, noLink, linksAt, leafAt, recordOk, leafOk, Step, Way, broken, ended, after, unless, packedWay, wayIn}
 use Rattle.paper.specs.Calls.{packedOutside}
 use Rattle.laws.proofs.Tests.{T-true, true-T, and-left, and-right}
 use Rattle.packed.specs.declared.Reached.the-variants.{Solid, Empty}

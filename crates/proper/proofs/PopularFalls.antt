@@ -1,7 +1,7 @@
 -- Numbers that are above 0 and never rise along a list: told from the front, as code tests them, and by their numbers, as the rules have them. By
 -- induction along the list. Assumes nothing.
 use mathlib.Core.Path.{_≡_, ap, ap₂}
-use mathlib.Core.Bool.{Bool, true, _&&_}
+use mathlib.Core.Bool.{Bool, _&&_}
 use mathlib.Core.List.{List, [], _∷_, map}
 use Prim.Native.Nat.{ℕ, zero, suc, _-_, _<_, _≤_, suc-le-suc}
 use native.Mathlib.Nat.{le-of-suc-le-suc, not-suc-le-zero}

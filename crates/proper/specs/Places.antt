@@ -1,7 +1,7 @@
 -- The rules of a proper file as code tests them: by places and marks, not by numbers of records. A list's MARKS are as many bytes as the list has: at
 -- the first byte of each record its symmetry mask (bit t: it matches itself under t), 0 elsewhere. A record's mask, its matching and the lowest tag
 -- of a pointer to it need the marks one list down only. Definitions only.
-use mathlib.Core.Bool.{Bool, true, false, cond, not, _&&_}
+use mathlib.Core.Bool.{Bool, true, false, cond, _&&_}
 use mathlib.Core.List.{List, [], _∷_}
 use Prim.Native.Nat.{ℕ, zero, suc, _+_, _-_, _*_}
 use lib.Dec.{eqb, leb, ltb}

@@ -11,12 +11,12 @@ ghost use Rattle.proper.specs.Places.{unitAt, listRules};
 ghost use Rattle.proper.specs.Phases.{endIn, leavesRules, leafMarks, innerRules, recordMarks, scratchAt, Listed};
 use alike::HALF;
 use alike::LEAF_UNIT;
-use alike::leaf_mask;
 use alike::links_bad;
 use alike::record_mask;
 use alike::two_leaves_match;
 use alike::two_match;
 use alike::width;
+use leaf::leaf_mask;
 use packed::leaf;
 use packed::record_bad;
 

@@ -2,13 +2,11 @@
 -- and one that counts up and never stops early gathers `anyBelow` and `allBelow`.
 -- Each by the clauses of the definitions, on the number of what is left. Assumes nothing.
 use mathlib.Core.Path.{_≡_, refl, sym, ap, ap₂, _∙_}
-use mathlib.Core.Logic.{⊎-elim}
 use mathlib.Core.Bool.{Bool, true, false, cond, not, _||_}
-use Prim.Native.Nat.{ℕ, zero, suc, _+_, _-_, _<_}
-use native.Mathlib.Nat.{eq-or-lt-of-le, le-of-suc-le-suc, not-suc-le-zero}
+use Prim.Native.Nat.{ℕ, zero, suc, _+_, _-_}
 use native.Mathlib.Numerals.{add-one, sub-one}
-use lib.Dec.{T, leb, ltb}
-use borrow.Author.Tests.{leb-true, leb-false, lt-ltb, le-ltb, not-true, not-false}
+use lib.Dec.{T}
+use borrow.Author.Tests.{not-true, not-false}
 use Rattle.laws.proofs.Tests.{true-T}
 pub use Rattle.laws.proofs.Tests.{ltb-not}
 use Rattle.paper.specs.Numbers.{both, allBelow, anyBelow}

@@ -2,11 +2,11 @@
 -- value stands. By cases on the tests. Assumes nothing.
 use mathlib.Core.Path.{_≡_, refl}
 use mathlib.Core.Bool.{Bool, true, false, not, cond}
-use mathlib.Core.List.{List, [], _∷_}
+use mathlib.Core.List.{[], _∷_}
 use Prim.Native.Nat.{ℕ}
 use lib.Dec.{T}
 use Rattle.paper.specs.Answers.{Outcome, told, outcome}
-use Rattle.paper.specs.Order.{Test, when, firstOf, settled}
+use Rattle.paper.specs.Order.{when, firstOf, settled}
 
 -- the outcome of a question, by its five tests and its value
 abbrev pub asked : Bool → Bool → Bool → Bool → Bool → ℕ → Outcome

@@ -1,13 +1,13 @@
 -- A box question's tests as code meets them: a side outside, a box outside, a box that ends inside the room; and the whole outcome of a scene that
 -- can be asked. By cases on the tests. Assumes nothing.
-use mathlib.Core.Path.{_≡_, refl, sym, ap, ap₂, _∙_, subst}
+use mathlib.Core.Path.{_≡_, refl, sym, ap, ap₂, subst}
 use mathlib.Core.Bool.{Bool, true, false, cond, not, _||_}
 use mathlib.Core.List.{List, [], _∷_}
-use Prim.Native.Nat.{ℕ, _^_, _<_, _≤_}
+use Prim.Native.Nat.{ℕ, _<_, _≤_}
 use borrow.Author.Tests.{lt-ltb, le-ltb, ltb-false}
 use lib.Dec.{T, ltb}
 use Rattle.paper.specs.Rooms.{Point}
-use Rattle.paper.specs.Store.{scenesHeld, sceneDepth, headerOk, sceneOk}
+use Rattle.paper.specs.Store.{scenesHeld, headerOk, sceneOk}
 use Rattle.paper.specs.Answers.{told, outcome, numberOf}
 use Rattle.paper.specs.Questions.{boxSolid}
 use Rattle.paper.specs.Calls.{noScene, ofScene, axisOutside, boxOutside, boxDamaged, boxOutcome}

@@ -1,19 +1,19 @@
 -- A cell question past the scene's tests: outside, an absent root, or the end of its walk; and its whole outcome. By the laws of cell questions from a
 -- root. Assumes nothing.
-use mathlib.Core.Path.{_≡_, refl, sym, ap, ap₂, _∙_, subst}
+use mathlib.Core.Path.{_≡_, refl, sym, ap, ap₂, _∙_}
 use mathlib.Core.Bool.{Bool, true, false, cond, not, _||_}
 use mathlib.Core.List.{List, [], _∷_}
-use Prim.Native.Nat.{ℕ, zero, suc, _-_, _*_, _^_, _<_, _≤_}
+use Prim.Native.Nat.{ℕ, _-_, _*_, _^_, _<_, _≤_}
 use native.Mathlib.Nat.{lt-of-lt-of-le}
 use native.Mathlib.Omega.{arith}
 use borrow.Author.Tests.{le-leb, lt-leb}
-use lib.Dec.{T, eqb, leb, lit≤}
+use lib.Dec.{T, eqb, leb}
 use lib.Pow.{pow-mono}
 use Rattle.paper.specs.Numbers.{bitFor}
-use Rattle.paper.specs.Rooms.{Point, Room, Inside, inside, depthOk, deepest, cellOf, nonEmpty}
+use Rattle.paper.specs.Rooms.{Point, Inside, inside, depthOk, deepest, cellOf, nonEmpty}
 use Rattle.paper.specs.Store.{Cell, tagOf, cellNo, scenesHeld, sceneDepth, sceneRoot, headerOk, sceneOk, keptOf}
 use Rattle.paper.specs.Meaning.{rootRoom}
-use Rattle.paper.specs.Answers.{Told, told, outcome, numberOf}
+use Rattle.paper.specs.Answers.{told, outcome, numberOf}
 use Rattle.paper.specs.Questions.{corner, pointerTo, cellFull, cellWay, fromRoot, wayDamaged, voxelWay}
 use Rattle.paper.specs.Calls.{noScene, cellOutside, cellDamaged, cellOutcome}
 use Rattle.paper.specs.declared.Refusal.{Refusal}

@@ -2,7 +2,7 @@
 -- all. By the laws of walks, and since a walk looks at coordinates in fours only. Assumes nothing.
 use mathlib.Core.Path.{_≡_, refl, sym, ap, ap₂, _∙_, subst}
 use mathlib.Core.Bool.{Bool, true, false, cond, not}
-use mathlib.Core.List.{List, []}
+use mathlib.Core.List.{List}
 use Prim.Native.Nat.{ℕ, zero, suc, _+_, _-_, _*_, _/_, _%_, _^_, _<_, _≤_}
 use native.Mathlib.Nat.{div-div-eq-div-mul, mul-lt-mul-of-pos-right, mul-le-mul-right}
 use native.Mathlib.Omega.{arith}
@@ -10,12 +10,12 @@ use lib.Bits.{bitXor}
 use lib.Dec.{T, eqb, leb}
 use lib.ListN.{length, getD}
 use lib.Pow.{pow-add, pow-pos}
-use Rattle.paper.specs.Numbers.{anyBelow, bitFor}
-use Rattle.paper.specs.Rooms.{Point, point, Room, Inside, depthOk, mirror, inChild, cellOf, nonEmpty}
+use Rattle.paper.specs.Numbers.{bitFor}
+use Rattle.paper.specs.Rooms.{Point, point, Inside, depthOk, mirror, cellOf, nonEmpty}
 use Rattle.paper.specs.Outline.{edge}
 use Rattle.paper.specs.Store.{Cell, cellsAt, cellAt, tagOf, cellNo, anyBad}
-use Rattle.paper.specs.Meaning.{cellVoxel, rootRoom}
-use Rattle.paper.specs.Questions.{below, wayDamaged, fromRoot, corner, pointerTo, cellFull, cellWay, voxelWay, voxelSolid}
+use Rattle.paper.specs.Meaning.{rootRoom}
+use Rattle.paper.specs.Questions.{below, wayDamaged, fromRoot, corner, pointerTo, voxelWay}
 use Rattle.laws.proofs.Eight.{eight2}
 use Rattle.laws.proofs.Bits.{bitFor-is}
 use Rattle.laws.proofs.OutlineCells.{nonEmpty-same, no-voxel-empty}

@@ -2,10 +2,9 @@
 -- step down being the same for all three. Assumes nothing.
 use mathlib.Core.Path.{_≡_, refl, sym, ap, ap₂, _∙_, subst⁻¹}
 use mathlib.Core.Bool.{Bool, true, false, cond, not}
-use mathlib.Core.List.{List, []}
-use Prim.Native.Nat.{ℕ, zero, suc, _/_, _%_, _^_, _<_, _≤_}
+use mathlib.Core.List.{List}
+use Prim.Native.Nat.{ℕ, zero, suc, _/_, _^_, _<_}
 use native.Mathlib.Nat.{mod-lt}
-use native.Mathlib.Omega.{arith}
 use lib.Bits.{bitXor}
 use lib.Dec.{T, eqb, leb, lit<, leb·suc-zero, eqb→eq}
 use lib.ListN.{length, getD}
@@ -13,11 +12,11 @@ use Rattle.paper.specs.Numbers.{bitFor}
 use Rattle.paper.specs.Rooms.{Point, mirror, inChild}
 use Rattle.paper.specs.Outline.{edge}
 use Rattle.paper.specs.Store.{Cell, cellsAt, cellAt, tagOf, cellNo, anyBad}
-use Rattle.paper.specs.Meaning.{pointerVoxel, cellVoxel}
+use Rattle.paper.specs.Meaning.{cellVoxel}
 use Rattle.paper.specs.Questions.{taken, below, inBelow, wayDamaged, pointerTo}
 use Rattle.laws.proofs.Eight.{xor8-lt}
 use Rattle.laws.proofs.Tests.{T-true}
-use Rattle.walk.specs.Walk.{octant, seenAt, takenFrom, reachOf, voxelEnd, cellEnd}
+use Rattle.walk.specs.Walk.{seenAt, takenFrom, reachOf, voxelEnd, cellEnd}
 use Rattle.walk.specs.declared.ways.Reach.{Reach}
 use Rattle.walk.specs.declared.ways.Reach.the-variants.{Absent, At, Damaged}
 use Rattle.walk.proofs.Seen.{child-seen, in-seen, tag-seen}

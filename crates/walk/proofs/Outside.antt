@@ -6,7 +6,7 @@ use native.Mathlib.Nat.{mod-eq-of-lt, one-mul, lt-of-le-of-lt}
 use borrow.Author.Tests.{le-ltb, lt-ltb, leb-true, leb-false}
 use lib.Dec.{leb, ltb, lit<}
 use lib.Pow.{pow-mono}
-use Rattle.paper.specs.Rooms.{Point, point, inside, deepest}
+use Rattle.paper.specs.Rooms.{point, inside, deepest}
 
 -- 2 to a height that a depth can have, shifted in 32 bits
 pub edge-fits : (h : ℕ) → h ≤ deepest → 1 * 2 ^ h % 4294967296 ≡ 2 ^ h

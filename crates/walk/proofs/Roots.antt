@@ -1,19 +1,19 @@
 -- A walk from a scene's root: what is read off its end is what paper's questions find, and the leaf that it ends at is kept. By the laws of walks,
 -- at the root's list, where a voxel inside needs no reducing. Assumes nothing.
 use mathlib.Core.Path.{_≡_, refl, sym, ap, _∙_, subst}
-use mathlib.Core.Bool.{Bool, true, false, cond, not, _&&_}
-use mathlib.Core.List.{List, []}
+use mathlib.Core.Bool.{Bool, true, false, cond, not}
+use mathlib.Core.List.{List}
 use mathlib.Core.Logic.{inl, inr}
-use Prim.Native.Nat.{ℕ, zero, suc, _+_, _-_, _*_, _/_, _%_, _^_, _<_, _≤_}
+use Prim.Native.Nat.{ℕ, zero, suc, _-_, _^_, _<_}
 use native.Mathlib.Nat.{mod-eq-of-lt}
 use native.Mathlib.Omega.{arith}
 use lib.Bits.{bitXor}
-use lib.Dec.{T, eqb, leb, leb·suc-zero, eqb→eq}
+use lib.Dec.{T, eqb, leb, leb·suc-zero}
 use lib.ListN.{length, getD}
 use Rattle.paper.specs.Numbers.{bitFor}
 use Rattle.paper.specs.Rooms.{Point, point, Inside, depthOk, mirror, inChild}
 use Rattle.paper.specs.Outline.{edge}
-use Rattle.paper.specs.Store.{Cell, cellsAt, cellAt, tagOf, lowOf, cellNo, badPointer, anyBad}
+use Rattle.paper.specs.Store.{Cell, cellsAt, cellAt, tagOf, cellNo, badPointer, anyBad}
 use Rattle.paper.specs.Meaning.{cellVoxel, rootRoom}
 use Rattle.paper.specs.Questions.{below, wayDamaged, fromRoot, voxelSolid, voxelWay}
 use Rattle.laws.proofs.Eight.{xor8-lt}

@@ -1,21 +1,17 @@
 -- The walk by numbers goes the way of the coordinates: a voxel seen under a mirror lies in the child of the mirrored number, and there again it is
 -- seen under that mirror; a pointer's tag joins the mirror. From the mirror laws, once over the edge. Assumes nothing.
-use mathlib.Core.Path.{_≡_, refl, sym, ap, _∙_, subst}
-use mathlib.Core.Bool.{Bool, true, false, cond}
-use mathlib.Core.List.{List, []}
-use Prim.Native.Nat.{ℕ, zero, suc, _+_, _*_, _/_, _%_, _^_, _<_}
+use mathlib.Core.Path.{_≡_, ap, _∙_}
+use Prim.Native.Nat.{ℕ, suc, _+_, _*_, _/_, _%_, _<_}
 use native.Mathlib.Nat.{pow-succ', mod-lt}
 use native.Mathlib.Omega.{arith}
 use lib.Arith.{mod-mul, digits-div, digits-mod}
 use lib.Bits.{bitXor}
-use lib.Dec.{eqb, leb, lit<}
-use lib.ListN.{length, getD}
+use lib.Dec.{lit<}
 use lib.Pow.{pow-pos}
 use Rattle.paper.specs.Rooms.{Point, point, Inside, mirror, childNo, inChild}
 use Rattle.paper.specs.Outline.{edge}
-use Rattle.paper.specs.Store.{Cell, cellsAt, cellAt, tagOf, cellNo, anyBad}
-use Rattle.laws.proofs.Mirrors.{mirror-inside, mirror-mirror, childNo-mirror, inChild-mirror}
-use Rattle.walk.specs.Walk.{octant, seenAt, takenFrom}
+use Rattle.laws.proofs.Mirrors.{mirror-mirror, childNo-mirror, inChild-mirror}
+use Rattle.walk.specs.Walk.{octant, seenAt}
 
 -- ---- one coordinate reduced twice
 

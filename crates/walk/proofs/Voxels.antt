@@ -1,14 +1,12 @@
 -- A voxel question past the scene's tests: outside, an absent root, or the end of the walk from the root. By the laws of walks from a root.
 -- Assumes nothing.
-use mathlib.Core.Path.{_≡_, refl, sym, ap, ap₂, _∙_, subst}
+use mathlib.Core.Path.{_≡_, refl, sym, ap, ap₂, _∙_}
 use mathlib.Core.Bool.{Bool, true, false, cond, not, _&&_}
 use mathlib.Core.List.{List, [], _∷_}
 use mathlib.Core.Logic.{inl, inr}
 use Prim.Native.Nat.{ℕ, _-_, _^_, _<_, _≤_}
-use native.Mathlib.Omega.{arith}
 use borrow.Author.Tests.{ne-eqb}
 use lib.Dec.{T, eqb, ltb, leb, leb→le, ltb→lt}
-use lib.ListN.{length}
 use Rattle.paper.specs.Numbers.{bitFor}
 use Rattle.paper.specs.Rooms.{Point, Inside, inside, depthOk, least, deepest}
 use Rattle.paper.specs.Store.{Cell, tagOf, cellNo, badPointer, scenesHeld, sceneDepth, sceneRoot, headerOk, sceneOk, keptOf}
@@ -17,7 +15,7 @@ use Rattle.paper.specs.Calls.{noScene, voxelOutside, voxelDamaged, voxelOutcome
 use Rattle.paper.specs.declared.Refusal.{Refusal}
 use Rattle.paper.specs.Meaning.{rootRoom}
 use Rattle.paper.specs.Questions.{voxelSolid, voxelWay}
-use Rattle.laws.proofs.Tests.{true-T, and-left, and-right, T-true}
+use Rattle.laws.proofs.Tests.{true-T, and-left, and-right}
 use Rattle.laws.proofs.Invariant.{OkPointer, names-lt, not-bad-ok}
 use Rattle.walk.specs.Walk.{reachOf, voxelEnd, toldBy, voxelTold}
 use Rattle.walk.proofs.Ends.{orDamage}

@@ -1,6 +1,6 @@
 -- A walk as code does it: coordinates are never reduced, and numbers are mirrored instead of cells. The eight pointers are looked at as stored;
 -- the number of the child is mirrored by the mirror in force, and its tag joins that mirror. Definitions only.
-use mathlib.Core.Bool.{Bool, true, false, cond, not, _||_}
+use mathlib.Core.Bool.{Bool, cond, not, _||_}
 use mathlib.Core.List.{List, [], _∷_}
 use Prim.Native.Nat.{ℕ, zero, suc, _+_, _-_, _*_, _/_, _%_, _^_, _<_}
 use lib.Bits.{bitXor}

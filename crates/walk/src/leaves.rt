@@ -1,6 +1,6 @@
 // The voxels of a leaf seen under a mirror: one, and the eight of a cell of height 1.
 ghost use mathlib.Core.Path.{_≡_};
-ghost use Prim.Native.Nat.{_+_, _<_, _≤_, _^_};
+ghost use Prim.Native.Nat.{_+_, _<_};
 ghost use lib.Dec.{eqb};
 ghost use Rattle.paper.specs.Leaf.{leafVoxel};
 ghost use Rattle.paper.specs.Numbers.{anyBelow};

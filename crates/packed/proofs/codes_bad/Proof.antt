@@ -1,7 +1,6 @@
 -- `packed::codes_bad` meets its contract: a code is 3 where both its bits are set, found for all eight at once. Assumes nothing.
 use mathlib.Core.Path.{ap}
 use mathlib.Core.Bool.{not}
-use borrow.Author.Needs.{needs}
 use Rattle.packed.proofs.Records.{codes-bits}
 use Rattle.packed.proofs.codes_bad.Statement.{statement}
 use Rattle.packed.proofs.codes_bad.Tie as tie

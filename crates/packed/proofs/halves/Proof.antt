@@ -1,10 +1,9 @@
 -- `packed::halves` meets its contract: the codes below n, added two by two, then four by four, give the definition's sum. Assumes nothing.
-use mathlib.Core.Path.{_≡_, sym, ap, _∙_}
+use mathlib.Core.Path.{_≡_, ap, _∙_}
 use Prim.Native.Nat.{ℕ, _+_, _*_, _/_, _%_, _^_, _<_, _≤_}
-use native.Mathlib.Nat.{mod-lt, mod-eq-of-lt, one-mul}
+use native.Mathlib.Nat.{mod-lt, mod-eq-of-lt}
 use native.Mathlib.Omega.{arith}
 use lib.Bits.{and-le-r}
-use lib.Dec.{lit<}
 use lib.Pow.{pow-mono, pow-pos}
 use Rattle.paper.specs.Packed.{halves as halvesOf}
 use Rattle.packed.proofs.CodeSums.{pairsOf, foursOf, halves-low, halves-sum, halves-three}

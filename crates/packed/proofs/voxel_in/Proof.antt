@@ -1,10 +1,9 @@
 -- `packed::voxel_in` meets its contract: a point outside is refused, and the walk's end is the answer. By the ways through the question.
 -- Assumes nothing.
 use mathlib.Core.Path.{_≡_, sym, _∙_, ap}
-use mathlib.Core.Bool.{true, _&&_}
+use mathlib.Core.Bool.{true}
 use mathlib.Core.List.{[]}
 use borrow.Author.Tests.{le-leb}
-use lib.Dec.{leb}
 use Rattle.paper.specs.Rooms.{Point, point, depthOk, least, deepest}
 use Rattle.paper.specs.Outline.{fileDepth}
 use Rattle.paper.specs.Answers.{outcome, found}

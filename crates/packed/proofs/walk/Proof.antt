@@ -1,7 +1,7 @@
 -- `packed::walk` meets its contract. The invariant: list k starts where the code says, and the walk from the record at hand, with the records read
 -- before, ends as the whole walk does; each way through a turn is a law of the walk by numbers. The measure is k. Assumes nothing.
-use mathlib.Core.Path.{_≡_, refl, sym, ap, ap₂, _∙_}
-use mathlib.Core.Bool.{true, false}
+use mathlib.Core.Path.{_≡_, sym, ap, ap₂, _∙_}
+use mathlib.Core.Bool.{true}
 use mathlib.Core.List.{List}
 use Prim.Native.Nat.{ℕ, _+_, _-_, _*_, _%_, _<_, _≤_}
 use native.Mathlib.Omega.{arith}

@@ -3,7 +3,6 @@ use mathlib.Core.Path.{_∙_}
 use native.Mathlib.Omega.{arith}
 use Rattle.paper.specs.Rooms.{point}
 use Rattle.packed.proofs.Lists.{lists-way, way-empty}
-use borrow.Author.Needs.{needs}
 use Rattle.packed.proofs.way_in.Statement.{statement}
 use Rattle.packed.proofs.way_in.Tie as tie
 

@@ -1,5 +1,5 @@
 -- `script::fill::fill_words` is safe and ends, and leaves the slice its length. The measure is what is left of it. Assumes nothing.
-use Prim.Native.Nat.{_+_, _-_, _≤_, _<_}
+use Prim.Native.Nat.{_-_, _≤_}
 use mathlib.Core.Path.{_≡_}
 use native.Mathlib.Omega.{arith}
 use lib.ListN.{length, length-set}

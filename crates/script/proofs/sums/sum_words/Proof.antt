@@ -1,6 +1,5 @@
 -- `script::sums::sum_words` is safe and ends: the sum stays below 2,147,483,647, so that no step wraps. Assumes nothing.
-use Prim.Native.Nat.{_+_, _-_, _≤_, _<_}
-use mathlib.Core.Path.{_≡_}
+use Prim.Native.Nat.{_-_, _≤_, _<_}
 use lib.ListN.{length}
 use borrow.Author.Needs.{needs}
 use Rattle.script.proofs.sums.sum_words.Statement.{statement}

@@ -1,5 +1,5 @@
 -- `script::text::put` meets its contract: it puts each byte inside the text and answers the place after the last. Assumes nothing.
-use Prim.Native.Nat.{_+_, _-_, _≤_, _<_}
+use Prim.Native.Nat.{_-_, _≤_}
 use mathlib.Core.Path.{_≡_}
 use lib.ListN.{length}
 use borrow.Author.Needs.{needs}

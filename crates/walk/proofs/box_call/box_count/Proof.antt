@@ -1,5 +1,5 @@
 -- `walk::box_call::box_count` meets its contract: a refused entry settles the question; of a scene that can be asked the box is told. Assumes nothing.
-use mathlib.Core.Path.{_≡_, sym, ap, _∙_}
+use mathlib.Core.Path.{sym, ap, _∙_}
 use mathlib.Core.List.{[]}
 use denote.Ref.{now}
 use Rattle.paper.specs.Answers.{Told, outcome}

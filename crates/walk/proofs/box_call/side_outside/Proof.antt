@@ -1,6 +1,5 @@
 -- `walk::box_call::side_outside` meets its contract: backwards, or past the edge. Assumes nothing.
 use Rattle.walk.proofs.BoxTests.{side-backwards, side-past}
-use borrow.Author.Needs.{needs}
 use Rattle.walk.proofs.box_call.side_outside.Statement.{statement}
 use Rattle.walk.proofs.box_call.side_outside.Tie as tie
 

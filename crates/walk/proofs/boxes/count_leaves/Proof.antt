@@ -1,9 +1,8 @@
 -- `walk::boxes::count_leaves` meets its contract. The invariant: the children left, with what is found, tally as all did. The measure is how many
 -- are left. Assumes nothing.
-use mathlib.Core.Path.{_≡_, refl, ap, _∙_}
-use Prim.Native.Nat.{ℕ, _+_, _-_, _≤_}
+use mathlib.Core.Path.{_≡_, refl, _∙_}
+use Prim.Native.Nat.{_+_, _-_, _≤_}
 use native.Mathlib.Omega.{arith}
-use lib.ListN.{getD}
 use Rattle.paper.specs.Store.{keptCount, keptOf}
 use Rattle.walk.specs.Box.{mostSolid, wholesSolid, wholesIn}
 use Rattle.walk.proofs.BoxWays.{none-bad}

@@ -8,7 +8,7 @@ use lib.ListN.{length}
 use Rattle.paper.specs.Outline.{edge}
 use Rattle.paper.specs.Rooms.{mirrored, boxCount}
 use Rattle.paper.specs.Leaf.{leafVoxel}
-use Rattle.paper.specs.Store.{badPointer, cellsAt, cellNo, keptCount, keptOf}
+use Rattle.paper.specs.Store.{badPointer, cellsAt, keptCount, keptOf}
 use Rattle.laws.proofs.Boxes.{origin, far}
 use Rattle.laws.proofs.Kept.{kept-length}
 use Rattle.walk.specs.Box.{wholeIn}

@@ -1,6 +1,6 @@
 -- `walk::calls::outside` meets its contract: each coordinate is tested against the edge, which the shift gives whole. Assumes nothing.
-use mathlib.Core.Path.{_≡_, sym, ap, subst, _∙_}
-use Prim.Native.Nat.{ℕ, _*_, _%_, _^_, _<_, _≤_}
+use mathlib.Core.Path.{ap, subst, _∙_}
+use Prim.Native.Nat.{ℕ, _^_, _<_, _≤_}
 use lib.Dec.{leb}
 use borrow.Author.Needs.{needs}
 use Rattle.walk.proofs.Outside.{edge-fits, outside-x, outside-y, outside-z}

@@ -1,10 +1,10 @@
 -- `walk::calls::voxel_from` meets its contract: outside, no root, or the end of the walk from the root, which stops at a kept leaf. Assumes nothing.
-use mathlib.Core.Path.{_≡_, sym, ap, ap₂, _∙_, subst, subst⁻¹}
+use mathlib.Core.Path.{_≡_, ap, ap₂, _∙_, subst, subst⁻¹}
 use mathlib.Core.List.{List}
 use Prim.Native.Nat.{ℕ, _-_, _^_, _<_}
 use native.Mathlib.Omega.{arith}
 use denote.Ref.{now}
-use lib.Dec.{T, eqb}
+use lib.Dec.{T}
 use lib.ListN.{length}
 use Rattle.paper.specs.Rooms.{Point, point, inside}
 use Rattle.paper.specs.Store.{Cell, heights, cellsAt, tagOf, cellNo, keptCount, keptOf}

@@ -1,6 +1,6 @@
 -- `walk::cell_call::cell_from` meets its contract: above the depth, outside, no root, or the cell under the root. Assumes nothing.
-use mathlib.Core.Path.{_≡_, _∙_}
-use Prim.Native.Nat.{ℕ, _-_, _^_}
+use mathlib.Core.Path.{_∙_}
+use Prim.Native.Nat.{_-_, _^_}
 use native.Mathlib.Omega.{arith}
 use denote.Ref.{now}
 use lib.Dec.{T}
@@ -9,7 +9,6 @@ use Rattle.paper.specs.Store.{keptOf}
 use Rattle.walk.proofs.Settled.{passed, failed}
 use Rattle.walk.proofs.Voxels.{depth-most}
 use Rattle.walk.proofs.CellTests.{cell-above, cell-past, cell-none, cell-inside}
-use borrow.Author.Needs.{needs}
 use Rattle.walk.proofs.cell_call.cell_from.Statement.{statement}
 use Rattle.walk.proofs.cell_call.cell_from.Tie as tie
 

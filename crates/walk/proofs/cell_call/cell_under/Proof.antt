@@ -1,5 +1,5 @@
 -- `walk::cell_call::cell_under` meets its contract: below height 2 by its leaf's bits, else by the pointer at which its walk ends. Assumes nothing.
-use mathlib.Core.Path.{_≡_, sym, ap, ap₂, _∙_, subst⁻¹}
+use mathlib.Core.Path.{_≡_, ap, ap₂, _∙_, subst⁻¹}
 use mathlib.Core.List.{List}
 use Prim.Native.Nat.{ℕ, _-_, _^_, _<_, _≤_}
 use native.Mathlib.Nat.{le-trans}

@@ -1,9 +1,9 @@
 -- `walk::scene::enter` meets its contract: each way through its tests is a law of entries. Assumes nothing.
-use mathlib.Core.Path.{_≡_, ap, ap₂, sym, _∙_, subst}
+use mathlib.Core.Path.{ap₂, _∙_, subst}
 use Prim.Native.Nat.{ℕ, _<_, _≤_}
 use denote.Ref.{now}
 use lib.Dec.{T}
-use Rattle.paper.specs.Store.{scenesHeld, headerOk, sceneOk, sceneDepth, sceneRoot}
+use Rattle.paper.specs.Store.{scenesHeld, headerOk, sceneOk}
 use Rattle.walk.specs.declared.scene.Entry.the-variants.{Root}
 use Rattle.walk.proofs.Settled.{passed, failed, held-fits}
 use Rattle.walk.proofs.Entries.{entry-header, entry-scene, entry-words, entry-root}
