@@ -305,7 +305,7 @@ fn questions(all: &Measured, room: &str) {
 }
 
 fn whole_calls(all: &Measured) {
-    println!("\n## Calls on a whole room: microseconds, and instructions where counted\n");
+    println!("\n## Calls on a whole room: milliseconds, and instructions where counted\n");
     let mut head = vec!["call"];
     head.extend(all.rooms.iter().map(String::as_str));
     print_head(&head);
@@ -325,10 +325,11 @@ fn whole_calls(all: &Measured) {
     for (item, who) in calls {
         let mut fields = vec![format!("{item}, {who}")];
         for room in &all.rooms {
-            let time = all.told(item, room, who).map(|time| time / 1000.0);
+            let time = all.told(item, room, who);
+            let time = time.map_or("-".to_string(), |time| format!("{:.2} ms", time / 1e6));
             let count = all.instructions(item, room, who);
             let count = count.map_or(String::new(), |count| format!(", {}", short(count)));
-            fields.push(format!("{}{count}", cell(time)));
+            fields.push(format!("{time}{count}"));
         }
         print_row(fields);
     }
