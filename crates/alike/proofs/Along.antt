@@ -3,21 +3,21 @@
 use mathlib.Core.Path.{_≡_, refl, sym, _∙_, ap, subst}
 use mathlib.Core.Bool.{Bool, true, false, cond}
 use mathlib.Core.List.{List, [], _∷_}
-use Prim.Native.Nat.{ℕ, zero, suc, _+_, _-_, _*_, _/_, _%_, _^_, _<_, _≤_}
+use Prim.Native.Nat.{ℕ, zero, suc, _+_, _-_, _*_, _/_, _%_, _<_, _≤_}
 use native.Mathlib.Nat.{le-of-suc-le-suc, not-suc-le-zero}
 use native.Mathlib.Numerals.{add-one}
 use native.Mathlib.Omega.{arith}
-use borrow.Author.Tests.{lt-ltb, le-ltb, ltb-true, eqb-true, eqb-false}
-use lib.Dec.{T, eqb, ltb, ltb→lt}
+use borrow.Author.Tests.{lt-ltb, le-ltb, ltb-true}
+use lib.Dec.{T, ltb}
 use lib.ListN.{length, getD, take, drop, length-drop}
 use lib.Seq.{take-all}
+pub use Rattle.laws.proofs.PackedLists.{record-two}
 use Rattle.paper.specs.Numbers.{allIn, isIn, indexIn, count}
 use Rattle.paper.specs.Packed.{headerAt, halves, linksAt, recordOk, startsFrom}
-use Rattle.laws.proofs.Tests.{and-left, and-right}
+use Rattle.laws.proofs.Tests.{and-left}
 use Rattle.paper.specs.Runs.{Bytes}
-use Rattle.laws.proofs.Bytes.{bytes-drop}
 use Rattle.laws.proofs.Lists.{allIn-head, allIn-tail, allIn-in, allIn-T, At, isIn-at}
-use Rattle.laws.proofs.PackedLists.{num2-lt, halves-one}
+use Rattle.laws.proofs.PackedLists.{halves-one}
 use Rattle.packed.proofs.Records.{record-good}
 use Rattle.alike.specs.Matching.{linkRules, recordRules, placesIn}
 
@@ -106,22 +106,7 @@ pub rules-links : (u : ℕ) (m l : List ℕ) (p : ℕ) → recordOk l p ≡ true
 unfolding recordRules
 rules-links u m l p e = rw e
 
--- a header that is not zero has a code that is not, so the record has four bytes at least
-pub some-code : (n h : ℕ) → h < 4 ^ n → 0 < h → 2 ≤ halves n h
-unfolding halves
-some-code zero h l p = absurd (omega arith)
-some-code (suc n) h l p = go (eqb (h % 4) 0) refl (some-code n (h / 4))
-  where
-    go : (b : Bool) → eqb (h % 4) 0 ≡ b → (h / 4 < 4 ^ n → 0 < h / 4 → 2 ≤ halves n (h / 4)) → 2 ≤ h % 4 + halves n (h / 4)
-    go true e ih = let z : h % 4 ≡ 0 = eqb-true (h % 4) 0 e in omega (arith, ih (omega arith) (omega arith))
-    go false e ih = omega (arith, eqb-false (h % 4) 0 e, halves-one n (h / 4))
-
-pub record-two : (l : List ℕ) (p : ℕ) → Bytes l → T (recordOk l p) → 2 ≤ widthAt l p
-unfolding recordOk
-record-two l p b t =
-    let h : 0 < headerAt l p = ltb→lt 0 (headerAt l p) (search (and-left, and-right)) in
-    some-code 8 (headerAt l p) (omega (arith, num2-lt (drop (2 * p) l) (bytes-drop (2 * p) l b))) h
-
+-- a record has four bytes at least
 pub record-wide : (l : List ℕ) (p : ℕ) → Bytes l → T (recordOk l p) → 2 * p + 4 ≤ length l
 record-wide l p b t = omega (arith, record-inside l p t, record-two l p b t)
 

@@ -11,7 +11,7 @@ use lib.Bits.{bitXor}
 use lib.ListN.{length, getD}
 use Rattle.paper.specs.Numbers.{both, allBelow, anyBelow, allIn, count}
 use Rattle.paper.specs.Packed.{leafOk}
-use Rattle.laws.proofs.Tests.{any-same}
+use Rattle.laws.proofs.Tests.{not-not, any-same}
 use Rattle.laws.proofs.Lists.{length-count, getD-count}
 use Rattle.laws.proofs.Masks.{marked}
 use Rattle.alike.specs.Matching.{lowBy}
@@ -32,10 +32,6 @@ not-all (suc n) p = go (p n) (not-all n p)
     go : (b : Bool) → not (allBelow n p) ≡ anyBelow n (λ i. not (p i)) → not (both b (allBelow n p)) ≡ cond (not b) true (anyBelow n (λ i. not (p i)))
     go true ih = ih
     go false ih = refl
-
-not-not : (b : Bool) → not (not b) ≡ b
-not-not true = refl
-not-not false = refl
 
 pub not-all-not : (n : ℕ) (p : ℕ → Bool) → not (allBelow n (λ i. not (p i))) ≡ anyBelow n p
 not-all-not n p = not-all n (λ i. not (p i)) ∙ any-same n (λ i. not (not (p i))) p (λ i h. not-not (p i))

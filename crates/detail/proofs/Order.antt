@@ -14,13 +14,8 @@ use lib.Ieee.Exact.{HasValue}
 use lib.Ieee.Order.{transfer}
 use lib.Ieee.Positive.{num, den, den-pos, value→cross}
 use borrow.Author.Tests.{lt-ltb, ne-eqb}
+use Rattle.laws.proofs.Tests.{iff-eq}
 use Rattle.paper.specs.Detail.{plain, within}
-
-pub same-test : (a b : Bool) → (T a → T b) → (T b → T a) → a ≡ b
-same-test true true f g = refl
-same-test true false f g = absurd (f tt)
-same-test false true f g = absurd (g tt)
-same-test false false f g = refl
 
 or-split : (a b : Bool) → T (a || b) → T a ⊎ T b
 or-split true b t = inl tt
@@ -28,7 +23,7 @@ or-split false b t = inr t
 
 -- `<=` as MIR's floats have it, by the two signs: below or level
 either : (a b : ℕ) → (ltb a b || (eqb a b && true)) ≡ leb a b
-either a b = same-test (ltb a b || (eqb a b && true)) (leb a b) there back
+either a b = iff-eq (ltb a b || (eqb a b && true)) (leb a b) there back
   where
     there : T (ltb a b || (eqb a b && true)) → T (leb a b)
     there t =
@@ -93,7 +88,7 @@ plain-of-value (fin false m e) a c v = tt
 pub value-le : (x y : Float) (a c : ℕ) → 0 < c → HasValue x false a c → T (plain y) → le x y ≡ leb (a * den y) (num y * c)
 value-le x y a c C v q =
     plain-le x y (plain-of-value x a c v) q
-    ∙ same-test (leb (num x * den y) (num y * den x)) (leb (a * den y) (num y * c))
+    ∙ iff-eq (leb (num x * den y) (num y * den x)) (leb (a * den y) (num y * c))
     (λ t. le→leb (a * den y) (num y * c)
     (transfer a (num y) c (den y) (num x) (num y) (den x) (den y) (den-pos x) (den-pos y) (sym (value→cross x a c v)) refl
     (leb→le (num x * den y) (num y * den x) t)))

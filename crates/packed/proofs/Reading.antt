@@ -11,15 +11,9 @@ use lib.Dec.{leb, ltb}
 use lib.ListN.{length, drop, getD}
 use lib.Seq.{drop-cons}
 use Rattle.paper.specs.Numbers.{be, num}
+pub use Rattle.laws.proofs.Tests.{ltb-not}
 
 -- ---- comparisons
-
-pub ltb-not : (a b : ℕ) → ltb a b ≡ not (leb b a)
-ltb-not a b = go (leb b a) refl
-  where
-    go : (c : Bool) → leb b a ≡ c → ltb a b ≡ not c
-    go true e = le-ltb a b (leb-true b a e)
-    go false e = lt-ltb a b (leb-false b a e)
 
 pub leb-not : (a b : ℕ) → leb a b ≡ not (ltb b a)
 leb-not a b = go (leb a b) refl

@@ -15,6 +15,7 @@ use Rattle.paper.specs.Numbers.{be, num, bitFor}
 use Rattle.paper.specs.Store.{leafNo}
 use Rattle.paper.specs.Packed.{Link, linkOf, noLink, headerAt, halves, codesOk, readLinks, linksAt, recordOk, leafAt, farthestShort}
 use Rattle.laws.proofs.Tests.{and-left, and-right, all-at, all-at2}
+pub use Rattle.laws.proofs.PackedLists.{halves-one}
 use Rattle.packed.specs.Records.{codeAt, takenOk}
 use Rattle.packed.proofs.Reading.{ltb-not}
 
@@ -30,11 +31,6 @@ code-shift i h l = ap (λ (n : ℕ). h / n % 4) (eqb→eq (2 ^ (2 * i)) (4 ^ i) 
 pub halves-none : (h : ℕ) → halves 0 h ≡ 1
 unfolding halves
 halves-none h = refl
-
-pub halves-one : (n h : ℕ) → 1 ≤ halves n h
-unfolding halves
-halves-one zero h = omega arith
-halves-one (suc n) h = omega (arith, halves-one n (h / 4))
 
 -- one child less
 pub halves-less : (n h : ℕ) → 0 < n → halves n h ≡ h % 4 + halves (n - 1) (h / 4)

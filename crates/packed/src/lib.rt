@@ -18,6 +18,7 @@ ghost use Rattle.packed.specs.Records.{linkIs, takenOk};
 ghost use Rattle.packed.specs.Walk.{foundAt, reached, plus, leafEnd, seenAt, octant, wayAt};
 use numbers::be32;
 use numbers::wide;
+use numbers::wider;
 use outline::depth;
 use outline::depth_bad;
 use outline::front_bad;
@@ -56,12 +57,6 @@ pub enum Reached {
 }
 
 // ---- numbers, high byte first
-
-fn wider(x: u32) -> u64
-    ensures { λ r. ⌜ (r ≡ x) × (r < 2 ^ 32) ⌝ }
-{
-    x as u64
-}
 
 // The number of the two bytes at a place.
 fn two(s: &[u8], at: usize) -> u32

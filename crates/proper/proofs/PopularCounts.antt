@@ -14,7 +14,7 @@ use lib.ListN.{length, getD, take, drop, replicate, length-append, length-replic
 use lib.Seq.{length-take-le, take-append-le, drop-append-add, take-take, take-add, drop-drop, drop-at}
 use Rattle.paper.specs.Numbers.{anyBelow, allIn, isIn, bitFor, bytes, be, num}
 use Rattle.paper.specs.Packed.{Link, noLink, linksAt}
-use Rattle.laws.proofs.Tests.{any-same}
+use Rattle.laws.proofs.Tests.{not-not, any-same}
 use Rattle.laws.proofs.Bytes.{bytes-length}
 use Rattle.laws.proofs.RecordReading.{num-bytes}
 use Rattle.numbers.specs.Laid.{laid}
@@ -74,10 +74,6 @@ zeros-num j (suc k) zero = zeros-be j 0
 zeros-num j (suc k) (suc n) = zeros-num j k n
 
 -- ---- a record names a place by one of its eight pointers
-
-not-not : (b : Bool) → not (not b) ≡ b
-not-not true = refl
-not-not false = refl
 
 names-some : (x : ℕ) (rs : List Link) → namesPlace x rs ≡ not (allIn (λ r. not (linkTo x r)) rs)
 unfolding namesPlace allIn

@@ -1,17 +1,11 @@
 // The sum of a list of bytes: h starts at 1, and for each byte b becomes (h × 1,000,003 + b + 1) mod 2,147,483,647.
 ghost use mathlib.Core.Path.{_≡_};
 ghost use Prim.Native.Nat.{_<_};
+use numbers::wider;
 
 // A byte as a wider number.
 fn wide(x: u8) -> u64
     ensures { λ r. ⌜ (r ≡ x) × (r < 256) ⌝ }
-{
-    x as u64
-}
-
-// A word as a wider number.
-fn wider(x: u32) -> u64
-    ensures { λ r. ⌜ (r ≡ x) × (r < 4294967296) ⌝ }
 {
     x as u64
 }

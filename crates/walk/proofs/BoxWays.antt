@@ -6,7 +6,7 @@ use mathlib.Core.List.{List}
 use Prim.Native.Nat.{ℕ, zero, suc, _+_, _-_, _*_, _^_, _<_, _≤_}
 use native.Mathlib.Nat.{mul-le-mul}
 use native.Mathlib.Omega.{arith}
-use lib.Bits.{bitXor}
+use lib.Bits.{bitXor, xor-zero-r}
 use lib.Dec.{T, eqb, leb, eqb→eq, leb→le}
 use lib.ListN.{length, getD}
 use lib.Pow.{pow-mono}
@@ -26,9 +26,8 @@ use Rattle.walk.specs.Box.{mostSolid, hasVoxel, Upto, isWhole, solidSeen
 use Rattle.walk.specs.declared.boxes.Tally.{Tally}
 use Rattle.walk.specs.declared.boxes.Tally.the-variants.{Solid, Damaged}
 use Rattle.walk.proofs.Tallies.{leaf-tally, box-whole, solid-down, box-down, pointer-bad, pointer-there}
-use Rattle.walk.proofs.Ends.{tag-lt}
 use Rattle.walk.proofs.LeafBoxes.{there-named}
-use Rattle.walk.proofs.Wholes.{xor-zero, whole-solid, whole-down, whole-damaged, wholes-damaged, solid-named, wholes-named}
+use Rattle.walk.proofs.Wholes.{whole-solid, whole-down, whole-damaged, wholes-damaged, solid-named, wholes-named}
 
 -- ---- numbers
 
@@ -215,4 +214,4 @@ module _ (ws : List ℕ) (n : ℕ) (ok : T (sceneOk ws n)) where
   scene-seen low high =
       let good : badPointer (length (cellsAt (keptOf ws) (depth - 2))) root ≡ false = rw (kept-length ws (depth - 2) (omega (arith, depth-in))) root-kept in
       ap (λ (b : Bool). by-root (edge (depth - 2)) (bitXor (tagOf root) 0) b low high) good
-      ∙ ap₂ (λ (E t : ℕ). by-root E t false low high) edge-depth (xor-zero (tagOf root) (tag-lt root))
+      ∙ ap₂ (λ (E t : ℕ). by-root E t false low high) edge-depth (xor-zero-r (tagOf root))

@@ -6,7 +6,7 @@ use mathlib.Core.List.{List}
 use Prim.Native.Nat.{ℕ, zero, suc, _+_, _-_, _*_, _/_, _%_, _^_, _<_, _≤_}
 use native.Mathlib.Nat.{div-div-eq-div-mul, mul-lt-mul-of-pos-right, mul-le-mul-right}
 use native.Mathlib.Omega.{arith}
-use lib.Bits.{bitXor}
+use lib.Bits.{bitXor, xor-zero-r}
 use lib.Dec.{T, eqb, leb}
 use lib.ListN.{length, getD}
 use lib.Pow.{pow-add, pow-pos}
@@ -16,13 +16,12 @@ use Rattle.paper.specs.Outline.{edge}
 use Rattle.paper.specs.Store.{Cell, cellsAt, cellAt, tagOf, cellNo, anyBad}
 use Rattle.paper.specs.Meaning.{rootRoom}
 use Rattle.paper.specs.Questions.{below, wayDamaged, fromRoot, corner, pointerTo, voxelWay}
-use Rattle.laws.proofs.Eight.{eight2}
 use Rattle.laws.proofs.Bits.{bitFor-is}
 use Rattle.laws.proofs.OutlineCells.{nonEmpty-same, no-voxel-empty}
 use Rattle.walk.specs.Walk.{octant, seenAt, takenFrom, reachOf, voxelEnd, cellEnd, leafSeen, smallAt}
 use Rattle.walk.specs.declared.ways.Reach.{Reach}
 use Rattle.walk.specs.declared.ways.Reach.the-variants.{Absent, At, Damaged}
-use Rattle.walk.proofs.Ends.{tag-lt, orDamage, isDamaged, pointer-end}
+use Rattle.walk.proofs.Ends.{orDamage, isDamaged, pointer-end}
 use Rattle.walk.proofs.Roots.{root-seen, root-damaged, voxel-root}
 
 -- ---- the corner lies inside
@@ -35,9 +34,6 @@ corner-inside D h c l i =
 
 -- ---- from height 2 up
 
-xor-zero : (t : ℕ) → t < 8 → bitXor t 0 ≡ t
-xor-zero t h = eight2 (λ a b. bitXor a 0) (λ a b. a) tt t 0 h (omega arith)
-
 -- no mirror, inside
 plain-seen : (D : ℕ) (v : Point) → T (depthOk D) → Inside (2 ^ D) v → seenAt (D - 2) 0 v ≡ v
 plain-seen D v d h = sym (root-seen D 0 v d h)
@@ -46,7 +42,7 @@ pub pointer-root : (K : List (List Cell)) (stop D p : ℕ) (v : Point) → T (de
     → cellEnd (reachOf K stop (D - 2) (cellNo p) (tagOf p) v) ≡ orDamage (fromRoot (wayDamaged K stop) K D p v) (bitFor (not (eqb (pointerTo K stop (D - 2) p v) 0)))
 pointer-root K stop D p v d h n =
     let t : ℕ = tagOf p in
-    let e : bitXor t 0 ≡ t = xor-zero t (tag-lt p) in
+    let e : bitXor t 0 ≡ t = xor-zero-r t in
     let c : Cell = below K (D - 2) p in
     ap (λ (m : ℕ). cellEnd (reachOf K stop (D - 2) (cellNo p) m v)) (sym e)
     ∙ pointer-end K stop (D - 2) p 0 v (omega arith) n

@@ -11,7 +11,7 @@ use Rattle.paper.specs.Answers.{numberOf}
 use Rattle.paper.specs.Store.{scenesHeld, keptCount, badPointer, headerOk, sceneOk, sceneDepth, sceneRoot}
 use Rattle.paper.specs.Calls.{noScene}
 use Rattle.paper.specs.declared.Refusal.the-variants.{DamagedStore, NoScene}
-use Rattle.laws.proofs.Tests.{true-T, T-true, and-left, and-right}
+use Rattle.laws.proofs.Tests.{true-T, T-true, not-false, and-left, and-right}
 use Rattle.walk.specs.Entry.{entryOf}
 use Rattle.walk.specs.declared.scene.Entry.{Entry}
 use Rattle.walk.specs.declared.scene.Entry.the-variants.{Root, Refused}
@@ -22,17 +22,13 @@ use Rattle.walk.proofs.Settled.{by-header, by-scene, by-words}
 abbrev entry : Bool → Bool → Bool → ℕ → ℕ → Entry
 entry a b c D p = cond a (cond b (Refused NoScene) (cond c (Root D p) (Refused DamagedStore))) (Refused DamagedStore)
 
-not-true : (b : Bool) → T (not b) → b ≡ false
-not-true true t = absurd t
-not-true false t = refl
-
 module _ (ws : List ℕ) (n : ℕ) where
   abbrev by : Bool → Bool → Bool → Entry
   by a b c = entry a b c (sceneDepth ws n) (sceneRoot ws n)
 
   pub entry-header : T (not (headerOk ws)) → Refused DamagedStore ≡ entryOf ws n
   unfolding entryOf
-  entry-header h = ap (λ (a : Bool). by a (noScene ws n) (sceneOk ws n)) (sym (not-true (headerOk ws) h))
+  entry-header h = ap (λ (a : Bool). by a (noScene ws n) (sceneOk ws n)) (sym (not-false (headerOk ws) h))
 
   pub entry-scene : T (headerOk ws) → scenesHeld ws ≤ n → Refused NoScene ≡ entryOf ws n
   unfolding entryOf
@@ -40,7 +36,7 @@ module _ (ws : List ℕ) (n : ℕ) where
 
   pub entry-words : T (headerOk ws) → n < scenesHeld ws → T (not (sceneOk ws n)) → Refused DamagedStore ≡ entryOf ws n
   unfolding entryOf
-  entry-words h l s = λ i. by (sym (T-true {b = headerOk ws} h) i) (sym (lt-leb (scenesHeld ws) n l) i) (sym (not-true (sceneOk ws n) s) i)
+  entry-words h l s = λ i. by (sym (T-true {b = headerOk ws} h) i) (sym (lt-leb (scenesHeld ws) n l) i) (sym (not-false (sceneOk ws n) s) i)
 
   pub entry-root : T (headerOk ws) → n < scenesHeld ws → T (sceneOk ws n) → Root (sceneDepth ws n) (sceneRoot ws n) ≡ entryOf ws n
   unfolding entryOf
@@ -79,7 +75,7 @@ pub entered-root : {ws : List ℕ} {n D p : ℕ} → Entered ws n D p → badPoi
 unfolding sceneOk
 entered-root {ws} {n} e =
     ap₂ (λ (d q : ℕ). badPointer (keptCount ws (d - 2)) q) (e .depth) (e .root)
-    ∙ not-true (badPointer (keptCount ws (sceneDepth ws n - 2)) (sceneRoot ws n)) (and-right (depthOk (sceneDepth ws n)) (not (badPointer (keptCount ws (sceneDepth ws n - 2)) (sceneRoot ws n))) (e .words))
+    ∙ not-false (badPointer (keptCount ws (sceneDepth ws n - 2)) (sceneRoot ws n)) (and-right (depthOk (sceneDepth ws n)) (not (badPointer (keptCount ws (sceneDepth ws n - 2)) (sceneRoot ws n))) (e .words))
 
 pub scene-deep : (ws : List ℕ) (n : ℕ) → T (sceneOk ws n) → sceneDepth ws n ≤ deepest
 unfolding sceneOk

@@ -6,7 +6,7 @@ use mathlib.Core.List.{List}
 use Prim.Native.Nat.{ℕ, zero, suc, _+_, _-_, _*_, _/_, _%_, _<_, _≤_, min}
 use native.Mathlib.Nat.{add-zero}
 use native.Mathlib.Omega.{arith}
-use lib.Bits.{bitXor}
+use lib.Bits.{bitXor, xor-zero-r}
 use lib.Dec.{T, T-not, eqb, eqb→eq, lit<}
 use lib.ListN.{length, getD}
 use borrow.Author.Tests.{eq-eqb}
@@ -15,7 +15,6 @@ use Rattle.paper.specs.Rooms.{point, Room, boxCount}
 use Rattle.paper.specs.Outline.{edge}
 use Rattle.paper.specs.Store.{Cell, cellsAt, cellAt, tagOf, cellNo, badPointer, anyBad}
 use Rattle.laws.proofs.Tests.{true-T, and-left, and-right}
-use Rattle.laws.proofs.Eight.{below8}
 use Rattle.laws.proofs.Sums.{sum-same, sum-add, sum-times, sum-pos}
 use Rattle.laws.proofs.Tests.{any-at}
 use Rattle.laws.proofs.Boxes.{origin, far, clipped, box-pos}
@@ -25,9 +24,6 @@ use Rattle.walk.proofs.Seen.{edge-pos, edge-double}
 use Rattle.walk.proofs.Tallies.{tally-damaged, solid-says, sum-last, last-damaged, last-solid, last-tally, box-whole, solid-down, box-down, pointer-absent, pointer-there}
 
 -- ---- down
-
-pub xor-zero : (i : ℕ) → i < 8 → bitXor i 0 ≡ i
-xor-zero = below8 (λ i. bitXor i 0 ≡ i) refl refl refl refl refl refl refl refl
 
 -- a whole cell cut to a child is the whole child
 half-whole : (b S : ℕ) → b < 2 → min S (2 * S - b * S) ≡ S
@@ -50,7 +46,7 @@ module _ (K : List (List Cell)) (k n : ℕ) where
       sum-same 8 _ _ (λ i hi.
       ap (λ (E : ℕ). boxCount (edge k) (room (getD c (bitXor i 0) 0) 0) (clipped (edge k) i origin) (clipped (edge k) i (far E))) (edge-double k)
       ∙ ap₂ (boxCount (edge k) (room (getD c (bitXor i 0) 0) 0)) (origin-clipped (edge k) i) (far-clipped (edge k) i)
-      ∙ ap (λ (j : ℕ). boxCount (edge k) (room (getD c j 0) 0) origin (far (edge k))) (xor-zero i hi))
+      ∙ ap (λ (j : ℕ). boxCount (edge k) (room (getD c j 0) 0) origin (far (edge k))) (xor-zero-r i))
 
   -- as many solid voxels as the cell's cube has
   pub whole-solid : wholesSolid K k (cellAt K (suc k) n) 8 ≡ boxCount (edge (suc k)) (solidSeen K (suc k) n 0) origin (far (edge (suc k)))

@@ -11,6 +11,7 @@ ghost use Rattle.paper.specs.Outline.{edge as edge-of};
 ghost use Rattle.paper.specs.Store.{heights, mostScenes, keptCount, sceneDepth, keptOf, badPointer, anyBad, headerOk, sceneOk};
 ghost use Rattle.laws.proofs.Boxes.{clip as clip-of, clipped as clipped-of, origin, far};
 ghost use Rattle.walk.specs.Box.{at, hasVoxel, Upto, isWhole, seenBit, leafCount, boxIn, wholeIn, pointerIn, childrenSolid, childrenIn, wholesSolid, wholesIn, mostSolid, names as names-of, timesNamed, Without, sceneBox};
+use numbers::wider;
 use store::any_bad;
 use store::bad_pointer;
 use store::cell_at;
@@ -179,18 +180,11 @@ fn count_leaf(leaf: u64, mirror: u32, low: Corner, high: Corner) -> u64
     n
 }
 
-// A number of voxels as a wider number.
-fn wide(n: u32) -> u64
-    ensures { λ r. ⌜ r ≡ n ⌝ }
-{
-    n as u64
-}
-
 // The solid voxels of a leaf.
 fn whole_leaf(leaf: u64) -> u64
     ensures { λ r. ⌜ r ≡ boxCount 4 (mirrored 0 4 (leafVoxel leaf)) origin (far 4) ⌝ }
 {
-    wide(u64::count_ones(leaf))
+    wider(u64::count_ones(leaf))
 }
 
 // Whether pointer p names cell `number`, whatever its tag.
@@ -309,7 +303,7 @@ fn count_wholes(store: &[u32], k: u32, cell: [u32; 8]) -> Tally
         let Tally::Solid(n) = count_whole(store, k, number) else {
             return Tally::Damaged;
         };
-        let times = wide(times_named(rest, number));
+        let times = wider(times_named(rest, number));
         rest = without(rest, number);
         sum += times * n;
     }

@@ -32,7 +32,7 @@ use Rattle.store.proofs.cell_number.Reads as cell-number-reads
 use Rattle.walk.proofs.boxes.whole_leaf.Reads as whole-leaf-reads
 use Rattle.walk.proofs.boxes.count_leaves.Reads as count-leaves-reads
 use Rattle.walk.proofs.boxes.times_named.Reads as times-named-reads
-use Rattle.walk.proofs.boxes.wide.Reads as wide-reads
+use Rattle.numbers.proofs.wider.Reads as wider-reads
 use Rattle.walk.proofs.boxes.without.Reads as without-reads
 use Rattle.walk.proofs.boxes.+count_whole+count_wholes.{statement}
 use Rattle.walk.proofs.boxes.+count_whole+count_wholes.Tie.{close}
@@ -59,7 +59,7 @@ abbrev count-whole-known : ℕ → count-whole-lts.Claims
 count-whole-known t = (leaf-at-reads.Asked, leaf-at-reads.Learnt, whole-leaf-reads.Asked, whole-leaf-reads.Learnt, cell-at-reads.Asked, cell-at-reads.Learnt, kept-count-reads.Asked, kept-count-reads.Learnt, any-bad-reads.Asked, any-bad-reads.Learnt, count-wholes-below t, count-wholes.Post)
 
 abbrev count-wholes-known : ℕ → count-wholes-lts.Claims
-count-wholes-known t = (count-leaves-reads.Asked, count-leaves-reads.Learnt, cell-number-reads.Asked, cell-number-reads.Learnt, count-whole-below t, count-whole.Post, times-named-reads.Asked, times-named-reads.Learnt, wide-reads.Asked, wide-reads.Learnt, without-reads.Asked, without-reads.Learnt)
+count-wholes-known t = (count-leaves-reads.Asked, count-leaves-reads.Learnt, cell-number-reads.Asked, cell-number-reads.Learnt, count-whole-below t, count-whole.Post, times-named-reads.Asked, times-named-reads.Learnt, wider-reads.Asked, wider-reads.Learnt, without-reads.Asked, without-reads.Learnt)
 
 abbrev Inv-loop : count-wholes-lts.InvT-loop
 Inv-loop store k rest₀ i₀ sum₀ rest i sum =
@@ -74,23 +74,23 @@ all-eight : (i : ℕ) → i ≤ 8 → 8 ≡ i + (8 - i)
 all-eight i l = omega arith
 
 times-is : (t : ℕ) (c : count-wholes-lts.After-without (count-wholes-known t) (count-wholes-at t) count-wholes.Post Inv-loop μ-loop) → (let l = c .before .before .before .before .before .before .before .before .before .before .loop in
-    c .before .wide .result ≡ timesNamed (l .rest) (l .i) (c .before .before .before .before .before .before .before .cell-number .result))
+    c .before .wider .result ≡ timesNamed (l .rest) (l .i) (c .before .before .before .before .before .before .before .cell-number .result))
 times-is t c =
     let l = c .before .before .before .before .before .before .before .before .before .before .loop in
     let q = c .before .before .before .before .before .before .before .cell-number .result in
-    c .before .wide .ensures ∙ c .before .before .times-named .ensures ∙ ap (λ (n : ℕ). timesNamed (l .rest) n q) (all-eight (l .i) (l .inv .0))
+    c .before .wider .ensures .0 ∙ c .before .before .times-named .ensures ∙ ap (λ (n : ℕ). timesNamed (l .rest) n q) (all-eight (l .i) (l .inv .0))
     ∙ times-there (l .rest) q (8 - l .i) (l .i) (λ j a b. l .inv .2 j a (omega (arith, l .inv .0)))
 
 -- what is found with the cell's count, and what is left to find, fit
 fits : (t : ℕ) (c : count-wholes-lts.After-without (count-wholes-known t) (count-wholes-at t) count-wholes.Post Inv-loop μ-loop) → (let l = c .before .before .before .before .before .before .before .before .before .before .loop in
     let a = c .before .before .before .before .before .before .before .before .before .before .before .before .before .args in
-    l .sum + (c .before .wide .result * c .before .before .before .before .n .given .0 .0 + wholesSolid (keptOf (a .store .now)) (a .k) (c .without .result) (l .i - 1)) ≤ mostSolid)
+    l .sum + (c .before .wider .result * c .before .before .before .before .n .given .0 .0 + wholesSolid (keptOf (a .store .now)) (a .k) (c .without .result) (l .i - 1)) ≤ mostSolid)
 fits t c =
     let l = c .before .before .before .before .before .before .before .before .before .before .loop in
     let b = c .before .before .before .before .before .before .before .before .before .before .before .before .before in
     let a = b .args in
     rw (counted-solid (a .store .now) (a .k) (l .rest) (l .i) (b .pre .1 .1 .0 .0) (c .before .before .before .before .before .before .before .before .before .loop-test .taken) (l .inv .0) (l .inv .1) (c .before .before .before .before .before .before .before .cell-number .result) (c .before .before .before .before .n .given .0 .0)
-    (c .before .wide .result) (c .without .result) (c .before .before .before .before .before .before .before .before .if2 .left) (c .before .before .before .before .before .before .before .cell-number .ensures) (sym (c .before .before .before .before .before .before .count-whole .ensures) ∙ c .before .before .before .before .n .given .1)
+    (c .before .wider .result) (c .without .result) (c .before .before .before .before .before .before .before .before .if2 .left) (c .before .before .before .before .before .before .before .cell-number .ensures) (sym (c .before .before .before .before .before .before .count-whole .ensures) ∙ c .before .before .before .before .n .given .1)
     (times-is t c) (c .without .ensures)) at (l .inv .3)
 
 count-whole-leaf-at-requires : (t : ℕ) → count-whole-lts.Need-leaf-at-requires (count-whole-known t) (count-whole-at t) count-whole.Post
@@ -185,7 +185,7 @@ count-wholes-loop-again-2 t c =
       gone-named (l .rest) (c .without .result) (n .result) (l .i) (omega (arith, l .inv .0)) (there-named (n .result) _ (c .before .before .before .before .before .before .before .before .if2 .left) (sym (n .ensures))) (c .without .ensures) (l .inv .2),
       omega (arith, fits t c),
       counted-tally (a .store .now) (a .k) (l .rest) (l .i) (b .pre .1 .1 .0 .0) (c .before .before .before .before .before .before .before .before .before .loop-test .taken) (l .inv .0) (l .inv .1) (n .result) (c .before .before .before .before .n .given .0 .0)
-          (c .before .wide .result) (c .without .result) (c .before .before .before .before .before .before .before .before .if2 .left) (n .ensures) (sym (c .before .before .before .before .before .before .count-whole .ensures) ∙ c .before .before .before .before .n .given .1)
+          (c .before .wider .result) (c .without .result) (c .before .before .before .before .before .before .before .before .if2 .left) (n .ensures) (sym (c .before .before .before .before .before .before .count-whole .ensures) ∙ c .before .before .before .before .n .given .1)
           (times-is t c) (c .without .ensures) (l .sum) ∙ l .inv .4,
     )
 

@@ -7,7 +7,7 @@ use Rattle.walk.proofs.boxes.whole_leaf.Statement.{statement}
 use Rattle.walk.proofs.boxes.whole_leaf.Tie as tie
 
 returns : tie.Need-returns
-returns c = c .wide .ensures ∙ leaf-ones (c .before .args .leaf) (omega arith)
+returns c = c .wider .ensures .0 ∙ leaf-ones (c .before .args .leaf) (omega arith)
 
 pub whole-leaf-spec : {M : Type 1} → statement M
 whole-leaf-spec = tie.close (tie.spec (λ c κs. search needs) returns)
