@@ -1,33 +1,34 @@
 -- Two records have one key exactly where they match under some mirror, and so have two leaves; the mirrors under which one matches itself are a group.
 -- By the digits: under two mirrors the digits of two links are equal exactly where the links match under the mirrors' exclusive or, for the mark
--- of a link's place is a group. Assumes nothing.
+-- of a link's place is a group. And a sum of places is one of digits without their tags, in any order: equal images have equal sums. Assumes nothing.
 use mathlib.Core.Path.{_≡_, refl, sym, _∙_, ap, ap₂, subst}
 use mathlib.Core.Bool.{Bool, true, false, cond, _&&_}
-use mathlib.Core.List.{List}
+use mathlib.Core.List.{List, []}
 use mathlib.Core.Logic.{_⊎_, inl, inr}
-use Prim.Native.Nat.{ℕ, _+_, _*_, _/_, _%_, _^_, _<_}
+use Prim.Native.Nat.{ℕ, _+_, _*_, _/_, _%_, _^_, _<_, _≤_}
 use native.Mathlib.Decide.{ℕ-discrete}
 use native.Mathlib.Omega.{arith}
 use borrow.Author.Tests.{eq-eqb, ne-eqb, eqb-true, eqb-false}
 use lib.Bits.{bitXor, xor-self, xor-zero-l, xor-zero-r}
 use lib.Dec.{T, eqb, ltb, eqb→eq, ltb→lt, lit<}
 use lib.ListN.{getD, drop, List·getD-map}
-use Rattle.paper.specs.Numbers.{allIn, anyBelow}
+use Rattle.paper.specs.Numbers.{allIn, anyBelow, sum}
 use Rattle.paper.specs.Leaf.{mirrorLeaf}
 use Rattle.paper.specs.Store.{leafNo}
 use Rattle.paper.specs.Packed.{Link, noLink, headerAt, linksAt, leafAt, recordOk, codeFor}
 use Rattle.paper.specs.Runs.{Bytes}
-use Rattle.laws.proofs.Tests.{all-at, all-T, and-left, and-right, T-true, true-T}
-use Rattle.laws.proofs.Eight.{eight2, xor8-lt, xor8-assoc, xor8-back, xor8-chain}
+use Rattle.laws.proofs.Tests.{iff-eq, all-at, all-T, and-left, and-right, T-true, true-T}
+use Rattle.laws.proofs.Sums.{sum-same}
+use Rattle.laws.proofs.Eight.{below8, eight2, xor8-lt, xor8-assoc, xor8-back, xor8-chain}
 use Rattle.laws.proofs.Lists.{allIn-at}
 use Rattle.laws.proofs.Bytes.{bytes-drop}
 use Rattle.laws.proofs.Leaves.{mirrorLeaf-zero, mirrorLeaf-mirrorLeaf}
 use Rattle.laws.proofs.Masks.{maskFor, marked, mask-bit}
 use Rattle.laws.proofs.PackedLists.{num4-lt, Fits, links-fit}
-use Rattle.least.specs.Keys.{markOf, Group, lowTag, wordOf, digitOf, imageNo, wordsAt, recordKey, leafKey}
-use Rattle.least.proofs.Leasts.{least-match}
+use Rattle.least.specs.Keys.{markOf, Group, lowTag, wordOf, leastTo, digitOf, imageDigit, imageNo, wordsAt, leastImage, sumOf, placeSum, imageBase, recordKey, leafKey}
+use Rattle.least.proofs.Leasts.{least-at, least-match}
 use Rattle.least.proofs.Tags.{low-le, low-same, same-low}
-use Rattle.least.proofs.Images.{digit-none, digit-some, same-image, image-same}
+use Rattle.least.proofs.Images.{digit-none, digit-some, same-image, image-same, least-image-lt, rest-same}
 use Rattle.alike.specs.Matching.{selfBy, leavesMatch, linkMatch, recordsMatch, leafMask, recordMask, lowBy, linkRules, recordRules, Grouped}
 use Rattle.alike.proofs.Linking.{match-none, match-half, match-apart, match-place}
 
@@ -128,6 +129,22 @@ module _ (u : ℕ) (m : List ℕ) where
           link-some a r x ∙ ap (λ (n : ℕ). (1 + r .place) * 8 + n) l ∙ ap (λ (n : ℕ). (1 + n) * 8 + lowTag (markOf u m n) (bitXor (s .tag) (bitXor a t))) p
           ∙ sym (link-some (bitXor a t) s y)
 
+  -- the place in a word, without the mark and the tag
+  high-digit : (t : ℕ) (r : Link) → t < 8 → Kept u m r → wordOf 1 [] r / 2048 % 2 ^ 30 ≡ digitOf t (wordOf u m r) / 8
+  unfolding wordOf
+  high-digit t r ht (inl x) = rw (eq-eqb (r .code) 0 x) (ap (λ (n : ℕ). n / 8) (sym (digit-none t)))
+  high-digit t r ht (inr x) =
+      let none : wordOf 1 [] r ≡ (8 * (1 + r .place) + r .tag) * 256 + 0 = rw (ne-eqb (r .code) 0 (x .some)) in
+      let low : lowTag (markOf u m (r .place)) (bitXor (r .tag) t) < 8 = low-lt t r ht x in
+      let e : 1 + r .place ≡ ((1 + r .place) * 8 + lowTag (markOf u m (r .place)) (bitXor (r .tag) t)) / 8 = omega (arith, low) in
+      ap (λ (n : ℕ). n / 2048 % 2 ^ 30) none ∙ word-high (r .place) (r .tag) 0 (x .small) (x .tag) (lit< tt) ∙ e ∙ ap (λ (n : ℕ). n / 8) (sym (link-some t r x))
+
+-- a sum over eight children in the order of a mirror
+sum8-turned : (f : ℕ → ℕ) (t : ℕ) → t < 8 → sum 8 (λ i. f (bitXor i t)) ≡ sum 8 f
+unfolding sum
+sum8-turned f =
+    below8 (λ t. sum 8 (λ i. f (bitXor i t)) ≡ sum 8 f) (omega arith) (omega arith) (omega arith) (omega arith) (omega arith) (omega arith) (omega arith) (omega arith)
+
 -- ---- records
 
 module _ (u : ℕ) (m l : List ℕ) where
@@ -140,6 +157,11 @@ module _ (u : ℕ) (m l : List ℕ) where
   word-at : (p i : ℕ) → getD (wordsAt u m l p) i 0 ≡ wordOf u m (link p i)
   unfolding wordOf
   word-at p i = List·getD-map (wordOf u m) (linksAt l p) i noLink
+
+  -- with no marks
+  bare-at : (p i : ℕ) → getD (wordsAt 1 [] l p) i 0 ≡ wordOf 1 [] (link p i)
+  unfolding wordOf
+  bare-at p i = List·getD-map (wordOf 1 []) (linksAt l p) i noLink
 
   image-match : (p q : ℕ) → KeptAt p → KeptAt q → (a b : ℕ) → a < 8 → b < 8 → imageNo (wordsAt u m l p) a ≡ imageNo (wordsAt u m l q) b
       → T (recordsMatch u m l p q (bitXor a b))
@@ -165,9 +187,46 @@ module _ (u : ℕ) (m l : List ℕ) where
       ∙ ap (digitOf (bitXor a t)) (sym (word-at q (bitXor j t)))
       ∙ ap (λ (n : ℕ). digitOf (bitXor a t) (getD (wordsAt u m l q) n 0)) (xor8-assoc i a t hi ha ht))
 
+  sum-image : (p t : ℕ) → KeptAt p → t < 8 → placeSum l p ≡ sum 8 (λ i. imageDigit (wordsAt u m l p) t i / 8)
+  unfolding sumOf
+  sum-image p t kp ht =
+      sum-same 8 (λ i. getD (wordsAt 1 [] l p) i 0 / 2048 % 2 ^ 30) (λ i. digitOf t (getD (wordsAt u m l p) i 0) / 8) (λ i hi.
+      ap (λ (n : ℕ). n / 2048 % 2 ^ 30) (bare-at p i) ∙ high-digit u m t (link p i) ht (kp i) ∙ ap (λ (n : ℕ). digitOf t n / 8) (sym (word-at p i)))
+      ∙ sym (sum8-turned (λ i. digitOf t (getD (wordsAt u m l p) i 0) / 8) t ht)
+
+  -- equal images have equal sums
+  images-sums : (p q : ℕ) → KeptAt p → KeptAt q → leastImage u m l p ≡ leastImage u m l q → placeSum l p ≡ placeSum l q
+  images-sums p q kp kq e =
+      let v : List ℕ = wordsAt u m l p in
+      let w : List ℕ = wordsAt u m l q in
+      let a : (t : ℕ) × (t ≤ 7) × (leastTo (imageNo v) 7 ≡ imageNo v t) = least-at (imageNo v) 7 in
+      let b : (t : ℕ) × (t ≤ 7) × (leastTo (imageNo w) 7 ≡ imageNo w t) = least-at (imageNo w) 7 in
+      let ha : a .0 < 8 = omega (arith, a .1) in
+      let hb : b .0 < 8 = omega (arith, b .1) in
+      sum-image p (a .0) kp ha
+      ∙ sum-same 8 (λ i. imageDigit v (a .0) i / 8) (λ i. imageDigit w (b .0) i / 8)
+      (λ i hi. ap (λ (n : ℕ). n / 8) (image-same v w (a .0) (b .0) ha hb (sym (a .2) ∙ e ∙ b .2) i hi))
+      ∙ sym (sum-image q (b .0) kq hb)
+
+  -- so the least images alone tell
+  key-least : (p q : ℕ) → KeptAt p → KeptAt q → eqb (recordKey u m l p) (recordKey u m l q) ≡ eqb (leastImage u m l p) (leastImage u m l q)
+  key-least p q kp kq = iff-eq (eqb (recordKey u m l p) (recordKey u m l q)) (eqb (leastImage u m l p) (leastImage u m l q)) forth back
+    where
+      forth : T (eqb (recordKey u m l p) (recordKey u m l q)) → T (eqb (leastImage u m l p) (leastImage u m l q))
+      forth t =
+          true-T (eq-eqb (leastImage u m l p) (leastImage u m l q)
+          (rest-same imageBase (placeSum l p) (placeSum l q) (leastImage u m l p) (leastImage u m l q) (least-image-lt u m l p) (least-image-lt u m l q)
+          (eqb→eq (recordKey u m l p) (recordKey u m l q) t)))
+
+      back : T (eqb (leastImage u m l p) (leastImage u m l q)) → T (eqb (recordKey u m l p) (recordKey u m l q))
+      back t =
+          let e : leastImage u m l p ≡ leastImage u m l q = eqb→eq (leastImage u m l p) (leastImage u m l q) t in
+          true-T (eq-eqb (recordKey u m l p) (recordKey u m l q) (ap₂ (λ (s i : ℕ). s * imageBase + i) (images-sums p q kp kq e) e))
+
   pub key-match : (p q : ℕ) → KeptAt p → KeptAt q → eqb (recordKey u m l p) (recordKey u m l q) ≡ anyBelow 8 (recordsMatch u m l p q)
   key-match p q kp kq =
-      least-match (imageNo (wordsAt u m l p)) (imageNo (wordsAt u m l q)) (recordsMatch u m l p q) (image-match p q kp kq) (match-image p q kp kq)
+      key-least p q kp kq
+      ∙ least-match (imageNo (wordsAt u m l p)) (imageNo (wordsAt u m l q)) (recordsMatch u m l p q) (image-match p q kp kq) (match-image p q kp kq)
 
   pub record-group : (p : ℕ) → KeptAt p → Group (recordMask u m l p)
   unfolding recordMask
