@@ -3,7 +3,7 @@
 -- of a link's place is a group. And a sum of places is one of digits without their tags, in any order: equal images have equal sums. Assumes nothing.
 use mathlib.Core.Path.{_≡_, refl, sym, _∙_, ap, ap₂, subst}
 use mathlib.Core.Bool.{Bool, true, false, cond, _&&_}
-use mathlib.Core.List.{List, []}
+use mathlib.Core.List.{List}
 use mathlib.Core.Logic.{_⊎_, inl, inr}
 use Prim.Native.Nat.{ℕ, _+_, _*_, _/_, _%_, _^_, _<_, _≤_}
 use native.Mathlib.Decide.{ℕ-discrete}
@@ -25,7 +25,7 @@ use Rattle.laws.proofs.Bytes.{bytes-drop}
 use Rattle.laws.proofs.Leaves.{mirrorLeaf-zero, mirrorLeaf-mirrorLeaf}
 use Rattle.laws.proofs.Masks.{maskFor, marked, mask-bit}
 use Rattle.laws.proofs.PackedLists.{num4-lt, Fits, links-fit}
-use Rattle.least.specs.Keys.{markOf, Group, lowTag, wordOf, leastTo, digitOf, imageDigit, imageNo, wordsAt, leastImage, sumOf, placeSum, imageBase, recordKey, leafKey}
+use Rattle.least.specs.Keys.{markOf, Group, lowTag, wordOf, leastTo, digitOf, imageDigit, imageNo, wordsAt, leastImage, sumOf, imageBase, recordKey, leafKey}
 use Rattle.least.proofs.Leasts.{least-at, least-match}
 use Rattle.least.proofs.Tags.{low-le, low-same, same-low}
 use Rattle.least.proofs.Images.{digit-none, digit-some, same-image, image-same, least-image-lt, rest-same}
@@ -129,15 +129,16 @@ module _ (u : ℕ) (m : List ℕ) where
           link-some a r x ∙ ap (λ (n : ℕ). (1 + r .place) * 8 + n) l ∙ ap (λ (n : ℕ). (1 + n) * 8 + lowTag (markOf u m n) (bitXor (s .tag) (bitXor a t))) p
           ∙ sym (link-some (bitXor a t) s y)
 
-  -- the place in a word, without the mark and the tag
-  high-digit : (t : ℕ) (r : Link) → t < 8 → Kept u m r → wordOf 1 [] r / 2048 % 2 ^ 30 ≡ digitOf t (wordOf u m r) / 8
+  -- the place in a word is its digit without the tag
+  high-digit : (t : ℕ) (r : Link) → t < 8 → Kept u m r → wordOf u m r / 2048 % 2 ^ 30 ≡ digitOf t (wordOf u m r) / 8
   unfolding wordOf
   high-digit t r ht (inl x) = rw (eq-eqb (r .code) 0 x) (ap (λ (n : ℕ). n / 8) (sym (digit-none t)))
   high-digit t r ht (inr x) =
-      let none : wordOf 1 [] r ≡ (8 * (1 + r .place) + r .tag) * 256 + 0 = rw (ne-eqb (r .code) 0 (x .some)) in
-      let low : lowTag (markOf u m (r .place)) (bitXor (r .tag) t) < 8 = low-lt t r ht x in
-      let e : 1 + r .place ≡ ((1 + r .place) * 8 + lowTag (markOf u m (r .place)) (bitXor (r .tag) t)) / 8 = omega (arith, low) in
-      ap (λ (n : ℕ). n / 2048 % 2 ^ 30) none ∙ word-high (r .place) (r .tag) 0 (x .small) (x .tag) (lit< tt) ∙ e ∙ ap (λ (n : ℕ). n / 8) (sym (link-some t r x))
+      let k : ℕ = markOf u m (r .place) in
+      let w : wordOf u m r ≡ (8 * (1 + r .place) + r .tag) * 256 + k = rw (ne-eqb (r .code) 0 (x .some)) in
+      let low : lowTag k (bitXor (r .tag) t) < 8 = low-lt t r ht x in
+      let e : 1 + r .place ≡ ((1 + r .place) * 8 + lowTag k (bitXor (r .tag) t)) / 8 = omega (arith, low) in
+      ap (λ (n : ℕ). n / 2048 % 2 ^ 30) w ∙ word-high (r .place) (r .tag) k (x .small) (x .tag) (x .byte) ∙ e ∙ ap (λ (n : ℕ). n / 8) (sym (link-some t r x))
 
 -- a sum over eight children in the order of a mirror
 sum8-turned : (f : ℕ → ℕ) (t : ℕ) → t < 8 → sum 8 (λ i. f (bitXor i t)) ≡ sum 8 f
@@ -157,11 +158,6 @@ module _ (u : ℕ) (m l : List ℕ) where
   word-at : (p i : ℕ) → getD (wordsAt u m l p) i 0 ≡ wordOf u m (link p i)
   unfolding wordOf
   word-at p i = List·getD-map (wordOf u m) (linksAt l p) i noLink
-
-  -- with no marks
-  bare-at : (p i : ℕ) → getD (wordsAt 1 [] l p) i 0 ≡ wordOf 1 [] (link p i)
-  unfolding wordOf
-  bare-at p i = List·getD-map (wordOf 1 []) (linksAt l p) i noLink
 
   image-match : (p q : ℕ) → KeptAt p → KeptAt q → (a b : ℕ) → a < 8 → b < 8 → imageNo (wordsAt u m l p) a ≡ imageNo (wordsAt u m l q) b
       → T (recordsMatch u m l p q (bitXor a b))
@@ -187,15 +183,16 @@ module _ (u : ℕ) (m l : List ℕ) where
       ∙ ap (digitOf (bitXor a t)) (sym (word-at q (bitXor j t)))
       ∙ ap (λ (n : ℕ). digitOf (bitXor a t) (getD (wordsAt u m l q) n 0)) (xor8-assoc i a t hi ha ht))
 
-  sum-image : (p t : ℕ) → KeptAt p → t < 8 → placeSum l p ≡ sum 8 (λ i. imageDigit (wordsAt u m l p) t i / 8)
+  sum-image : (p t : ℕ) → KeptAt p → t < 8 → sumOf (wordsAt u m l p) ≡ sum 8 (λ i. imageDigit (wordsAt u m l p) t i / 8)
   unfolding sumOf
   sum-image p t kp ht =
-      sum-same 8 (λ i. getD (wordsAt 1 [] l p) i 0 / 2048 % 2 ^ 30) (λ i. digitOf t (getD (wordsAt u m l p) i 0) / 8) (λ i hi.
-      ap (λ (n : ℕ). n / 2048 % 2 ^ 30) (bare-at p i) ∙ high-digit u m t (link p i) ht (kp i) ∙ ap (λ (n : ℕ). digitOf t n / 8) (sym (word-at p i)))
-      ∙ sym (sum8-turned (λ i. digitOf t (getD (wordsAt u m l p) i 0) / 8) t ht)
+      let ws : List ℕ = wordsAt u m l p in
+      sum-same 8 (λ i. getD ws i 0 / 2048 % 2 ^ 30) (λ i. digitOf t (getD ws i 0) / 8) (λ i hi.
+      ap (λ (n : ℕ). n / 2048 % 2 ^ 30) (word-at p i) ∙ high-digit u m t (link p i) ht (kp i) ∙ ap (λ (n : ℕ). digitOf t n / 8) (sym (word-at p i)))
+      ∙ sym (sum8-turned (λ i. digitOf t (getD ws i 0) / 8) t ht)
 
   -- equal images have equal sums
-  images-sums : (p q : ℕ) → KeptAt p → KeptAt q → leastImage u m l p ≡ leastImage u m l q → placeSum l p ≡ placeSum l q
+  images-sums : (p q : ℕ) → KeptAt p → KeptAt q → leastImage (wordsAt u m l p) ≡ leastImage (wordsAt u m l q) → sumOf (wordsAt u m l p) ≡ sumOf (wordsAt u m l q)
   images-sums p q kp kq e =
       let v : List ℕ = wordsAt u m l p in
       let w : List ℕ = wordsAt u m l q in
@@ -209,19 +206,29 @@ module _ (u : ℕ) (m l : List ℕ) where
       ∙ sym (sum-image q (b .0) kq hb)
 
   -- so the least images alone tell
-  key-least : (p q : ℕ) → KeptAt p → KeptAt q → eqb (recordKey u m l p) (recordKey u m l q) ≡ eqb (leastImage u m l p) (leastImage u m l q)
-  key-least p q kp kq = iff-eq (eqb (recordKey u m l p) (recordKey u m l q)) (eqb (leastImage u m l p) (leastImage u m l q)) forth back
+  key-least : (p q : ℕ) → KeptAt p → KeptAt q → eqb (recordKey u m l p) (recordKey u m l q) ≡ eqb (leastImage (wordsAt u m l p)) (leastImage (wordsAt u m l q))
+  key-least p q kp kq = iff-eq (eqb (recordKey u m l p) (recordKey u m l q)) (eqb i j) forth back
     where
-      forth : T (eqb (recordKey u m l p) (recordKey u m l q)) → T (eqb (leastImage u m l p) (leastImage u m l q))
-      forth t =
-          true-T (eq-eqb (leastImage u m l p) (leastImage u m l q)
-          (rest-same imageBase (placeSum l p) (placeSum l q) (leastImage u m l p) (leastImage u m l q) (least-image-lt u m l p) (least-image-lt u m l q)
-          (eqb→eq (recordKey u m l p) (recordKey u m l q) t)))
+      v : List ℕ
+      v = wordsAt u m l p
 
-      back : T (eqb (leastImage u m l p) (leastImage u m l q)) → T (eqb (recordKey u m l p) (recordKey u m l q))
+      w : List ℕ
+      w = wordsAt u m l q
+
+      i : ℕ
+      i = leastImage v
+
+      j : ℕ
+      j = leastImage w
+
+      forth : T (eqb (recordKey u m l p) (recordKey u m l q)) → T (eqb i j)
+      forth t =
+          true-T (eq-eqb i j (rest-same imageBase (sumOf v) (sumOf w) i j (least-image-lt v) (least-image-lt w) (eqb→eq (recordKey u m l p) (recordKey u m l q) t)))
+
+      back : T (eqb i j) → T (eqb (recordKey u m l p) (recordKey u m l q))
       back t =
-          let e : leastImage u m l p ≡ leastImage u m l q = eqb→eq (leastImage u m l p) (leastImage u m l q) t in
-          true-T (eq-eqb (recordKey u m l p) (recordKey u m l q) (ap₂ (λ (s i : ℕ). s * imageBase + i) (images-sums p q kp kq e) e))
+          let e : i ≡ j = eqb→eq i j t in
+          true-T (eq-eqb (recordKey u m l p) (recordKey u m l q) (ap₂ (λ (s k : ℕ). s * imageBase + k) (images-sums p q kp kq e) e))
 
   pub key-match : (p q : ℕ) → KeptAt p → KeptAt q → eqb (recordKey u m l p) (recordKey u m l q) ≡ anyBelow 8 (recordsMatch u m l p q)
   key-match p q kp kq =
