@@ -15,6 +15,11 @@ impl Region {
         }
     }
 
+    /// Whether on each axis low is at most high, and high at most the edge.
+    pub fn lies_in(&self, edge: u32) -> bool {
+        (0..3).all(|axis| self.low[axis] <= self.high[axis] && self.high[axis] <= edge)
+    }
+
     pub fn has_voxel(&self) -> bool {
         self.low[0] < self.high[0] && self.low[1] < self.high[1] && self.low[2] < self.high[2]
     }

@@ -104,11 +104,8 @@ impl Octree {
 
     #[inline(never)]
     pub fn count(&self, region: Region) -> Option<u64> {
-        let edge = 1 << self.depth;
-        for axis in 0..3 {
-            if region.low[axis] > region.high[axis] || region.high[axis] > edge {
-                return None;
-            }
+        if !region.lies_in(1 << self.depth) {
+            return None;
         }
         Some(self.root.count(self.depth, region))
     }

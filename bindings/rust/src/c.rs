@@ -2,7 +2,9 @@
 //! zeros on a refusal. Each is safe: a slice and a reference are all that the library asks for, of any content and length, and
 //! `&mut` overlaps with nothing. The only `unsafe` of this crate is here.
 
-mod declared {
+/// The declarations themselves, as include/rooms.h has them: for a test that hands over null pointers of length 0.
+#[doc(hidden)]
+pub mod declared {
     extern "C" {
         pub fn rooms_new(store: *mut u32, store_words: usize, capacity: u32) -> u32;
         pub fn rooms_add(store: *mut u32, store_words: usize, file: *const u8, file_bytes: usize, scene: *mut u32) -> u32;
