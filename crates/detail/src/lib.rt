@@ -7,7 +7,7 @@ ghost use Prim.Native.Nat.{_≤_};
 ghost use lib.Dec.{T};
 ghost use lib.Ieee.{le};
 ghost use lib.Ieee.Positive.{num, den};
-ghost use Rattle.paper.specs.Rooms.{least, deepest};
+ghost use Rattle.paper.specs.Rooms.{deepest, depthOk};
 ghost use Rattle.paper.specs.Answers.{outcome, chosen};
 ghost use Rattle.paper.specs.Detail.{distanceOk, factorOk, reaches, greatest, detailOutcome};
 ghost use Rattle.paper.specs.declared.Wish.the-variants.{WidestEdge, Distance};
@@ -15,11 +15,7 @@ use paper::Chosen;
 use paper::Refusal;
 use paper::Sight;
 use paper::Wish;
-
-// A depth is 2 to 16.
-const LEAST_DEPTH: u32 = 2;
-
-const DEEPEST: u32 = 16;
+use points::depth_bad;
 
 // 2^40, the greatest edge and distance; 2^-30 and 2^30, the least and the greatest factor.
 const FARTHEST: f64 = 1099511627776.0;
@@ -58,8 +54,7 @@ fn height(depth: u32, factor: f64, distance: f64) -> u32
 
 // The answer to a widest edge: that edge is a distance whose factor is 1.
 fn for_edge(depth: u32, edge: f64) -> Chosen
-    requires { ⌜ least ≤ depth ⌝ }
-    requires { ⌜ depth ≤ deepest ⌝ }
+    requires { ⌜ T (depthOk depth) ⌝ }
     ensures { λ r. ⌜ outcome (chosen r) [] ≡ detailOutcome depth (WidestEdge edge) ⌝ }
 {
     if between(edge, 1.0, FARTHEST) {
@@ -71,8 +66,7 @@ fn for_edge(depth: u32, edge: f64) -> Chosen
 
 // The answer to a distance with its factor.
 fn for_sight(depth: u32, sight: Sight) -> Chosen
-    requires { ⌜ least ≤ depth ⌝ }
-    requires { ⌜ depth ≤ deepest ⌝ }
+    requires { ⌜ T (depthOk depth) ⌝ }
     ensures { λ r. ⌜ outcome (chosen r) [] ≡ detailOutcome depth (Distance sight) ⌝ }
 {
     let distance = sight.distance;
@@ -89,10 +83,7 @@ fn for_sight(depth: u32, sight: Sight) -> Chosen
 pub fn detail(depth: u32, wish: Wish) -> Chosen
     ensures { λ r. ⌜ outcome (chosen r) [] ≡ detailOutcome depth wish ⌝ }
 {
-    if depth < LEAST_DEPTH {
-        return Chosen::Refused(Refusal::BadDepth);
-    }
-    if DEEPEST < depth {
+    if depth_bad(depth) {
         return Chosen::Refused(Refusal::BadDepth);
     }
     match wish {

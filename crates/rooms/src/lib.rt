@@ -6,6 +6,7 @@ ghost use Rattle.paper.specs.Answers.{outcome, started, added, seen, occupied, 
 ghost use Rattle.paper.specs.Calls.{newOutcome, addOutcome, voxelOutcome, cellOutcome, boxOutcome, keptOutcome, outlineOutcome, packOutcome, checkOutcome, packedVoxelOutcome};
 ghost use Rattle.paper.specs.Detail.{detailOutcome};
 ghost use Rattle.paper.specs.Rooms.{point};
+use boxes::Corner;
 use paper::Added;
 use paper::Checked;
 use paper::Chosen;
@@ -17,7 +18,6 @@ use paper::Seen;
 use paper::Started;
 use paper::Wish;
 use paper::Written;
-use walk::Corner;
 
 // Opening a packed scene, and a question on an opened scene. Their answer and their scene hold a slice, so they are named here
 // and stand in `opened`.
@@ -75,7 +75,7 @@ pub fn box_count(
         y: highy,
         z: highz,
     };
-    walk::box_count(store, scene, low, high)
+    boxes::box_count(store, scene, low, high)
 }
 
 // Kept: the cells kept at a height.

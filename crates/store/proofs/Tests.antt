@@ -22,6 +22,9 @@ failed {b} e t = not-true b (sym e ∙ t)
 pub passed-T : (b : Bool) {r : Bool} → r ≡ not b → r ≡ false → T b
 passed-T b e f = true-T {b = b} (passed e f)
 
+pub failed-T : (b : Bool) {r : Bool} → r ≡ not b → r ≡ true → T (not b)
+failed-T b e t = true-T (sym e ∙ t)
+
 -- ---- a loop that counts k down, with an answer A that is still that of the numbers below k
 
 all-down : (p : ℕ → Bool) (k : ℕ) → (k ≡ 0 → ⊥) → allBelow k p ≡ both (p (k - 1)) (allBelow (k - 1) p)

@@ -6,13 +6,12 @@ use mathlib.Core.List.{List, []}
 use Prim.Native.Nat.{ℕ, zero, suc, _+_, _-_, _≤_, _<_}
 use native.Mathlib.Numerals.{add-one, sub-one}
 use native.Mathlib.Omega.{arith}
-use lib.Dec.{leb, eqb, leb→le}
+use lib.Dec.{eqb}
 use lib.ListN.{length, drop, getD, drop-of-length-le}
 use lib.Seq.{drop-cons}
 use borrow.Author.Tests.{lt-ltb, le-ltb}
-use Rattle.laws.proofs.Tests.{true-T, and-left, and-right}
 use Rattle.paper.specs.Numbers.{allBelow, allIn}
-use Rattle.paper.specs.Rooms.{least, deepest, depthOk}
+use Rattle.paper.specs.Rooms.{depthOk}
 use Rattle.paper.specs.Store.{Cell, cellsAt, leafNo, badPointer, anyBad, heights, keptCount, scenesHeld, keptOf, sceneDepth, sceneRoot, headerOk, sceneOk, leafUsable, cellUsable, listUsable, scenesBlank, listBlank, storeOk}
 
 -- ---- a cell
@@ -34,12 +33,6 @@ unfolding leafUsable
 leaf-filled c z = lt-ltb 0 (leafNo c) (omega arith)
 
 -- ---- a scene
-
-pub depth-low : (D : ℕ) → depthOk D ≡ true → least ≤ D
-depth-low D e = leb→le least D (and-left (leb least D) (leb D deepest) (true-T e))
-
-pub depth-high : (D : ℕ) → depthOk D ≡ true → D ≤ deepest
-depth-high D e = leb→le D deepest (and-right (leb least D) (leb D deepest) (true-T e))
 
 module _ (ws : List ℕ) (n D : ℕ) (e : D ≡ sceneDepth ws n) where
   abbrev by-depth : ℕ → Bool → Bool

@@ -7,12 +7,12 @@ use crate::header::header_bad;
 use crate::header::kept_count;
 use crate::header::size_bad;
 use crate::header::used_words;
-use crate::scenes::LEAST_DEPTH;
-use crate::scenes::depth_bad;
 use crate::zeros::clear;
+use limits::LEAF_HEIGHT;
 use paper::Kept;
 use paper::Refusal;
 use paper::Started;
+use points::depth_bad;
 
 // New store: the words of this capacity zeroed, then word 0 set; refused by 1.
 pub fn new_store(store: &mut [u32], capacity: u32) -> Started
@@ -36,5 +36,5 @@ pub fn kept(store: &[u32], height: u32) -> Kept
     if depth_bad(height) {
         return Kept::Refused(Refusal::Outside);
     }
-    Kept::Cells(kept_count(store, height - LEAST_DEPTH))
+    Kept::Cells(kept_count(store, height - LEAF_HEIGHT))
 }

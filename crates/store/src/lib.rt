@@ -32,7 +32,6 @@ pub use pointers::bad_pointer;
 pub use pointers::cell_number;
 pub use pointers::pointer;
 pub use pointers::tag;
-pub use scenes::depth_bad;
 pub use scenes::scene_bad;
 pub use scenes::scene_depth;
 pub use scenes::scene_place;

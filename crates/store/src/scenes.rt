@@ -4,33 +4,19 @@ ghost use mathlib.Core.Bool.{not};
 ghost use Prim.Native.Nat.{_≤_, _<_};
 ghost use lib.Dec.{T};
 ghost use Rattle.paper.specs.Numbers.{allBelow};
-ghost use Rattle.paper.specs.Rooms.{depthOk};
 ghost use Rattle.paper.specs.Store.{mostScenes, scenesHeld, scenePlace, sceneDepth, sceneRoot, headerOk, sceneOk, scenesBlank};
 use crate::header::MOST_SCENES;
 use crate::header::kept_count;
 use crate::header::not_blank;
 use crate::header::scenes_held;
 use crate::pointers::bad_pointer;
-
-// A depth is 2 to 16; list k has the cells of height k + 2.
-pub const LEAST_DEPTH: u32 = 2;
-
-const DEEPEST: u32 = 16;
+use limits::LEAF_HEIGHT;
+use points::depth_bad;
 
 // Scene 0's place, and the words of a scene.
 const FIRST_SCENE: usize = 32;
 
 const SCENE_WORDS: usize = 2;
-
-// Whether a depth is not 2 to 16.
-pub fn depth_bad(depth: u32) -> bool
-    ensures { λ r. ⌜ r ≡ not (depthOk depth) ⌝ }
-{
-    if depth < LEAST_DEPTH {
-        return true;
-    }
-    DEEPEST < depth
-}
 
 // Where scene n's words start.
 pub fn scene_place(n: u32) -> usize
@@ -68,7 +54,7 @@ pub fn scene_bad(store: &[u32], n: u32) -> bool
     if depth_bad(depth) {
         return true;
     }
-    bad_pointer(kept_count(store, depth - LEAST_DEPTH), scene_root(store, n))
+    bad_pointer(kept_count(store, depth - LEAF_HEIGHT), scene_root(store, n))
 }
 
 // Whether one of the scenes held is damaged.

@@ -19,10 +19,10 @@ use Rattle.paper.specs.Calls.{noScene, cellOutside, cellDamaged, cellOutcome}
 use Rattle.paper.specs.declared.Refusal.{Refusal}
 use Rattle.laws.proofs.OutlineCells.{no-voxel-empty}
 use Rattle.walk.specs.Walk.{reachOf, cellEnd, smallAt, toldBy, cellAsked, cellTold}
-use Rattle.walk.specs.declared.scene.Entry.the-variants.{Refused}
-use Rattle.walk.proofs.Asked.{asked, refusedBy}
-use Rattle.walk.proofs.Settled.{by-out, by-walk}
-use Rattle.walk.proofs.Entries.{Entered, Says}
+use Rattle.entry.specs.declared.Entry.the-variants.{Refused}
+use Rattle.entry.proofs.Asked.{asked, refusedBy}
+use Rattle.entry.proofs.Settled.{by-out, by-walk}
+use Rattle.entry.proofs.Entries.{Entered, Says}
 use Rattle.walk.proofs.Ends.{orDamage, none-stays}
 use Rattle.walk.proofs.Cells.{corner-inside, pointer-root, small-root}
 

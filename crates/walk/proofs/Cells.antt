@@ -18,7 +18,8 @@ use Rattle.paper.specs.Meaning.{rootRoom}
 use Rattle.paper.specs.Questions.{below, wayDamaged, fromRoot, corner, pointerTo, voxelWay}
 use Rattle.laws.proofs.Bits.{bitFor-is}
 use Rattle.laws.proofs.OutlineCells.{nonEmpty-same, no-voxel-empty}
-use Rattle.walk.specs.Walk.{octant, seenAt, takenFrom, reachOf, voxelEnd, cellEnd, leafSeen, smallAt}
+use Rattle.walk.specs.Walk.{takenFrom, reachOf, voxelEnd, cellEnd, leafSeen, smallAt}
+use Rattle.points.specs.Seeing.{octant, seenAt}
 use Rattle.walk.specs.declared.ways.Reach.{Reach}
 use Rattle.walk.specs.declared.ways.Reach.the-variants.{Absent, At, Damaged}
 use Rattle.walk.proofs.Ends.{orDamage, isDamaged, pointer-end}

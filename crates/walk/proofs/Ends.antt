@@ -3,10 +3,9 @@
 use mathlib.Core.Path.{_≡_, refl, sym, ap, ap₂, _∙_, subst⁻¹}
 use mathlib.Core.Bool.{Bool, true, false, cond, not}
 use mathlib.Core.List.{List}
-use Prim.Native.Nat.{ℕ, zero, suc, _/_, _^_, _<_}
-use native.Mathlib.Nat.{mod-lt}
+use Prim.Native.Nat.{ℕ, zero, suc, _<_}
 use lib.Bits.{bitXor}
-use lib.Dec.{T, eqb, leb, lit<, leb·suc-zero, eqb→eq}
+use lib.Dec.{T, eqb, leb, leb·suc-zero, eqb→eq}
 use lib.ListN.{length, getD}
 use Rattle.paper.specs.Numbers.{bitFor}
 use Rattle.paper.specs.Rooms.{Point, mirror, inChild}
@@ -14,18 +13,13 @@ use Rattle.paper.specs.Outline.{edge}
 use Rattle.paper.specs.Store.{Cell, cellsAt, cellAt, tagOf, cellNo, anyBad}
 use Rattle.paper.specs.Meaning.{cellVoxel}
 use Rattle.paper.specs.Questions.{taken, below, inBelow, wayDamaged, pointerTo}
-use Rattle.laws.proofs.Eight.{xor8-lt}
+use Rattle.laws.proofs.Matching.{tag-lt}
 use Rattle.laws.proofs.Tests.{T-true}
-use Rattle.walk.specs.Walk.{seenAt, takenFrom, reachOf, voxelEnd, cellEnd}
+use Rattle.walk.specs.Walk.{takenFrom, reachOf, voxelEnd, cellEnd}
+use Rattle.points.specs.Seeing.{seenAt}
 use Rattle.walk.specs.declared.ways.Reach.{Reach}
 use Rattle.walk.specs.declared.ways.Reach.the-variants.{Absent, At, Damaged}
-use Rattle.walk.proofs.Seen.{child-seen, in-seen, tag-seen}
-
-pub tag-lt : (p : ℕ) → tagOf p < 8
-tag-lt p = mod-lt (p / 2 ^ 29) (lit< tt)
-
-pub tag-joins : (p m : ℕ) → m < 8 → bitXor (tagOf p) m < 8
-tag-joins p m h = xor8-lt (tagOf p) m (tag-lt p) h
+use Rattle.points.proofs.Seen.{tag-joins, child-seen, in-seen, tag-seen}
 
 -- one step down: the pointer taken, and the voxel in the cell below
 taken-seen : (k m : ℕ) (c : Cell) (v : Point) → m < 8 → taken k c (seenAt (suc k) m v) ≡ takenFrom k c m v

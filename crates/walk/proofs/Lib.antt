@@ -1,17 +1,9 @@
-pub mod Seen
+-- the walk by numbers is the walk by coordinates
 pub mod Ends
-pub mod Asked
 pub mod Roots
 pub mod Cells
-pub mod Two
 pub mod Steps
-pub mod Outside
-pub mod Settled
-pub mod Entries
+-- leaves, and the ways through voxel and cell
+pub mod Two
 pub mod Voxels
-pub mod Tallies
-pub mod Wholes
-pub mod LeafBoxes
-pub mod BoxWays
-pub mod BoxTests
 pub mod CellTests

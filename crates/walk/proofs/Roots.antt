@@ -20,10 +20,13 @@ use Rattle.laws.proofs.Eight.{xor8-lt}
 use Rattle.laws.proofs.Tests.{none-at}
 use Rattle.laws.proofs.Outlines.{depth-two}
 use Rattle.laws.proofs.Invariant.{OkPointer, names-lt, not-bad-ok}
-use Rattle.walk.specs.Walk.{octant, seenAt, takenFrom, reachOf, voxelEnd, AtKept}
+use Rattle.walk.specs.Walk.{takenFrom, reachOf, voxelEnd, AtKept}
+use Rattle.points.specs.Seeing.{octant, seenAt}
 use Rattle.walk.specs.declared.ways.Reach.{Reach}
 use Rattle.walk.specs.declared.ways.Reach.the-variants.{Absent, At, Damaged}
-use Rattle.walk.proofs.Ends.{tag-lt, tag-joins, orDamage, isDamaged, way-damaged, voxel-end}
+use Rattle.walk.proofs.Ends.{orDamage, isDamaged, way-damaged, voxel-end}
+use Rattle.laws.proofs.Matching.{tag-lt}
+use Rattle.points.proofs.Seen.{tag-joins}
 
 -- ---- at the root
 

@@ -4,11 +4,11 @@ use mathlib.Core.Path.{_≡_, refl, sym, ap, ap₂, _∙_}
 use mathlib.Core.Bool.{Bool, true, false, cond, not, _&&_}
 use mathlib.Core.List.{List, [], _∷_}
 use mathlib.Core.Logic.{inl, inr}
-use Prim.Native.Nat.{ℕ, _-_, _^_, _<_, _≤_}
+use Prim.Native.Nat.{ℕ, _-_, _^_, _<_}
 use borrow.Author.Tests.{ne-eqb}
-use lib.Dec.{T, eqb, ltb, leb, leb→le, ltb→lt}
+use lib.Dec.{T, eqb, ltb, ltb→lt}
 use Rattle.paper.specs.Numbers.{bitFor}
-use Rattle.paper.specs.Rooms.{Point, Inside, inside, depthOk, least, deepest}
+use Rattle.paper.specs.Rooms.{Point, Inside, inside, depthOk}
 use Rattle.paper.specs.Store.{Cell, tagOf, cellNo, badPointer, scenesHeld, sceneDepth, sceneRoot, headerOk, sceneOk, keptOf}
 use Rattle.paper.specs.Answers.{Told, told, outcome, numberOf}
 use Rattle.paper.specs.Calls.{noScene, voxelOutside, voxelDamaged, voxelOutcome}
@@ -19,18 +19,11 @@ use Rattle.laws.proofs.Tests.{true-T, and-left, and-right}
 use Rattle.laws.proofs.Invariant.{OkPointer, names-lt, not-bad-ok}
 use Rattle.walk.specs.Walk.{reachOf, voxelEnd, toldBy, voxelTold}
 use Rattle.walk.proofs.Ends.{orDamage}
-use Rattle.walk.specs.declared.scene.Entry.the-variants.{Refused}
-use Rattle.walk.proofs.Asked.{asked, refusedBy}
-use Rattle.walk.proofs.Settled.{by-out, by-walk}
-use Rattle.walk.proofs.Entries.{Entered, Says}
+use Rattle.entry.specs.declared.Entry.the-variants.{Refused}
+use Rattle.entry.proofs.Asked.{asked, refusedBy}
+use Rattle.entry.proofs.Settled.{by-out, by-walk}
+use Rattle.entry.proofs.Entries.{Entered, Says}
 use Rattle.walk.proofs.Roots.{voxel-root}
-
--- a depth in range
-pub depth-most : (D : ℕ) → T (depthOk D) → D ≤ deepest
-depth-most D d = leb→le D deepest (and-right (leb least D) (leb D deepest) d)
-
-pub depth-least : (D : ℕ) → T (depthOk D) → 2 ≤ D
-depth-least D d = leb→le 2 D (and-left (leb least D) (leb D deepest) d)
 
 -- a root pointer that is neither bad nor none names a kept cell
 pub root-kept : (n p : ℕ) → badPointer n p ≡ false → (p ≡ 0 → ⊥) → cellNo p < n

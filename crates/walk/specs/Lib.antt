@@ -1,3 +1,2 @@
+-- the walk by numbers, and what a question reads off its end
 pub mod Walk
-pub mod Entry
-pub mod Box

@@ -2,27 +2,19 @@
 -- the number of the child is mirrored by the mirror in force, and its tag joins that mirror. Definitions only.
 use mathlib.Core.Bool.{Bool, cond, not, _||_}
 use mathlib.Core.List.{List, [], _∷_}
-use Prim.Native.Nat.{ℕ, zero, suc, _+_, _-_, _*_, _/_, _%_, _^_, _<_}
+use Prim.Native.Nat.{ℕ, zero, suc, _+_, _-_, _^_, _<_}
 use lib.Bits.{bitXor}
 use lib.Dec.{eqb, leb}
 use lib.ListN.{length, getD}
-use Rattle.paper.specs.Rooms.{Point, point, inside, mirror, inChild, nonEmpty}
+use Rattle.paper.specs.Rooms.{Point, point, inside, nonEmpty}
 use Rattle.paper.specs.Questions.{voxelWay, voxelSolid, cellWay, cellFull}
-use Rattle.paper.specs.Outline.{edge}
 use Rattle.paper.specs.Store.{Cell, cellsAt, cellAt, tagOf, cellNo, leafNo, anyBad}
 use Rattle.paper.specs.Leaf.{leafVoxel}
 use Rattle.paper.specs.Numbers.{bitFor}
 use Rattle.paper.specs.Answers.{Told, told}
+use Rattle.points.specs.Seeing.{octant, seenAt}
 use Rattle.walk.specs.declared.ways.Reach.{Reach}
 use Rattle.walk.specs.declared.ways.Reach.the-variants.{Absent, At, Damaged}
-
--- which child of a cell of list k + 1 holds v, as the room shows them
-abbrev pub octant : ℕ → Point → ℕ
-octant k v = v .x / edge k % 2 + 2 * (v .y / edge k % 2) + 4 * (v .z / edge k % 2)
-
--- v in the cell of list k that holds it, seen under mirror m
-abbrev pub seenAt : ℕ → ℕ → Point → Point
-seenAt k m v = mirror m (edge k) (inChild (edge k) v)
 
 -- the pointer taken from cell c of list k + 1 seen under m
 abbrev pub takenFrom : ℕ → Cell → ℕ → Point → ℕ

@@ -1,43 +1,27 @@
 // Voxel, with its whole outcome as `paper` defines it: refused by 2 (header), 9, 2 (the scene's two words),
 // 10, 2 (walk), in this order.
 ghost use mathlib.Core.Path.{_≡_};
-ghost use mathlib.Core.Bool.{false, not};
+ghost use mathlib.Core.Bool.{false};
 ghost use mathlib.Core.List.{[]};
-ghost use Prim.Native.Nat.{_^_, _-_, _≤_};
+ghost use Prim.Native.Nat.{_-_};
 ghost use lib.Dec.{T};
-ghost use Rattle.paper.specs.Rooms.{deepest, depthOk, inside, point};
+ghost use Rattle.paper.specs.Rooms.{depthOk, point};
 ghost use Rattle.paper.specs.Store.{badPointer, headerOk, keptCount, keptOf};
 ghost use Rattle.paper.specs.Answers.{outcome, seen};
 ghost use Rattle.paper.specs.Calls.{voxelOutcome};
 ghost use Rattle.walk.specs.Walk.{AtKept, toldBy, voxelEnd, voxelTold};
-use crate::leaves::leaf_solid;
-use crate::scene::Entry;
-use crate::scene::enter;
 use crate::ways::Reach;
 use crate::ways::walk_to;
+use entry::Entry;
+use entry::enter;
+use limits::LEAF_HEIGHT;
 use paper::Refusal;
 use paper::Seen;
+use points::leaf_solid;
+use points::outside;
 use store::cell_number;
 use store::leaf_at;
 use store::tag;
-
-// List k has the cells of height k + 2.
-pub const LEAF_HEIGHT: u32 = 2;
-
-// Whether a point lies outside a cube of edge 2^height.
-pub fn outside(height: u32, x: u32, y: u32, z: u32) -> bool
-    requires { ⌜ height ≤ deepest ⌝ }
-    ensures { λ r. ⌜ r ≡ not (inside (2 ^ height) (point x y z)) ⌝ }
-{
-    let edge = 1u32 << height;
-    if edge <= x {
-        return true;
-    }
-    if edge <= y {
-        return true;
-    }
-    edge <= z
-}
 
 // The voxel at which a walk ended.
 fn voxel_at(store: &[u32], end: Reach, x: u32, y: u32, z: u32) -> Seen

@@ -1,29 +1,11 @@
-// The voxels of a leaf seen under a mirror: one, and the eight of a cell of height 1.
+// A cell of height 1 in a leaf seen under a mirror: its eight voxels.
 ghost use mathlib.Core.Path.{_≡_};
 ghost use Prim.Native.Nat.{_+_, _<_};
-ghost use lib.Dec.{eqb};
 ghost use Rattle.paper.specs.Leaf.{leafVoxel};
 ghost use Rattle.paper.specs.Numbers.{anyBelow};
-ghost use Rattle.paper.specs.Rooms.{flip, nonEmpty, point};
-ghost use Rattle.walk.specs.Walk.{seenAt};
-
-// A coordinate in a leaf, mirrored if the bit is 1.
-fn flipped(bit: u32, c: u32) -> u32
-    requires { ⌜ c < 4 ⌝ }
-    ensures { λ r. ⌜ (r ≡ flip (eqb bit 1) 4 c) × (r < 4) ⌝ }
-{
-    if bit == 1 { 3 - c } else { c }
-}
-
-// One voxel.
-pub fn leaf_solid(leaf: u64, mirror: u32, x: u32, y: u32, z: u32) -> bool
-    ensures { λ r. ⌜ r ≡ leafVoxel leaf (seenAt 0 mirror (point x y z)) ⌝ }
-{
-    let a = flipped(mirror % 2, x % 4);
-    let b = flipped(mirror / 2 % 2, y % 4);
-    let c = flipped(mirror / 4 % 2, z % 4);
-    (leaf >> (a + 4 * b + 16 * c)) % 2 == 1
-}
+ghost use Rattle.paper.specs.Rooms.{nonEmpty, point};
+ghost use Rattle.points.specs.Seeing.{seenAt};
+use points::leaf_solid;
 
 // Whether one of two voxels along x is solid.
 fn row_full(leaf: u64, mirror: u32, x: u32, y: u32, z: u32) -> bool

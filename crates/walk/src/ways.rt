@@ -5,7 +5,8 @@ ghost use Prim.Native.Nat.{_<_};
 ghost use lib.Dec.{T};
 ghost use Rattle.paper.specs.Rooms.{point};
 ghost use Rattle.paper.specs.Store.{heights, keptCount, keptOf, headerOk};
-ghost use Rattle.walk.specs.Walk.{octant as octant-of, reachOf};
+ghost use Rattle.walk.specs.Walk.{reachOf};
+use points::octant;
 use store::any_bad;
 use store::cell_at;
 use store::cell_number;
@@ -20,15 +21,6 @@ pub enum Reach {
     At(u32, u32),
     // A cell on the way has a bad pointer.
     Damaged,
-}
-
-// Which child of a cell of list k + 1 holds a voxel, as the room shows them.
-fn octant(k: u32, x: u32, y: u32, z: u32) -> u32
-    requires { ⌜ k < heights ⌝ }
-    ensures { λ r. ⌜ (r ≡ octant-of k (point x y z)) × (r < 8) ⌝ }
-{
-    let s = k + 2;
-    (x >> s) % 2 + 2 * ((y >> s) % 2) + 4 * ((z >> s) % 2)
 }
 
 // From a cell of list k, seen under a mirror, down to list `stop` on the way to a voxel.

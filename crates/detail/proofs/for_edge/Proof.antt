@@ -12,8 +12,9 @@ use Rattle.paper.specs.Answers.{outcome, chosen}
 use Rattle.paper.specs.Detail.{edgeOk}
 use Rattle.paper.specs.declared.Wish.the-variants.{WidestEdge}
 use Rattle.paper.specs.declared.Chosen.the-variants.{Height}
+use Rattle.laws.proofs.StoreFacts.{depth-range}
 use Rattle.detail.proofs.Ranges.{edge-range, edge-is-distance}
-use Rattle.detail.proofs.Ways.{depth-in, bad-wish, in-order}
+use Rattle.detail.proofs.Ways.{bad-wish, in-order}
 use Rattle.detail.proofs.for_edge.Statement.{statement}
 use Rattle.detail.proofs.for_edge.Tie as tie
 
@@ -25,19 +26,19 @@ inside c = sym (edge-range (c .before .before .args .edge)) ∙ sym (c .before .
 
 height-requires : tie.Need-height-requires
 unfolding ofBits
-height-requires c κs = (omega arith, (tt, edge-is-distance (c .before .before .args .edge) (subst T (sym (inside c)) tt)))
+height-requires c κs = (omega (arith, depth-range (c .before .before .args .depth) (c .before .before .pre) .1), (tt, edge-is-distance (c .before .before .args .edge) (subst T (sym (inside c)) tt)))
 
 returns : tie.Need-returns
 unfolding ofBits
 returns c =
     let s = c .before .before .before in
     ap (λ (h : ℕ). outcome (chosen (Height h)) []) (c .height .ensures)
-    ∙ in-order (s .args .depth) (WidestEdge (s .args .edge)) (depth-in (s .args .depth) (s .pre .0) (s .pre .1)) (inside (c .before))
+    ∙ in-order (s .args .depth) (WidestEdge (s .args .edge)) (s .pre) (inside (c .before))
 
 returns-2 : tie.Need-returns-2
 returns-2 c =
     let s = c .before .before in
-    bad-wish (s .args .depth) (WidestEdge (s .args .edge)) (depth-in (s .args .depth) (s .pre .0) (s .pre .1))
+    bad-wish (s .args .depth) (WidestEdge (s .args .edge)) (s .pre)
     (sym (edge-range (s .args .edge)) ∙ sym (c .before .between .ensures) ∙ c .if1 .left)
 
 pub for-edge-spec : {M : Type 1} → statement M

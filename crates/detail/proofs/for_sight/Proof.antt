@@ -11,8 +11,9 @@ use Rattle.paper.specs.Answers.{outcome, chosen}
 use Rattle.paper.specs.Detail.{distanceOk, factorOk}
 use Rattle.paper.specs.declared.Wish.the-variants.{Distance}
 use Rattle.paper.specs.declared.Chosen.the-variants.{Height}
+use Rattle.laws.proofs.StoreFacts.{depth-range}
 use Rattle.detail.proofs.Ranges.{distance-range, factor-range}
-use Rattle.detail.proofs.Ways.{depth-in, bad-wish, in-order}
+use Rattle.detail.proofs.Ways.{bad-wish, in-order}
 use Rattle.detail.proofs.for_sight.Statement.{statement}
 use Rattle.detail.proofs.for_sight.Tie as tie
 
@@ -31,25 +32,25 @@ fair : (c : tie.Then2) → factorOk (c .before .before .before .before .args .si
 fair c = sym (factor-range (c .before .before .before .before .args .sight .factor)) ∙ sym (c .before .between2 .ensures) ∙ c .if2 .taken
 
 height-requires : tie.Need-height-requires
-height-requires c κs = (omega arith, (subst T (sym (fair c)) tt, subst T (sym (near (c .before .before))) tt))
+height-requires c κs = (omega (arith, depth-range (c .before .before .before .before .args .depth) (c .before .before .before .before .pre) .1), (subst T (sym (fair c)) tt, subst T (sym (near (c .before .before))) tt))
 
 returns : tie.Need-returns
 returns c =
     let s = c .before .before .before .before .before in
     ap (λ (h : ℕ). outcome (chosen (Height h)) []) (c .height .ensures)
-    ∙ in-order (s .args .depth) (Distance (s .args .sight)) (depth-in (s .args .depth) (s .pre .0) (s .pre .1))
+    ∙ in-order (s .args .depth) (Distance (s .args .sight)) (s .pre)
     (ap₂ (λ (p q : Bool). p && q) (near (c .before .before .before)) (fair (c .before)))
 
 returns-2 : tie.Need-returns-2
 returns-2 c =
     let s = c .before .before .before .before in
-    bad-wish (s .args .depth) (Distance (s .args .sight)) (depth-in (s .args .depth) (s .pre .0) (s .pre .1))
+    bad-wish (s .args .depth) (Distance (s .args .sight)) (s .pre)
     (ap₂ (λ (p q : Bool). p && q) (near (c .before .before)) (sym (factor-range (s .args .sight .factor)) ∙ sym (c .before .between2 .ensures) ∙ c .if2 .left))
 
 returns-3 : tie.Need-returns-3
 returns-3 c =
     let s = c .before .before in
-    bad-wish (s .args .depth) (Distance (s .args .sight)) (depth-in (s .args .depth) (s .pre .0) (s .pre .1))
+    bad-wish (s .args .depth) (Distance (s .args .sight)) (s .pre)
     (ap (λ (p : Bool). p && factorOk (s .args .sight .factor)) (sym (distance-range (s .args .sight .distance)) ∙ sym (c .before .between .ensures) ∙ c .if1 .left))
 
 pub for-sight-spec : {M : Type 1} → statement M

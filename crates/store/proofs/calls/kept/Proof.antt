@@ -9,8 +9,9 @@ use Rattle.paper.specs.Rooms.{depthOk}
 use Rattle.paper.specs.Store.{headerOk}
 use Rattle.paper.specs.Answers.{outcome, kept}
 use Rattle.paper.specs.declared.Kept.the-variants.{Cells}
+use Rattle.laws.proofs.StoreFacts.{depth-range}
+use Rattle.laws.proofs.Tests.{true-T}
 use Rattle.store.proofs.Tests.{passed, failed, passed-T}
-use Rattle.store.proofs.Usable.{depth-low, depth-high}
 use Rattle.store.proofs.Ways.{kept-damaged, kept-outside, kept-answered}
 use borrow.Author.Needs.{needs}
 use Rattle.store.proofs.calls.kept.Statement.{statement}
@@ -31,12 +32,12 @@ returns-2 c =
     kept-outside (a .store .now) (a .height) (passed (c .before .before .before .header-bad .ensures) (c .before .before .if1 .left)) (failed (c .before .depth-bad .ensures) (c .if2 .taken))
 
 sub-kept-count : tie.Need-sub-kept-count
-sub-kept-count c = omega (arith, depth-low (c .before .before .before .before .before .args .height) (fair c))
+sub-kept-count c = omega (arith, depth-range (c .before .before .before .before .before .args .height) (true-T (fair c)) .0)
 
 kept-count-requires : tie.Need-kept-count-requires
 kept-count-requires c κs =
     let height = c .before .before .before .before .before .args .height in
-    (passed-T (headerOk (c .before .before .before .before .before .args .store .now)) (c .before .before .before .header-bad .ensures) (c .before .before .if1 .left), omega (arith, depth-low height (fair c), depth-high height (fair c)))
+    (passed-T (headerOk (c .before .before .before .before .before .args .store .now)) (c .before .before .before .header-bad .ensures) (c .before .before .if1 .left), omega (arith, depth-range height (true-T (fair c)) .0, depth-range height (true-T (fair c)) .1))
 
 returns-3 : tie.Need-returns-3
 returns-3 c =

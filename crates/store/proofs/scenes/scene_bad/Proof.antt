@@ -5,8 +5,10 @@ use mathlib.Core.Bool.{true, not, Bool·not-not}
 use native.Mathlib.Omega.{arith}
 use Rattle.paper.specs.Rooms.{depthOk}
 use Rattle.paper.specs.Store.{sceneRoot, badPointer}
+use Rattle.laws.proofs.StoreFacts.{depth-range}
+use Rattle.laws.proofs.Tests.{true-T}
 use Rattle.store.proofs.Tests.{passed, failed}
-use Rattle.store.proofs.Usable.{depth-low, depth-high, scene-shallow, scene-rooted}
+use Rattle.store.proofs.Usable.{scene-shallow, scene-rooted}
 use borrow.Author.Needs.{needs}
 use Rattle.store.proofs.scenes.scene_bad.Statement.{statement}
 use Rattle.store.proofs.scenes.scene_bad.Tie as tie
@@ -21,12 +23,12 @@ returns c =
     sym (ap not (scene-shallow (a .store .now) (a .n) _ (c .before .before .scene-depth .ensures) (failed (c .before .depth-bad .ensures) (c .if1 .taken))))
 
 sub-kept-count : tie.Need-sub-kept-count
-sub-kept-count c = omega (arith, depth-low (c .before .before .scene-depth .result) (fair c))
+sub-kept-count c = omega (arith, depth-range (c .before .before .scene-depth .result) (true-T (fair c)) .0)
 
 kept-count-requires : tie.Need-kept-count-requires
 kept-count-requires c κs =
     let depth = c .before .before .scene-depth .result in
-    (c .before .before .before .before .pre .0, omega (arith, depth-low depth (fair c), depth-high depth (fair c)))
+    (c .before .before .before .before .pre .0, omega (arith, depth-range depth (true-T (fair c)) .0, depth-range depth (true-T (fair c)) .1))
 
 returns-2 : tie.Need-returns-2
 returns-2 c =

@@ -4,8 +4,8 @@ use mathlib.Core.List.{[]}
 use denote.Ref.{now}
 use Rattle.paper.specs.Answers.{Told, outcome}
 use Rattle.paper.specs.Rooms.{point}
-use Rattle.walk.specs.declared.scene.Entry.the-variants.{Root, Refused}
-use Rattle.walk.proofs.Entries.{Entered, entry-says, entered-depth, entered-root}
+use Rattle.entry.specs.declared.Entry.the-variants.{Root, Refused}
+use Rattle.entry.proofs.Entries.{Entered, entry-says, entered-depth, entered-root}
 use Rattle.walk.proofs.Voxels.{voxel-settled, voxel-refused}
 use borrow.Author.Needs.{needs}
 use Rattle.walk.proofs.calls.voxel.Statement.{statement}

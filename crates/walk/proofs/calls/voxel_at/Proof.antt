@@ -9,7 +9,8 @@ use Rattle.paper.specs.Numbers.{bitFor}
 use Rattle.paper.specs.Rooms.{point}
 use Rattle.paper.specs.Store.{keptOf}
 use Rattle.laws.proofs.Kept.{kept-length}
-use Rattle.walk.specs.Walk.{seenAt, voxelEnd, toldBy, AtKept}
+use Rattle.walk.specs.Walk.{voxelEnd, toldBy, AtKept}
+use Rattle.points.specs.Seeing.{seenAt}
 use Rattle.walk.specs.declared.ways.Reach.{Reach}
 use Rattle.walk.specs.declared.ways.Reach.the-variants.{At}
 use borrow.Author.Needs.{needs}

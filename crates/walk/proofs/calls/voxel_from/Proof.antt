@@ -11,28 +11,29 @@ use Rattle.paper.specs.Store.{Cell, heights, cellsAt, tagOf, cellNo, keptCount,
 use Rattle.laws.proofs.Kept.{kept-length}
 use Rattle.walk.specs.Walk.{reachOf, voxelEnd, toldBy, AtKept}
 use Rattle.walk.specs.declared.ways.Reach.{Reach}
-use Rattle.walk.proofs.Ends.{tag-lt}
+use Rattle.laws.proofs.Matching.{tag-lt}
 use Rattle.walk.proofs.Roots.{reach-kept}
-use Rattle.walk.proofs.Settled.{passed, failed}
-use Rattle.walk.proofs.Voxels.{depth-most, depth-least, root-kept, not-none, voxel-outside, voxel-none, voxel-some}
+use Rattle.store.proofs.Tests.{passed-T, failed-T}
+use Rattle.walk.proofs.Voxels.{root-kept, not-none, voxel-outside, voxel-none, voxel-some}
+use Rattle.laws.proofs.StoreFacts.{depth-range}
 use borrow.Author.Needs.{needs}
 use Rattle.walk.proofs.calls.voxel_from.Statement.{statement}
 use Rattle.walk.proofs.calls.voxel_from.Tie as tie
 
 outside-requires : tie.Need-outside-requires
-outside-requires c κs = depth-most (c .before .args .depth) (c .before .pre .1 .0)
+outside-requires c κs = depth-range (c .before .args .depth) (c .before .pre .1 .0) .1
 
 -- past the first test
 inside-here : (c : tie.Else1) → (let a = c .before .before .before .args in T (inside (2 ^ a .depth) (point (a .x) (a .y) (a .z))))
 inside-here c =
     let a = c .before .before .before .args in
-    passed (inside (2 ^ a .depth) (point (a .x) (a .y) (a .z))) (c .before .outside .result) (c .before .outside .ensures) (c .if1 .left)
+    passed-T (inside (2 ^ a .depth) (point (a .x) (a .y) (a .z))) (c .before .outside .ensures) (c .if1 .left)
 
 returns : tie.Need-returns
 returns c =
     let a = c .before .before .before .args in
     voxel-outside (keptOf (now (a .store))) (a .depth) (a .root) (point (a .x) (a .y) (a .z))
-    (failed (inside (2 ^ a .depth) (point (a .x) (a .y) (a .z))) (c .before .outside .result) (c .before .outside .ensures) (c .if1 .taken))
+    (failed-T (inside (2 ^ a .depth) (point (a .x) (a .y) (a .z))) (c .before .outside .ensures) (c .if1 .taken))
 
 returns-2 : tie.Need-returns-2
 returns-2 c =
@@ -40,7 +41,7 @@ returns-2 c =
     voxel-none (keptOf (now (a .store))) (a .depth) (a .root) (point (a .x) (a .y) (a .z)) (inside-here (c .before)) (c .if2 .taken)
 
 sub-walk-to : tie.Need-sub-walk-to
-sub-walk-to c = omega (arith, depth-least (c .before .before .before .before .args .depth) (c .before .before .before .before .pre .1 .0))
+sub-walk-to c = omega (arith, depth-range (c .before .before .before .before .args .depth) (c .before .before .before .before .pre .1 .0) .0)
 
 cell-number-requires : tie.Need-cell-number-requires
 cell-number-requires c κs = search needs
@@ -52,7 +53,7 @@ walk-to-requires : tie.Need-walk-to-requires
 walk-to-requires c κs =
     let b = c .before .before .before .before .before .before in
     let a = b .args in
-    let low : a .depth - 2 < heights = omega (arith, depth-most (a .depth) (b .pre .1 .0)) in (
+    let low : a .depth - 2 < heights = omega (arith, depth-range (a .depth) (b .pre .1 .0) .1) in (
       b .pre .0,
       (
         low,
@@ -76,7 +77,7 @@ voxel-at-requires c κs =
     let b = c .before .before .before .before .before .before .before in
     let a = b .args in
     let K : List (List Cell) = keptOf (now (a .store)) in
-    let low : a .depth - 2 < heights = omega (arith, depth-most (a .depth) (b .pre .1 .0)) in
+    let low : a .depth - 2 < heights = omega (arith, depth-range (a .depth) (b .pre .1 .0) .1) in
     let kept : cellNo (a .root) < length (cellsAt K (a .depth - 2)) =
     subst⁻¹ (λ (n : ℕ). cellNo (a .root) < n) (kept-length (now (a .store)) (a .depth - 2) low)
     (root-kept (keptCount (now (a .store)) (a .depth - 2)) (a .root) (b .pre .1 .1) (c .before .before .before .if2 .left)) in

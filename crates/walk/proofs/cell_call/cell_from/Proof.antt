@@ -6,8 +6,8 @@ use denote.Ref.{now}
 use lib.Dec.{T}
 use Rattle.paper.specs.Rooms.{point, inside}
 use Rattle.paper.specs.Store.{keptOf}
-use Rattle.walk.proofs.Settled.{passed, failed}
-use Rattle.walk.proofs.Voxels.{depth-most}
+use Rattle.store.proofs.Tests.{passed-T, failed-T}
+use Rattle.laws.proofs.StoreFacts.{depth-range}
 use Rattle.walk.proofs.CellTests.{cell-above, cell-past, cell-none, cell-inside}
 use Rattle.walk.proofs.cell_call.cell_from.Statement.{statement}
 use Rattle.walk.proofs.cell_call.cell_from.Tie as tie
@@ -18,19 +18,19 @@ returns c =
     cell-above (keptOf (now (a .store))) (a .depth) (a .root) (a .height) (point (a .x) (a .y) (a .z)) (c .if1 .taken)
 
 outside-requires : tie.Need-outside-requires
-outside-requires c κs = let b = c .before .before in omega (arith, depth-most (b .args .depth) (b .pre .1 .0))
+outside-requires c κs = let b = c .before .before in omega (arith, depth-range (b .args .depth) (b .pre .1 .0) .1)
 
 -- past the tests
 inside-here : (c : tie.Else2) → (let a = c .before .before .before .before .args in T (inside (2 ^ (a .depth - a .height)) (point (a .x) (a .y) (a .z))))
 inside-here c =
     let a = c .before .before .before .before .args in
-    passed (inside (2 ^ (a .depth - a .height)) (point (a .x) (a .y) (a .z))) (c .before .outside .result) (c .before .outside .ensures) (c .if2 .left)
+    passed-T (inside (2 ^ (a .depth - a .height)) (point (a .x) (a .y) (a .z))) (c .before .outside .ensures) (c .if2 .left)
 
 returns-2 : tie.Need-returns-2
 returns-2 c =
     let a = c .before .before .before .before .args in
     cell-past (keptOf (now (a .store))) (a .depth) (a .root) (a .height) (point (a .x) (a .y) (a .z))
-    (failed (inside (2 ^ (a .depth - a .height)) (point (a .x) (a .y) (a .z))) (c .before .outside .result) (c .before .outside .ensures) (c .if2 .taken))
+    (failed-T (inside (2 ^ (a .depth - a .height)) (point (a .x) (a .y) (a .z))) (c .before .outside .ensures) (c .if2 .taken))
 
 returns-3 : tie.Need-returns-3
 returns-3 c =

@@ -12,10 +12,11 @@ use Rattle.paper.specs.Questions.{corner}
 use Rattle.laws.proofs.Kept.{kept-length}
 use Rattle.walk.specs.Walk.{reachOf, cellEnd, smallAt, toldBy, AtKept}
 use Rattle.walk.specs.declared.ways.Reach.{Reach}
-use Rattle.walk.proofs.Ends.{tag-lt}
+use Rattle.laws.proofs.Matching.{tag-lt}
 use Rattle.walk.proofs.Roots.{reach-kept}
 use Rattle.walk.proofs.Cells.{corner-inside}
-use Rattle.walk.proofs.Voxels.{depth-most, depth-least, root-kept, not-none, is-inside}
+use Rattle.walk.proofs.Voxels.{root-kept, not-none, is-inside}
+use Rattle.laws.proofs.StoreFacts.{depth-range}
 use Rattle.walk.proofs.CellTests.{cell-high, cell-low, corner-fits}
 use borrow.Author.Needs.{needs}
 use Rattle.walk.proofs.cell_call.cell_under.Statement.{statement}
@@ -23,7 +24,7 @@ use Rattle.walk.proofs.cell_call.cell_under.Tie as tie
 
 -- what is known of the arguments
 low : (b : tie.Start) → b .args .height ≤ deepest
-low b = le-trans (b .pre .1 .1 .1 .0) (depth-most (b .args .depth) (b .pre .1 .0))
+low b = le-trans (b .pre .1 .1 .1 .0) (depth-range (b .args .depth) (b .pre .1 .0) .1)
 
 inside-cell : (b : tie.Start) → Inside (2 ^ (b .args .depth - b .args .height)) (point (b .args .x) (b .args .y) (b .args .z))
 inside-cell b = is-inside (2 ^ (b .args .depth - b .args .height)) (point (b .args .x) (b .args .y) (b .args .z)) (b .pre .1 .1 .1 .1)
@@ -32,11 +33,11 @@ fits : (b : tie.Start) → Inside 65536 (corner (b .args .height) (point (b .arg
 fits b =
     let a = b .args in
     let i = corner-inside (a .depth) (a .height) (point (a .x) (a .y) (a .z)) (b .pre .1 .1 .1 .0) (inside-cell b) in
-    let m = depth-most (a .depth) (b .pre .1 .0) in
+    let m = depth-range (a .depth) (b .pre .1 .0) .1 in
     record { inX = corner-fits (a .depth) (a .height) (a .x) (b .pre .1 .0) m (i .inX); inY = corner-fits (a .depth) (a .height) (a .y) (b .pre .1 .0) m (i .inY); inZ = corner-fits (a .depth) (a .height) (a .z) (b .pre .1 .0) m (i .inZ) }
 
 list-low : (b : tie.Start) → b .args .depth - 2 < heights
-list-low b = omega (arith, depth-most (b .args .depth) (b .pre .1 .0))
+list-low b = omega (arith, depth-range (b .args .depth) (b .pre .1 .0) .1)
 
 kept-root : (b : tie.Start) → cellNo (b .args .root) < keptCount (now (b .args .store)) (b .args .depth - 2)
 kept-root b = root-kept (keptCount (now (b .args .store)) (b .args .depth - 2)) (b .args .root) (b .pre .1 .1 .0 .0) (b .pre .1 .1 .0 .1)
@@ -55,7 +56,7 @@ corner-requires-3 : tie.Need-corner-requires-3
 corner-requires-3 c κs = let b = c .before .before .before in (low b, fits b .inZ)
 
 sub-k : tie.Need-sub-k
-sub-k c = let b = c .before .before .before .before in omega (arith, depth-least (b .args .depth) (b .pre .1 .0))
+sub-k c = let b = c .before .before .before .before in omega (arith, depth-range (b .args .depth) (b .pre .1 .0) .0)
 
 cell-number-requires : tie.Need-cell-number-requires
 cell-number-requires c κs = search needs

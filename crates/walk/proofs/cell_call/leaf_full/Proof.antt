@@ -6,7 +6,7 @@ use native.Mathlib.Nat.{add-zero}
 use native.Mathlib.Omega.{arith}
 use Rattle.paper.specs.Leaf.{leafVoxel}
 use Rattle.paper.specs.Rooms.{point, nonEmpty}
-use Rattle.walk.specs.Walk.{seenAt}
+use Rattle.points.specs.Seeing.{seenAt}
 use borrow.Author.Needs.{needs}
 use Rattle.walk.proofs.cell_call.leaf_full.Statement.{statement}
 use Rattle.walk.proofs.cell_call.leaf_full.Tie as tie

@@ -5,7 +5,7 @@ use native.Mathlib.Nat.{add-zero}
 use Rattle.paper.specs.Leaf.{leafVoxel}
 use Rattle.paper.specs.Rooms.{point, nonEmpty}
 use Rattle.paper.specs.Numbers.{anyBelow}
-use Rattle.walk.specs.Walk.{seenAt}
+use Rattle.points.specs.Seeing.{seenAt}
 use Rattle.walk.proofs.Two.{any-later, any-earlier}
 use borrow.Author.Needs.{needs}
 use Rattle.walk.proofs.leaves.eighth_full.Statement.{statement}

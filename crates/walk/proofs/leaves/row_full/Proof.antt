@@ -4,7 +4,7 @@ use Prim.Native.Nat.{ℕ, _+_}
 use native.Mathlib.Nat.{add-zero}
 use Rattle.paper.specs.Leaf.{leafVoxel}
 use Rattle.paper.specs.Rooms.{point}
-use Rattle.walk.specs.Walk.{seenAt}
+use Rattle.points.specs.Seeing.{seenAt}
 use Rattle.walk.proofs.Two.{any-later, any-earlier}
 use borrow.Author.Needs.{needs}
 use Rattle.walk.proofs.leaves.row_full.Statement.{statement}

@@ -1,0 +1,82 @@
+-- A box question's tests as code meets them: a side outside, a box outside, a box that ends inside the room; and the whole outcome of a scene that
+-- can be asked. By cases on the tests. Assumes nothing.
+use mathlib.Core.Path.{_≡_, refl, sym, ap, ap₂, subst}
+use mathlib.Core.Bool.{Bool, true, false, cond, not, _||_}
+use mathlib.Core.List.{List, [], _∷_}
+use Prim.Native.Nat.{ℕ, _<_, _≤_}
+use borrow.Author.Tests.{lt-ltb, le-ltb, ltb-false}
+use lib.Dec.{T, ltb}
+use Rattle.paper.specs.Rooms.{Point}
+use Rattle.paper.specs.Store.{scenesHeld, headerOk, sceneOk}
+use Rattle.paper.specs.Answers.{told, outcome, numberOf}
+use Rattle.paper.specs.Questions.{boxSolid}
+use Rattle.paper.specs.Calls.{noScene, ofScene, axisOutside, boxOutside, boxDamaged, boxOutcome}
+use Rattle.paper.specs.declared.Refusal.{Refusal}
+use Rattle.boxes.specs.Box.{Upto, sceneBox, tallyTold, boxTold}
+use Rattle.boxes.specs.declared.count.Tally.the-variants.{Solid, Damaged}
+use Rattle.entry.specs.declared.Entry.the-variants.{Refused}
+use Rattle.entry.proofs.Asked.{asked, refusedBy}
+use Rattle.entry.proofs.Settled.{by-out, by-walk}
+use Rattle.entry.proofs.Entries.{Entered, Says}
+
+-- ---- a side
+
+pub side-backwards : (S low high : ℕ) → high < low → true ≡ axisOutside S low high
+side-backwards S low high h = ap (λ (b : Bool). b || ltb S high) (sym (lt-ltb high low h))
+
+pub side-past : (S low high : ℕ) → low ≤ high → ltb S high ≡ axisOutside S low high
+side-past S low high h = ap (λ (b : Bool). b || ltb S high) (sym (le-ltb high low h))
+
+side-within : (S low high : ℕ) → axisOutside S low high ≡ false → high ≤ S
+side-within S low high e = ltb-false S high (right (ltb high low) (ltb S high) e)
+  where
+    right : (a b : Bool) → (a || b) ≡ false → b ≡ false
+    right true b e = absurd (subst T e tt)
+    right false b e = e
+
+-- ---- the three sides
+
+pub any-first : (a b c : Bool) → a ≡ true → true ≡ (a || b || c)
+any-first a b c e = ap (λ (x : Bool). x || b || c) (sym e)
+
+pub any-second : (a b c : Bool) → b ≡ true → true ≡ (a || b || c)
+any-second true b c e = refl
+any-second false b c e = ap (λ (x : Bool). x || c) (sym e)
+
+pub any-third : (a b c : Bool) → a ≡ false → b ≡ false → c ≡ (a || b || c)
+any-third a b c e f = ap₂ (λ (x y : Bool). x || y || c) (sym e) (sym f)
+
+either : (a b c : Bool) → (a || b || c) ≡ false → (a ≡ false) × (b ≡ false) × (c ≡ false)
+either true b c e = absurd (subst T e tt)
+either false true c e = absurd (subst T e tt)
+either false false c e = (refl, refl, e)
+
+pub box-within : (S : ℕ) (low high : Point) → (axisOutside S (low .x) (high .x) || axisOutside S (low .y) (high .y) || axisOutside S (low .z) (high .z)) ≡ false → Upto S high
+box-within S low high e =
+    let p = either (axisOutside S (low .x) (high .x)) (axisOutside S (low .y) (high .y)) (axisOutside S (low .z) (high .z)) e in
+    record { uptoX = side-within S (low .x) (high .x) (p .0); uptoY = side-within S (low .y) (high .y) (p .1); uptoZ = side-within S (low .z) (high .z) (p .2) }
+
+-- ---- told past the scene's tests
+
+pub told-outside : (ws : List ℕ) (n : ℕ) (low high : Point) → boxOutside ws n low high ≡ true → told 10 (0 ∷ []) ≡ boxTold ws n low high
+told-outside ws n low high e = ap (λ (b : Bool). cond b (told 10 (0 ∷ [])) (tallyTold (sceneBox ws n low high))) (sym e)
+
+pub told-tally : (ws : List ℕ) (n : ℕ) (low high : Point) → boxOutside ws n low high ≡ false → tallyTold (sceneBox ws n low high) ≡ boxTold ws n low high
+told-tally ws n low high e = ap (λ (b : Bool). cond b (told 10 (0 ∷ [])) (tallyTold (sceneBox ws n low high))) (sym e)
+
+-- ---- the whole outcome
+
+settle : (ws : List ℕ) (n : ℕ) (o w : Bool) (x : ℕ) → T (headerOk ws) → n < scenesHeld ws → T (sceneOk ws n)
+    → outcome (cond o (told 10 (0 ∷ [])) (tallyTold (cond w Damaged (Solid x)))) [] ≡ asked (not (headerOk ws)) (noScene ws n) (not (sceneOk ws n)) o w x
+settle ws n true w x h l s = by-out ws n true w x h l s tt
+settle ws n false true x h l s = by-walk ws n false true x h l s tt
+settle ws n false false x h l s = by-walk ws n false false x h l s tt
+
+pub box-settled : (ws : List ℕ) (n D p : ℕ) (low high : Point) → Entered ws n D p → outcome (boxTold ws n low high) [] ≡ boxOutcome ws n low high
+unfolding boxOutcome sceneBox
+box-settled ws n D p low high e =
+    settle ws n (boxOutside ws n low high) (boxDamaged ws n low high) (ofScene boxSolid ws n low high) (e .header) (e .held) (e .words)
+
+pub box-refused : (ws : List ℕ) (n : ℕ) (low high : Point) (r : Refusal) → Says ws n (Refused r) → refusedBy (numberOf r) ≡ boxOutcome ws n low high
+unfolding boxOutcome
+box-refused ws n low high r s = s (boxOutside ws n low high) (boxDamaged ws n low high) (ofScene boxSolid ws n low high)

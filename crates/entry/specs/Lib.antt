@@ -1,0 +1,2 @@
+-- a scene entered
+pub mod Entry

@@ -1,0 +1,30 @@
+// What every question on a scene tests first: the header (2), the scene's number (9), the scene's two words (2).
+ghost use mathlib.Core.Path.{_≡_};
+ghost use Rattle.entry.specs.Entry.{entryOf};
+use paper::Refusal;
+use store::header_bad;
+use store::scene_bad;
+use store::scene_depth;
+use store::scene_root;
+use store::scenes_held;
+
+// A scene that can be asked, by its depth and root pointer; or the refusal.
+pub enum Entry {
+    Root(u32, u32),
+    Refused(Refusal),
+}
+
+pub fn enter(store: &[u32], scene: u32) -> Entry
+    ensures { λ r. ⌜ r ≡ entryOf (now (store .entry)) scene ⌝ }
+{
+    if header_bad(store) {
+        return Entry::Refused(Refusal::DamagedStore);
+    }
+    if scenes_held(store) <= scene {
+        return Entry::Refused(Refusal::NoScene);
+    }
+    if scene_bad(store, scene) {
+        return Entry::Refused(Refusal::DamagedStore);
+    }
+    Entry::Root(scene_depth(store, scene), scene_root(store, scene))
+}

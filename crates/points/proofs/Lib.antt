@@ -1,0 +1,3 @@
+-- depths and cubes, and a point seen under a mirror
+pub mod Cubes
+pub mod Seen

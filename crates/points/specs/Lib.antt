@@ -1,0 +1,2 @@
+-- what a walk by numbers says of a point
+pub mod Seeing
