@@ -1,23 +1,23 @@
 -- A box question's tests as code meets them: a side outside, a box outside, a box that ends inside the room; and the whole outcome of a scene that
 -- can be asked. By cases on the tests. Assumes nothing.
-use mathlib.Core.Path.{_≡_, refl, sym, ap, ap₂, subst}
+use mathlib.Core.Path.{_≡_, refl, sym, ap, ap₂, _∙_, subst}
 use mathlib.Core.Bool.{Bool, true, false, cond, not, _||_}
 use mathlib.Core.List.{List, [], _∷_}
 use Prim.Native.Nat.{ℕ, _<_, _≤_}
 use borrow.Author.Tests.{lt-ltb, le-ltb, ltb-false}
 use lib.Dec.{T, ltb}
 use Rattle.paper.specs.Rooms.{Point}
-use Rattle.paper.specs.Store.{scenesHeld, headerOk, sceneOk}
 use Rattle.paper.specs.Answers.{told, outcome, numberOf}
 use Rattle.paper.specs.Questions.{boxSolid}
-use Rattle.paper.specs.Calls.{noScene, ofScene, axisOutside, boxOutside, boxDamaged, boxOutcome}
+use Rattle.paper.specs.Calls.{ofScene, axisOutside, boxOutside, boxDamaged, boxOutcome}
 use Rattle.paper.specs.declared.Refusal.{Refusal}
+use Rattle.laws.proofs.Tests.{true-T}
 use Rattle.boxes.specs.Box.{Upto, sceneBox, tallyTold, boxTold}
 use Rattle.boxes.specs.declared.count.Tally.the-variants.{Solid, Damaged}
 use Rattle.entry.specs.declared.Entry.the-variants.{Refused}
-use Rattle.entry.proofs.Asked.{asked, refusedBy}
-use Rattle.entry.proofs.Settled.{by-out, by-walk}
-use Rattle.entry.proofs.Entries.{Entered, Says}
+use Rattle.entry.specs.Entry.{pastEntry}
+use Rattle.entry.proofs.Asked.{refusedBy}
+use Rattle.entry.proofs.Entries.{Entered, Says, past-outside, past-inside, past-settled}
 
 -- ---- a side
 
@@ -58,25 +58,25 @@ box-within S low high e =
 
 -- ---- told past the scene's tests
 
-pub told-outside : (ws : List ℕ) (n : ℕ) (low high : Point) → boxOutside ws n low high ≡ true → told 10 (0 ∷ []) ≡ boxTold ws n low high
-told-outside ws n low high e = ap (λ (b : Bool). cond b (told 10 (0 ∷ [])) (tallyTold (sceneBox ws n low high))) (sym e)
+-- a tally told
+same : (w : Bool) (x : ℕ) → tallyTold (cond w Damaged (Solid x)) ≡ pastEntry false w x
+same true x = refl
+same false x = refl
 
-pub told-tally : (ws : List ℕ) (n : ℕ) (low high : Point) → boxOutside ws n low high ≡ false → tallyTold (sceneBox ws n low high) ≡ boxTold ws n low high
-told-tally ws n low high e = ap (λ (b : Bool). cond b (told 10 (0 ∷ [])) (tallyTold (sceneBox ws n low high))) (sym e)
+module _ (ws : List ℕ) (n : ℕ) (low high : Point) where
+  pub told-outside : boxOutside ws n low high ≡ true → told 10 (0 ∷ []) ≡ boxTold ws n low high
+  told-outside e = past-outside (boxOutside ws n low high) (boxDamaged ws n low high) (ofScene boxSolid ws n low high) (true-T e)
 
--- ---- the whole outcome
+  pub told-tally : boxOutside ws n low high ≡ false → tallyTold (sceneBox ws n low high) ≡ boxTold ws n low high
+  unfolding sceneBox
+  told-tally e = same (boxDamaged ws n low high) (ofScene boxSolid ws n low high) ∙ past-inside (boxOutside ws n low high) (boxDamaged ws n low high) (ofScene boxSolid ws n low high) (true-T (ap not e))
 
-settle : (ws : List ℕ) (n : ℕ) (o w : Bool) (x : ℕ) → T (headerOk ws) → n < scenesHeld ws → T (sceneOk ws n)
-    → outcome (cond o (told 10 (0 ∷ [])) (tallyTold (cond w Damaged (Solid x)))) [] ≡ asked (not (headerOk ws)) (noScene ws n) (not (sceneOk ws n)) o w x
-settle ws n true w x h l s = by-out ws n true w x h l s tt
-settle ws n false true x h l s = by-walk ws n false true x h l s tt
-settle ws n false false x h l s = by-walk ws n false false x h l s tt
+  -- ---- the whole outcome
 
-pub box-settled : (ws : List ℕ) (n D p : ℕ) (low high : Point) → Entered ws n D p → outcome (boxTold ws n low high) [] ≡ boxOutcome ws n low high
-unfolding boxOutcome sceneBox
-box-settled ws n D p low high e =
-    settle ws n (boxOutside ws n low high) (boxDamaged ws n low high) (ofScene boxSolid ws n low high) (e .header) (e .held) (e .words)
+  pub box-settled : {D p : ℕ} → Entered ws n D p → outcome (boxTold ws n low high) [] ≡ boxOutcome ws n low high
+  unfolding boxOutcome
+  box-settled e = past-settled e (boxOutside ws n low high) (boxDamaged ws n low high) (ofScene boxSolid ws n low high)
 
-pub box-refused : (ws : List ℕ) (n : ℕ) (low high : Point) (r : Refusal) → Says ws n (Refused r) → refusedBy (numberOf r) ≡ boxOutcome ws n low high
-unfolding boxOutcome
-box-refused ws n low high r s = s (boxOutside ws n low high) (boxDamaged ws n low high) (ofScene boxSolid ws n low high)
+  pub box-refused : (r : Refusal) → Says ws n (Refused r) → refusedBy (numberOf r) ≡ boxOutcome ws n low high
+  unfolding boxOutcome
+  box-refused r s = s (boxOutside ws n low high) (boxDamaged ws n low high) (ofScene boxSolid ws n low high)

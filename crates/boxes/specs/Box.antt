@@ -17,6 +17,7 @@ use Rattle.paper.specs.Questions.{takenBad, boxSolid}
 use Rattle.paper.specs.Calls.{boxOutside, ofScene, boxDamaged}
 use Rattle.paper.specs.Answers.{Told, told}
 use Rattle.laws.proofs.Boxes.{origin, far, clipped}
+use Rattle.entry.specs.Entry.{pastEntry}
 use Rattle.boxes.specs.declared.count.Tally.{Tally}
 use Rattle.boxes.specs.declared.count.Tally.the-variants.{Solid, Damaged}
 use Rattle.boxes.specs.declared.count.Corner.{Corner}
@@ -132,6 +133,6 @@ abbrev pub tallyTold : Tally → Told
 tallyTold (Solid n) = told 0 (n ∷ [])
 tallyTold Damaged = told 2 (0 ∷ [])
 
--- a box question past the scene's tests: refused by 10, then its tally
+-- a box question past the scene's tests
 abbrev pub boxTold : List ℕ → ℕ → Point → Point → Told
-boxTold ws n low high = cond (boxOutside ws n low high) (told 10 (0 ∷ [])) (tallyTold (sceneBox ws n low high))
+boxTold ws n low high = pastEntry (boxOutside ws n low high) (boxDamaged ws n low high) (ofScene boxSolid ws n low high)

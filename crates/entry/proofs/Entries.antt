@@ -1,22 +1,22 @@
 -- Entering a scene: each way through its tests is an entry, and an entry says what the tests found: a refusal settles every question alike, a root is
--- that of a scene whose words are good. By cases on the three tests. Assumes nothing.
+-- that of a scene whose words are good, and what is told past the tests settles the question. By cases on the tests. Assumes nothing.
 use mathlib.Core.Path.{_≡_, refl, sym, ap, ap₂, _∙_, subst, subst⁻¹}
 use mathlib.Core.Bool.{Bool, true, false, not, cond}
-use mathlib.Core.List.{List}
+use mathlib.Core.List.{List, [], _∷_}
 use Prim.Native.Nat.{ℕ, _-_, _<_, _≤_}
 use borrow.Author.Tests.{le-leb, lt-leb, leb-true, leb-false}
 use lib.Dec.{T, leb, leb→le}
 use Rattle.paper.specs.Rooms.{depthOk, least, deepest}
-use Rattle.paper.specs.Answers.{numberOf}
+use Rattle.paper.specs.Answers.{told, outcome, numberOf}
 use Rattle.paper.specs.Store.{scenesHeld, keptCount, badPointer, headerOk, sceneOk, sceneDepth, sceneRoot}
 use Rattle.paper.specs.Calls.{noScene}
 use Rattle.paper.specs.declared.Refusal.the-variants.{DamagedStore, NoScene}
 use Rattle.laws.proofs.Tests.{true-T, T-true, not-false, and-left, and-right}
-use Rattle.entry.specs.Entry.{entryOf}
+use Rattle.entry.specs.Entry.{entryOf, pastEntry}
 use Rattle.entry.specs.declared.Entry.{Entry}
 use Rattle.entry.specs.declared.Entry.the-variants.{Root, Refused}
 use Rattle.entry.proofs.Asked.{asked, refusedBy}
-use Rattle.entry.proofs.Settled.{by-header, by-scene, by-words}
+use Rattle.entry.proofs.Settled.{by-header, by-scene, by-words, by-out, by-walk}
 
 -- the three tests
 abbrev entry : Bool → Bool → Bool → ℕ → ℕ → Entry
@@ -64,6 +64,20 @@ says-by ws n true false true e f g = record { header = true-T e; held = leb-fals
 pub entry-says : (ws : List ℕ) (n : ℕ) (e : Entry) → e ≡ entryOf ws n → Says ws n e
 unfolding entryOf
 entry-says ws n e q = subst (Says ws n) (sym q) (says-by ws n (headerOk ws) (noScene ws n) (sceneOk ws n) refl refl refl)
+
+-- past the tests: outside, inside, and the whole outcome
+module _ (out walk : Bool) (x : ℕ) where
+  pub past-outside : T out → told 10 (0 ∷ []) ≡ pastEntry out walk x
+  past-outside t = ap (λ (b : Bool). pastEntry b walk x) (sym (T-true {b = out} t))
+
+  pub past-inside : T (not out) → pastEntry false walk x ≡ pastEntry out walk x
+  past-inside t = ap (λ (b : Bool). pastEntry b walk x) (sym (not-false out t))
+
+pub past-settled : {ws : List ℕ} {n D p : ℕ} → Entered ws n D p → (out walk : Bool) (x : ℕ)
+    → outcome (pastEntry out walk x) [] ≡ asked (not (headerOk ws)) (noScene ws n) (not (sceneOk ws n)) out walk x
+past-settled {ws} {n} e true walk x = by-out ws n true walk x (e .header) (e .held) (e .words) tt
+past-settled {ws} {n} e false true x = by-walk ws n false true x (e .header) (e .held) (e .words) tt
+past-settled {ws} {n} e false false x = by-walk ws n false false x (e .header) (e .held) (e .words) tt
 
 -- of a scene that can be asked: its depth is in range, its root pointer not bad
 pub entered-depth : {ws : List ℕ} {n D p : ℕ} → Entered ws n D p → T (depthOk D)

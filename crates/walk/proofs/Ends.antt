@@ -15,7 +15,8 @@ use Rattle.paper.specs.Meaning.{cellVoxel}
 use Rattle.paper.specs.Questions.{taken, below, inBelow, wayDamaged, pointerTo}
 use Rattle.laws.proofs.Matching.{tag-lt}
 use Rattle.laws.proofs.Tests.{T-true}
-use Rattle.walk.specs.Walk.{takenFrom, reachOf, voxelEnd, cellEnd}
+use Rattle.walk.specs.Walk.{takenFrom, reachOf, voxelEnd, cellEnd, toldBy}
+use Rattle.entry.specs.Entry.{pastEntry}
 use Rattle.points.specs.Seeing.{seenAt}
 use Rattle.walk.specs.declared.ways.Reach.{Reach}
 use Rattle.walk.specs.declared.ways.Reach.the-variants.{Absent, At, Damaged}
@@ -60,6 +61,12 @@ way-damaged K stop (suc k) n m v h =
 abbrev pub orDamage : Bool → ℕ → ℕ
 orDamage true n = 2
 orDamage false n = n
+
+-- such a number, told
+pub told-end : (w b : Bool) → toldBy (orDamage w (bitFor b)) ≡ pastEntry false w (bitFor b)
+told-end true b = refl
+told-end false true = refl
+told-end false false = refl
 
 same-voxel : (a b c r s : Bool) (K : List (List Cell)) (v : Point) (x : Reach) (k n m : ℕ) → T (not a) → voxelEnd K v x ≡ orDamage r (bitFor s)
     → voxelEnd K v (cond a (At n m) (cond b Damaged (cond c (Absent k) x))) ≡ orDamage (cond a false (cond b true (cond c false r))) (bitFor (cond c false s))

@@ -1,7 +1,7 @@
 -- A voxel question past the scene's tests: outside, an absent root, or the end of the walk from the root. By the laws of walks from a root.
 -- Assumes nothing.
-use mathlib.Core.Path.{_≡_, refl, sym, ap, ap₂, _∙_}
-use mathlib.Core.Bool.{Bool, true, false, cond, not, _&&_}
+use mathlib.Core.Path.{_≡_, sym, ap, ap₂, _∙_}
+use mathlib.Core.Bool.{false, not, _&&_}
 use mathlib.Core.List.{List, [], _∷_}
 use mathlib.Core.Logic.{inl, inr}
 use Prim.Native.Nat.{ℕ, _-_, _^_, _<_}
@@ -9,20 +9,20 @@ use borrow.Author.Tests.{ne-eqb}
 use lib.Dec.{T, eqb, ltb, ltb→lt}
 use Rattle.paper.specs.Numbers.{bitFor}
 use Rattle.paper.specs.Rooms.{Point, Inside, inside, depthOk}
-use Rattle.paper.specs.Store.{Cell, tagOf, cellNo, badPointer, scenesHeld, sceneDepth, sceneRoot, headerOk, sceneOk, keptOf}
-use Rattle.paper.specs.Answers.{Told, told, outcome, numberOf}
-use Rattle.paper.specs.Calls.{noScene, voxelOutside, voxelDamaged, voxelOutcome}
+use Rattle.paper.specs.Store.{Cell, tagOf, cellNo, badPointer, sceneDepth, sceneRoot, keptOf}
+use Rattle.paper.specs.Answers.{told, outcome, numberOf}
+use Rattle.paper.specs.Calls.{voxelOutside, voxelDamaged, voxelOutcome}
 use Rattle.paper.specs.declared.Refusal.{Refusal}
 use Rattle.paper.specs.Meaning.{rootRoom}
 use Rattle.paper.specs.Questions.{voxelSolid, voxelWay}
-use Rattle.laws.proofs.Tests.{true-T, and-left, and-right}
+use Rattle.laws.proofs.Tests.{T-true, true-T, not-not, and-left, and-right}
 use Rattle.laws.proofs.Invariant.{OkPointer, names-lt, not-bad-ok}
 use Rattle.walk.specs.Walk.{reachOf, voxelEnd, toldBy, voxelTold}
-use Rattle.walk.proofs.Ends.{orDamage}
+use Rattle.walk.proofs.Ends.{told-end}
 use Rattle.entry.specs.declared.Entry.the-variants.{Refused}
-use Rattle.entry.proofs.Asked.{asked, refusedBy}
-use Rattle.entry.proofs.Settled.{by-out, by-walk}
-use Rattle.entry.proofs.Entries.{Entered, Says}
+use Rattle.entry.specs.Entry.{pastEntry}
+use Rattle.entry.proofs.Asked.{refusedBy}
+use Rattle.entry.proofs.Entries.{Entered, Says, past-outside, past-inside, past-settled}
 use Rattle.walk.proofs.Roots.{voxel-root}
 
 -- a root pointer that is neither bad nor none names a kept cell
@@ -46,50 +46,26 @@ is-inside S v t =
     }
 
 module _ (K : List (List Cell)) (D p : ℕ) (v : Point) where
-  abbrev asked-inside : Told
-  asked-inside = cond (voxelWay K D p v) (told 2 (0 ∷ [])) (told 0 (bitFor (voxelSolid K D p v) ∷ []))
-
   pub voxel-outside : T (not (inside (2 ^ D) v)) → told 10 (0 ∷ []) ≡ voxelTold K D p v
-  voxel-outside o = go (inside (2 ^ D) v) o
-    where
-      go : (b : Bool) → T (not b) → told 10 (0 ∷ []) ≡ cond b asked-inside (told 10 (0 ∷ []))
-      go true t = absurd t
-      go false t = refl
+  voxel-outside = past-outside (not (inside (2 ^ D) v)) (voxelWay K D p v) (bitFor (voxelSolid K D p v))
 
-  within : T (inside (2 ^ D) v) → asked-inside ≡ voxelTold K D p v
-  within i = go (inside (2 ^ D) v) i
-    where
-      go : (b : Bool) → T b → asked-inside ≡ cond b asked-inside (told 10 (0 ∷ []))
-      go true t = refl
-      go false t = absurd t
+  within : T (inside (2 ^ D) v) → pastEntry false (voxelWay K D p v) (bitFor (voxelSolid K D p v)) ≡ voxelTold K D p v
+  within i = past-inside (not (inside (2 ^ D) v)) (voxelWay K D p v) (bitFor (voxelSolid K D p v)) (true-T (not-not (inside (2 ^ D) v) ∙ T-true {b = inside (2 ^ D) v} i))
 
   pub voxel-some : T (inside (2 ^ D) v) → T (depthOk D) → T (not (eqb p 0)) → toldBy (voxelEnd K v (reachOf K 0 (D - 2) (cellNo p) (tagOf p) v)) ≡ voxelTold K D p v
-  voxel-some i d z =
-      ap toldBy (voxel-root K D p v d (is-inside (2 ^ D) v i) z) ∙ go (voxelWay K D p v) (voxelSolid K D p v) ∙ within i
-    where
-      go : (w b : Bool) → toldBy (orDamage w (bitFor b)) ≡ cond w (told 2 (0 ∷ [])) (told 0 (bitFor b ∷ []))
-      go true b = refl
-      go false true = refl
-      go false false = refl
+  voxel-some i d z = ap toldBy (voxel-root K D p v d (is-inside (2 ^ D) v i) z) ∙ told-end (voxelWay K D p v) (voxelSolid K D p v) ∙ within i
 
 pub voxel-none : (K : List (List Cell)) (D p : ℕ) (v : Point) → T (inside (2 ^ D) v) → p ≡ 0 → told 0 (0 ∷ []) ≡ voxelTold K D p v
 unfolding rootRoom
-voxel-none K D p v i e = ap (λ (q : ℕ). cond (voxelWay K D q v) (told 2 (0 ∷ [])) (told 0 (bitFor (voxelSolid K D q v) ∷ []))) (sym e) ∙ within K D p v i
+voxel-none K D p v i e = ap (λ (q : ℕ). pastEntry false (voxelWay K D q v) (bitFor (voxelSolid K D q v))) (sym e) ∙ within K D p v i
 
--- ---- the whole outcome of a voxel question on a scene that can be asked
-
--- told past the scene's tests, as the question's outcome
-settle : (ws : List ℕ) (n : ℕ) (i w : Bool) (x : ℕ) → T (headerOk ws) → n < scenesHeld ws → T (sceneOk ws n)
-    → outcome (cond i (cond w (told 2 (0 ∷ [])) (told 0 (x ∷ []))) (told 10 (0 ∷ []))) [] ≡ asked (not (headerOk ws)) (noScene ws n) (not (sceneOk ws n)) (not i) w x
-settle ws n true true x h l s = by-walk ws n false true x h l s tt
-settle ws n true false x h l s = by-walk ws n false false x h l s tt
-settle ws n false w x h l s = by-out ws n true w x h l s tt
+-- ---- the whole outcome of a voxel question
 
 pub voxel-settled : (ws : List ℕ) (n D p : ℕ) (v : Point) → Entered ws n D p → outcome (voxelTold (keptOf ws) D p v) [] ≡ voxelOutcome ws n v
 unfolding voxelOutcome voxelOutside voxelDamaged
 voxel-settled ws n D p v e =
     ap₂ (λ (d q : ℕ). outcome (voxelTold (keptOf ws) d q v) []) (e .depth) (e .root)
-    ∙ settle ws n (inside (2 ^ sceneDepth ws n) v) (voxelWay (keptOf ws) (sceneDepth ws n) (sceneRoot ws n) v) (bitFor (voxelSolid (keptOf ws) (sceneDepth ws n) (sceneRoot ws n) v)) (e .header) (e .held) (e .words)
+    ∙ past-settled e (not (inside (2 ^ sceneDepth ws n) v)) (voxelWay (keptOf ws) (sceneDepth ws n) (sceneRoot ws n) v) (bitFor (voxelSolid (keptOf ws) (sceneDepth ws n) (sceneRoot ws n) v))
 
 pub voxel-refused : (ws : List ℕ) (n : ℕ) (v : Point) (r : Refusal) → Says ws n (Refused r) → refusedBy (numberOf r) ≡ voxelOutcome ws n v
 unfolding voxelOutcome voxelOutside voxelDamaged

@@ -1,6 +1,6 @@
 -- A walk as code does it: coordinates are never reduced, and numbers are mirrored instead of cells. The eight pointers are looked at as stored;
 -- the number of the child is mirrored by the mirror in force, and its tag joins that mirror. Definitions only.
-use mathlib.Core.Bool.{Bool, cond, not, _||_}
+use mathlib.Core.Bool.{Bool, false, cond, not, _||_}
 use mathlib.Core.List.{List, [], _∷_}
 use Prim.Native.Nat.{ℕ, zero, suc, _+_, _-_, _^_, _<_}
 use lib.Bits.{bitXor}
@@ -12,6 +12,7 @@ use Rattle.paper.specs.Store.{Cell, cellsAt, cellAt, tagOf, cellNo, leafNo, any
 use Rattle.paper.specs.Leaf.{leafVoxel}
 use Rattle.paper.specs.Numbers.{bitFor}
 use Rattle.paper.specs.Answers.{Told, told}
+use Rattle.entry.specs.Entry.{pastEntry}
 use Rattle.points.specs.Seeing.{octant, seenAt}
 use Rattle.walk.specs.declared.ways.Reach.{Reach}
 use Rattle.walk.specs.declared.ways.Reach.the-variants.{Absent, At, Damaged}
@@ -57,10 +58,9 @@ AtKept K (Absent k) = Unit {0}
 AtKept K (At n m) = (n < length (cellsAt K 0)) × (m < 8)
 AtKept K Damaged = Unit {0}
 
--- a voxel question past the scene's tests: refused by 10, then by 2, or 1 for solid and 0 for empty
+-- a voxel question past the scene's tests: 1 for solid, 0 for empty
 abbrev pub voxelTold : List (List Cell) → ℕ → ℕ → Point → Told
-voxelTold K D p v =
-    cond (inside (2 ^ D) v) (cond (voxelWay K D p v) (told 2 (0 ∷ [])) (told 0 (bitFor (voxelSolid K D p v) ∷ []))) (told 10 (0 ∷ []))
+voxelTold K D p v = pastEntry (not (inside (2 ^ D) v)) (voxelWay K D p v) (bitFor (voxelSolid K D p v))
 
 -- a cell of height 0 or 1 with low corner w, where the walk to its leaf ended: 2 for damage, 1 for non-empty, 0 for empty
 abbrev pub smallAt : List (List Cell) → ℕ → Point → Reach → ℕ
@@ -68,10 +68,12 @@ smallAt K h w (Absent k) = 0
 smallAt K h w (At n m) = bitFor (nonEmpty (2 ^ h) (λ u. leafSeen K n m (point (w .x + u .x) (w .y + u .y) (w .z + u .z))))
 smallAt K h w Damaged = 2
 
--- a cell question on a cell inside: refused by 2, or 1 for non-empty and 0 for empty
-abbrev pub cellAsked : List (List Cell) → ℕ → ℕ → ℕ → Point → Told
-cellAsked K D p h c = cond (cellWay K D p h c) (told 2 (0 ∷ [])) (told 0 (bitFor (cellFull K D p h c) ∷ []))
+-- a cell question past the scene's tests: 1 for non-empty, 0 for empty; and on a cell inside
+abbrev pub cellOut : ℕ → ℕ → Point → Bool
+cellOut D h c = not (leb h D) || not (inside (2 ^ (D - h)) c)
 
--- a cell question past the scene's tests: refused by 10 first
 abbrev pub cellTold : List (List Cell) → ℕ → ℕ → ℕ → Point → Told
-cellTold K D p h c = cond (not (leb h D) || not (inside (2 ^ (D - h)) c)) (told 10 (0 ∷ [])) (cellAsked K D p h c)
+cellTold K D p h c = pastEntry (cellOut D h c) (cellWay K D p h c) (bitFor (cellFull K D p h c))
+
+abbrev pub cellAsked : List (List Cell) → ℕ → ℕ → ℕ → Point → Told
+cellAsked K D p h c = pastEntry false (cellWay K D p h c) (bitFor (cellFull K D p h c))

@@ -42,8 +42,7 @@ returns c =
 returns-2 : tie.Need-returns-2
 returns-2 c =
     let a = c .before .before .before .before .before .before .args in
-    let d = c .before .before .depth .given .0 in
-    ap (λ (t : Told). outcome t []) (c .box-from .ensures) ∙ box-settled (now (a .store)) (a .scene) (d .0) (d .1 .0) (at (a .low)) (at (a .high)) (entered (c .before .before))
+    ap (λ (t : Told). outcome t []) (c .box-from .ensures) ∙ box-settled (now (a .store)) (a .scene) (at (a .low)) (at (a .high)) (entered (c .before .before))
 
 pub box-count-spec : {M : Type 1} → statement M
 box-count-spec =

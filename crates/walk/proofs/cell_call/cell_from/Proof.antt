@@ -29,7 +29,7 @@ inside-here c =
 returns-2 : tie.Need-returns-2
 returns-2 c =
     let a = c .before .before .before .before .args in
-    cell-past (keptOf (now (a .store))) (a .depth) (a .root) (a .height) (point (a .x) (a .y) (a .z))
+    cell-past (keptOf (now (a .store))) (a .depth) (a .root) (a .height) (point (a .x) (a .y) (a .z)) (c .before .before .if1 .left)
     (failed-T (inside (2 ^ (a .depth - a .height)) (point (a .x) (a .y) (a .z))) (c .before .outside .ensures) (c .if2 .taken))
 
 returns-3 : tie.Need-returns-3
