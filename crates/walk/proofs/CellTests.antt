@@ -61,12 +61,13 @@ cell-high K D p h c d l m i z =
     ∙ ap (λ (b : Bool). pastEntry false (cellWay K D p h c) (bitFor b)) (sym (full-high K D p h c l))
 
 pub cell-low : (K : List (List Cell)) (D p h : ℕ) (c : Point) → T (depthOk D) → h < 2 → h ≤ D → Inside (2 ^ (D - h)) c → T (not (eqb p 0))
-    → toldBy (smallAt K h (corner h c) (reachOf K 0 (D - 2) (cellNo p) (tagOf p) (corner h c))) ≡ cellAsked K D p h c
+    → toldBy (smallAt K h (corner h c) (reachOf K (h - 2) (D - 2) (cellNo p) (tagOf p) (corner h c))) ≡ cellAsked K D p h c
 cell-low K D p h c d l m i z =
-    let e : 0 ≡ h - 2 = omega arith in
-    ap toldBy (small-root K D p h c d l m i z)
+    let e : h - 2 ≡ 0 = omega arith in
+    ap (λ (s : ℕ). toldBy (smallAt K h (corner h c) (reachOf K s (D - 2) (cellNo p) (tagOf p) (corner h c)))) e
+    ∙ ap toldBy (small-root K D p h c d l m i z)
     ∙ told-end (voxelWay K D p (corner h c)) (nonEmpty (2 ^ h) (cellOf (rootRoom K D p) h c))
-    ∙ ap₂ (λ (s : ℕ) (b : Bool). pastEntry false (fromRoot (wayDamaged K s) K D p (corner h c)) (bitFor b)) e (sym (full-low K D p h c l))
+    ∙ ap₂ (λ (s : ℕ) (b : Bool). pastEntry false (fromRoot (wayDamaged K s) K D p (corner h c)) (bitFor b)) (sym e) (sym (full-low K D p h c l))
 
 -- ---- outside
 

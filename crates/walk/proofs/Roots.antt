@@ -25,6 +25,7 @@ use Rattle.points.specs.Seeing.{octant, seenAt}
 use Rattle.walk.specs.declared.ways.Reach.{Reach}
 use Rattle.walk.specs.declared.ways.Reach.the-variants.{Absent, At, Damaged}
 use Rattle.walk.proofs.Ends.{orDamage, isDamaged, way-damaged, voxel-end}
+use Rattle.laws.proofs.Invariant.{OkPointer, names-lt, not-bad-ok}
 use Rattle.laws.proofs.Matching.{tag-lt}
 use Rattle.points.proofs.Seen.{tag-joins}
 
@@ -103,3 +104,11 @@ reach-kept K (suc k) n m v l h =
     let p : ℕ = takenFrom k c m v in
     reach-step K (leb (suc k) 0) (anyBad (length (cellsAt K k)) c) (eqb p 0) n m k (reachOf K 0 k (cellNo p) (bitXor (tagOf p) m) v) (leb·suc-zero k)
     (λ e z. reach-kept K k (cellNo p) (bitXor (tagOf p) m) v (taken-kept K k m c v h e (λ q. z-not p z q)) (tag-joins p m h))
+
+-- a root pointer that is neither bad nor none names a kept cell
+pub root-kept : (n p : ℕ) → badPointer n p ≡ false → (p ≡ 0 → ⊥) → cellNo p < n
+root-kept n p b z = go (not-bad-ok n p b)
+  where
+    go : OkPointer n p → cellNo p < n
+    go (inl e) = absurd (z e)
+    go (inr h) = names-lt h

@@ -3,20 +3,18 @@
 use mathlib.Core.Path.{_≡_, sym, ap, ap₂, _∙_}
 use mathlib.Core.Bool.{false, not, _&&_}
 use mathlib.Core.List.{List, [], _∷_}
-use mathlib.Core.Logic.{inl, inr}
-use Prim.Native.Nat.{ℕ, _-_, _^_, _<_}
+use Prim.Native.Nat.{ℕ, _-_, _^_}
 use borrow.Author.Tests.{ne-eqb}
 use lib.Dec.{T, eqb, ltb, ltb→lt}
 use Rattle.paper.specs.Numbers.{bitFor}
 use Rattle.paper.specs.Rooms.{Point, Inside, inside, depthOk}
-use Rattle.paper.specs.Store.{Cell, tagOf, cellNo, badPointer, sceneDepth, sceneRoot, keptOf}
+use Rattle.paper.specs.Store.{Cell, tagOf, cellNo, sceneDepth, sceneRoot, keptOf}
 use Rattle.paper.specs.Answers.{told, outcome, numberOf}
 use Rattle.paper.specs.Calls.{voxelOutside, voxelDamaged, voxelOutcome}
 use Rattle.paper.specs.declared.Refusal.{Refusal}
 use Rattle.paper.specs.Meaning.{rootRoom}
 use Rattle.paper.specs.Questions.{voxelSolid, voxelWay}
 use Rattle.laws.proofs.Tests.{T-true, true-T, not-not, and-left, and-right}
-use Rattle.laws.proofs.Invariant.{OkPointer, names-lt, not-bad-ok}
 use Rattle.walk.specs.Walk.{reachOf, voxelEnd, toldBy, voxelTold}
 use Rattle.walk.proofs.Ends.{told-end}
 use Rattle.entry.specs.declared.Entry.the-variants.{Refused}
@@ -24,14 +22,6 @@ use Rattle.entry.specs.Entry.{pastEntry}
 use Rattle.entry.proofs.Asked.{refusedBy}
 use Rattle.entry.proofs.Entries.{Entered, Says, past-outside, past-inside, past-settled}
 use Rattle.walk.proofs.Roots.{voxel-root}
-
--- a root pointer that is neither bad nor none names a kept cell
-pub root-kept : (n p : ℕ) → badPointer n p ≡ false → (p ≡ 0 → ⊥) → cellNo p < n
-root-kept n p b z = go (not-bad-ok n p b)
-  where
-    go : OkPointer n p → cellNo p < n
-    go (inl e) = absurd (z e)
-    go (inr h) = names-lt h
 
 pub not-none : (p : ℕ) → (p ≡ 0 → ⊥) → T (not (eqb p 0))
 not-none p z = true-T (ap not (ne-eqb p 0 z))

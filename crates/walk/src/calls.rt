@@ -11,17 +11,14 @@ ghost use Rattle.paper.specs.Answers.{outcome, seen};
 ghost use Rattle.paper.specs.Calls.{voxelOutcome};
 ghost use Rattle.walk.specs.Walk.{AtKept, toldBy, voxelEnd, voxelTold};
 use crate::ways::Reach;
-use crate::ways::walk_to;
+use crate::ways::walk_root;
 use entry::Entry;
 use entry::enter;
-use limits::LEAF_HEIGHT;
 use paper::Refusal;
 use paper::Seen;
 use points::leaf_solid;
 use points::outside;
-use store::cell_number;
 use store::leaf_at;
-use store::tag;
 
 // The voxel at which a walk ended.
 fn voxel_at(store: &[u32], end: Reach, x: u32, y: u32, z: u32) -> Seen
@@ -55,22 +52,7 @@ fn voxel_from(store: &[u32], depth: u32, root: u32, x: u32, y: u32, z: u32) -> S
     if root == 0 {
         return Seen::Empty;
     }
-    voxel_at(
-        store,
-        walk_to(
-            store,
-            0,
-            depth - LEAF_HEIGHT,
-            cell_number(root),
-            tag(root),
-            x,
-            y,
-            z,
-        ),
-        x,
-        y,
-        z,
-    )
+    voxel_at(store, walk_root(store, 0, depth, root, x, y, z), x, y, z)
 }
 
 // Voxel: solid or empty.

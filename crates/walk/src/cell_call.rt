@@ -14,7 +14,7 @@ ghost use Rattle.walk.specs.Walk.{AtKept, cellEnd, smallAt, toldBy, cell
 ghost use Rattle.points.specs.Seeing.{seenAt};
 use crate::leaves::eighth_full;
 use crate::ways::Reach;
-use crate::ways::walk_to;
+use crate::ways::walk_root;
 use entry::Entry;
 use entry::enter;
 use limits::LEAF_HEIGHT;
@@ -22,9 +22,7 @@ use paper::Occupied;
 use paper::Refusal;
 use points::leaf_solid;
 use points::outside;
-use store::cell_number;
 use store::leaf_at;
-use store::tag;
 
 // A coordinate of a cell's low corner.
 fn corner(height: u32, c: u32) -> u32
@@ -33,6 +31,17 @@ fn corner(height: u32, c: u32) -> u32
     ensures { λ r. ⌜ r ≡ c * 2 ^ height ⌝ }
 {
     c << height
+}
+
+// The list at which the walk to a cell of this height stops: that of the cell, or of its leaf.
+fn list_of(height: u32) -> u32
+    ensures { λ r. ⌜ r ≡ height - 2 ⌝ }
+{
+    if height < LEAF_HEIGHT {
+        0
+    } else {
+        height - LEAF_HEIGHT
+    }
 }
 
 // Whether the cell of height 0 or 1 with this low corner is non-empty, by its leaf's bits.
@@ -90,27 +99,11 @@ fn cell_under(store: &[u32], depth: u32, root: u32, height: u32, x: u32, y: u32,
     let a = corner(height, x);
     let b = corner(height, y);
     let c = corner(height, z);
-    let k = depth - LEAF_HEIGHT;
+    let end = walk_root(store, list_of(height), depth, root, a, b, c);
     if height < LEAF_HEIGHT {
-        return small_at(
-            store,
-            walk_to(store, 0, k, cell_number(root), tag(root), a, b, c),
-            height,
-            a,
-            b,
-            c,
-        );
+        return small_at(store, end, height, a, b, c);
     }
-    cell_ended(walk_to(
-        store,
-        height - LEAF_HEIGHT,
-        k,
-        cell_number(root),
-        tag(root),
-        a,
-        b,
-        c,
-    ))
+    cell_ended(end)
 }
 
 // The cell of a scene of this depth and root pointer.

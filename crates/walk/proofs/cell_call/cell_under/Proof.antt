@@ -5,17 +5,13 @@ use Prim.Native.Nat.{ℕ, _-_, _^_, _<_, _≤_}
 use native.Mathlib.Nat.{le-trans}
 use native.Mathlib.Omega.{arith}
 use denote.Ref.{now}
-use lib.ListN.{length}
 use Rattle.paper.specs.Rooms.{Point, point, Inside, deepest}
-use Rattle.paper.specs.Store.{Cell, heights, cellsAt, tagOf, cellNo, keptCount, keptOf}
+use Rattle.paper.specs.Store.{Cell, tagOf, cellNo, keptOf}
 use Rattle.paper.specs.Questions.{corner}
-use Rattle.laws.proofs.Kept.{kept-length}
-use Rattle.walk.specs.Walk.{reachOf, cellEnd, smallAt, toldBy, AtKept}
+use Rattle.walk.specs.Walk.{reachOf, cellEnd, smallAt, toldBy}
 use Rattle.walk.specs.declared.ways.Reach.{Reach}
-use Rattle.laws.proofs.Matching.{tag-lt}
-use Rattle.walk.proofs.Roots.{reach-kept}
 use Rattle.walk.proofs.Cells.{corner-inside}
-use Rattle.walk.proofs.Voxels.{root-kept, not-none, is-inside}
+use Rattle.walk.proofs.Voxels.{not-none, is-inside}
 use Rattle.laws.proofs.StoreFacts.{depth-range}
 use Rattle.walk.proofs.CellTests.{cell-high, cell-low, corner-fits}
 use borrow.Author.Needs.{needs}
@@ -36,12 +32,6 @@ fits b =
     let m = depth-range (a .depth) (b .pre .1 .0) .1 in
     record { inX = corner-fits (a .depth) (a .height) (a .x) (b .pre .1 .0) m (i .inX); inY = corner-fits (a .depth) (a .height) (a .y) (b .pre .1 .0) m (i .inY); inZ = corner-fits (a .depth) (a .height) (a .z) (b .pre .1 .0) m (i .inZ) }
 
-list-low : (b : tie.Start) → b .args .depth - 2 < heights
-list-low b = omega (arith, depth-range (b .args .depth) (b .pre .1 .0) .1)
-
-kept-root : (b : tie.Start) → cellNo (b .args .root) < keptCount (now (b .args .store)) (b .args .depth - 2)
-kept-root b = root-kept (keptCount (now (b .args .store)) (b .args .depth - 2)) (b .args .root) (b .pre .1 .1 .0 .0) (b .pre .1 .1 .0 .1)
-
 corner-is : (c : tie.After-corner3) → (let a = c .before .before .before .before .args in
     point (c .before .before .corner .result) (c .before .corner2 .result) (c .corner3 .result) ≡ corner (a .height) (point (a .x) (a .y) (a .z)))
 corner-is c = λ i. point (c .before .before .corner .ensures i) (c .before .corner2 .ensures i) (c .corner3 .ensures i)
@@ -55,44 +45,32 @@ corner-requires-2 c κs = let b = c .before .before in (low b, fits b .inY)
 corner-requires-3 : tie.Need-corner-requires-3
 corner-requires-3 c κs = let b = c .before .before .before in (low b, fits b .inZ)
 
-sub-k : tie.Need-sub-k
-sub-k c = let b = c .before .before .before .before in omega (arith, depth-range (b .args .depth) (b .pre .1 .0) .0)
+list-of-requires : tie.Need-list-of-requires
+list-of-requires c κs = search needs
 
-cell-number-requires : tie.Need-cell-number-requires
-cell-number-requires c κs = search needs
+walk-root-requires : tie.Need-walk-root-requires
+walk-root-requires c κs = let b = c .before .before .before .before .before in (b .pre .0, (b .pre .1 .0, b .pre .1 .1 .0))
 
-tag-requires : tie.Need-tag-requires
-tag-requires c κs = search needs
-
-walk-to-requires : tie.Need-walk-to-requires
-walk-to-requires c κs =
-    let b = c .before .before .before .before .before .before .before in
-    (b .pre .0, (list-low b, (subst⁻¹ (λ (n : ℕ). n < keptCount (now (b .args .store)) (b .args .depth - 2)) (c .before .cell-number .ensures) (kept-root b), subst⁻¹ (λ (n : ℕ). n < 8) (c .tag .ensures) (tag-lt (b .args .root)))))
-
--- where the walk to the leaf ends
-low-end : (c : tie.After-walk-to) → (let a = c .before .before .before .before .before .before .before .before .args in
-    c .walk-to .result ≡ reachOf (keptOf (now (a .store))) 0 (a .depth - 2) (cellNo (a .root)) (tagOf (a .root)) (corner (a .height) (point (a .x) (a .y) (a .z))))
-low-end c =
-    let a = c .before .before .before .before .before .before .before .before .args in
-    c .walk-to .ensures
-    ∙ (λ i. reachOf (keptOf (now (a .store))) 0 (a .depth - 2) (c .before .before .cell-number .ensures i) (c .before .tag .ensures i) (corner-is (c .before .before .before .before) i))
+-- where the walk ends
+end-is : (c : tie.After-walk-root) → (let a = c .before .before .before .before .before .before .args in
+    c .walk-root .result ≡ reachOf (keptOf (now (a .store))) (a .height - 2) (a .depth - 2) (cellNo (a .root)) (tagOf (a .root)) (corner (a .height) (point (a .x) (a .y) (a .z))))
+end-is c =
+    let a = c .before .before .before .before .before .before .args in
+    c .walk-root .ensures .0
+    ∙ ap₂ (λ (s : ℕ) (v : Point). reachOf (keptOf (now (a .store))) s (a .depth - 2) (cellNo (a .root)) (tagOf (a .root)) v) (c .before .list-of .ensures) (corner-is (c .before .before))
 
 small-at-requires : tie.Need-small-at-requires
 small-at-requires c κs =
-    let b = c .before .before .before .before .before .before .before .before in
-    let a = b .args in
-    let K : List (List Cell) = keptOf (now (a .store)) in
-    let kept : cellNo (a .root) < length (cellsAt K (a .depth - 2)) = subst⁻¹ (λ (n : ℕ). cellNo (a .root) < n) (kept-length (now (a .store)) (a .depth - 2) (list-low b)) (kept-root b) in
-    let fine : AtKept K (c .walk-to .result) = subst⁻¹ (AtKept K) (low-end c) (reach-kept K (a .depth - 2) (cellNo (a .root)) (tagOf (a .root)) (corner (a .height) (point (a .x) (a .y) (a .z))) kept (tag-lt (a .root))) in (
+    let b = c .before .before .before .before .before .before .before in (
       b .pre .0,
       (
-        fine,
+        c .before .walk-root .ensures .1 (omega (arith, c .before .before .list-of .ensures)),
         (
-          c .before .before .before .if1 .taken,
+          c .if1 .taken,
           (
-            subst⁻¹ (λ (n : ℕ). n < 65536) (c .before .before .before .before .before .before .corner .ensures) (fits b .inX),
-            subst⁻¹ (λ (n : ℕ). n < 65536) (c .before .before .before .before .before .corner2 .ensures) (fits b .inY),
-            subst⁻¹ (λ (n : ℕ). n < 65536) (c .before .before .before .before .corner3 .ensures) (fits b .inZ),
+            subst⁻¹ (λ (n : ℕ). n < 65536) (c .before .before .before .before .before .corner .ensures) (fits b .inX),
+            subst⁻¹ (λ (n : ℕ). n < 65536) (c .before .before .before .before .corner2 .ensures) (fits b .inY),
+            subst⁻¹ (λ (n : ℕ). n < 65536) (c .before .before .before .corner3 .ensures) (fits b .inZ),
           ),
         ),
       ),
@@ -100,40 +78,26 @@ small-at-requires c κs =
 
 returns : tie.Need-returns
 returns c =
-    let b = c .before .before .before .before .before .before .before .before .before in
+    let w = c .before .before in
+    let b = w .before .before .before .before .before .before in
     let a = b .args in
     let K : List (List Cell) = keptOf (now (a .store)) in
-    let v : Point = point (a .x) (a .y) (a .z) in
     c .small-at .ensures
-    ∙ ap₂ (λ (w : Point) (e : Reach). toldBy (smallAt K (a .height) w e)) (corner-is (c .before .before .before .before .before)) (low-end (c .before))
-    ∙ cell-low K (a .depth) (a .root) (a .height) v (b .pre .1 .0) (c .before .before .before .before .if1 .taken) (b .pre .1 .1 .1 .0) (inside-cell b) (not-none (a .root) (b .pre .1 .1 .0 .1))
-
-cell-number-requires-2 : tie.Need-cell-number-requires-2
-cell-number-requires-2 c κs = search needs
-
-tag-requires-2 : tie.Need-tag-requires-2
-tag-requires-2 c κs = search needs
-
-walk-to-requires-2 : tie.Need-walk-to-requires-2
-walk-to-requires-2 c κs =
-    let b = c .before .before .before .before .before .before .before in
-    (b .pre .0, (list-low b, (subst⁻¹ (λ (n : ℕ). n < keptCount (now (b .args .store)) (b .args .depth - 2)) (c .before .cell-number2 .ensures) (kept-root b), subst⁻¹ (λ (n : ℕ). n < 8) (c .tag2 .ensures) (tag-lt (b .args .root)))))
+    ∙ ap₂ (λ (v : Point) (e : Reach). toldBy (smallAt K (a .height) v e)) (corner-is (w .before .before)) (end-is w)
+    ∙ cell-low K (a .depth) (a .root) (a .height) (point (a .x) (a .y) (a .z)) (b .pre .1 .0) (c .before .if1 .taken) (b .pre .1 .1 .1 .0) (inside-cell b) (not-none (a .root) (b .pre .1 .1 .0 .1))
 
 cell-ended-requires : tie.Need-cell-ended-requires
 cell-ended-requires c κs = search needs
 
 returns-2 : tie.Need-returns-2
 returns-2 c =
-    let b = c .before .before .before .before .before .before .before .before .before in
+    let w = c .before .before in
+    let b = w .before .before .before .before .before .before in
     let a = b .args in
     let K : List (List Cell) = keptOf (now (a .store)) in
-    let v : Point = point (a .x) (a .y) (a .z) in
-    let end : c .before .walk-to2 .result ≡ reachOf K (a .height - 2) (a .depth - 2) (cellNo (a .root)) (tagOf (a .root)) (corner (a .height) v) =
-    c .before .walk-to2 .ensures
-    ∙ (λ i. reachOf K (a .height - 2) (a .depth - 2) (c .before .before .before .cell-number2 .ensures i) (c .before .before .tag2 .ensures i) (corner-is (c .before .before .before .before .before) i)) in
     c .cell-ended .ensures
-    ∙ ap (λ (e : Reach). toldBy (cellEnd e)) end
-    ∙ cell-high K (a .depth) (a .root) (a .height) v (b .pre .1 .0) (c .before .before .before .before .if1 .left) (b .pre .1 .1 .1 .0) (inside-cell b) (not-none (a .root) (b .pre .1 .1 .0 .1))
+    ∙ ap (λ (e : Reach). toldBy (cellEnd e)) (end-is w)
+    ∙ cell-high K (a .depth) (a .root) (a .height) (point (a .x) (a .y) (a .z)) (b .pre .1 .0) (c .before .if1 .left) (b .pre .1 .1 .1 .0) (inside-cell b) (not-none (a .root) (b .pre .1 .1 .0 .1))
 
 pub cell-under-spec : {M : Type 1} → statement M
 cell-under-spec =
@@ -142,14 +106,9 @@ cell-under-spec =
     corner-requires
     corner-requires-2
     corner-requires-3
-    sub-k
-    cell-number-requires
-    tag-requires
-    walk-to-requires
+    list-of-requires
+    walk-root-requires
     small-at-requires
     returns
-    cell-number-requires-2
-    tag-requires-2
-    walk-to-requires-2
     cell-ended-requires
     returns-2)
