@@ -14,6 +14,7 @@ use crate::ways::Reach;
 use crate::ways::walk_root;
 use entry::Entry;
 use entry::enter;
+use limits::LEAF_HEIGHT;
 use paper::Refusal;
 use paper::Seen;
 use points::leaf_solid;
@@ -52,7 +53,13 @@ fn voxel_from(store: &[u32], depth: u32, root: u32, x: u32, y: u32, z: u32) -> S
     if root == 0 {
         return Seen::Empty;
     }
-    voxel_at(store, walk_root(store, 0, depth, root, x, y, z), x, y, z)
+    voxel_at(
+        store,
+        walk_root(store, 0, depth - LEAF_HEIGHT, root, x, y, z),
+        x,
+        y,
+        z,
+    )
 }
 
 // Voxel: solid or empty.

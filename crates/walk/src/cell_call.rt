@@ -99,7 +99,8 @@ fn cell_under(store: &[u32], depth: u32, root: u32, height: u32, x: u32, y: u32,
     let a = corner(height, x);
     let b = corner(height, y);
     let c = corner(height, z);
-    let end = walk_root(store, list_of(height), depth, root, a, b, c);
+    let k = depth - LEAF_HEIGHT;
+    let end = walk_root(store, list_of(height), k, root, a, b, c);
     if height < LEAF_HEIGHT {
         return small_at(store, end, height, a, b, c);
     }

@@ -2,12 +2,11 @@
 // force, and its tag joins that mirror.
 ghost use mathlib.Core.Path.{_≡_};
 ghost use mathlib.Core.Bool.{false};
-ghost use Prim.Native.Nat.{_-_, _<_};
+ghost use Prim.Native.Nat.{_<_};
 ghost use lib.Dec.{T};
-ghost use Rattle.paper.specs.Rooms.{depthOk, point};
+ghost use Rattle.paper.specs.Rooms.{point};
 ghost use Rattle.paper.specs.Store.{badPointer, cellNo, heights, headerOk, keptCount, keptOf, tagOf};
 ghost use Rattle.walk.specs.Walk.{AtKept, reachOf};
-use limits::LEAF_HEIGHT;
 use points::octant;
 use store::any_bad;
 use store::cell_at;
@@ -61,22 +60,13 @@ pub fn walk_to(
     Reach::At(at, seen)
 }
 
-// The same from a scene's root pointer, which is not bad and not none.
-pub fn walk_root(store: &[u32], stop: u32, depth: u32, root: u32, x: u32, y: u32, z: u32) -> Reach
+// The same from the cell of list k that a scene's root pointer names, which is not bad and not none.
+pub fn walk_root(store: &[u32], stop: u32, k: u32, root: u32, x: u32, y: u32, z: u32) -> Reach
     requires { ⌜ T (headerOk (now store)) ⌝ }
-    requires { ⌜ T (depthOk depth) ⌝ }
-    requires { ⌜ (badPointer (keptCount (now store) (depth - 2)) root ≡ false) × (root ≡ 0 → ⊥) ⌝ }
-    ensures { λ r. ⌜ r ≡ reachOf (keptOf (now (store .entry))) stop (depth - 2) (cellNo root) (tagOf root) (point x y z) ⌝ }
+    requires { ⌜ k < heights ⌝ }
+    requires { ⌜ (badPointer (keptCount (now store) k) root ≡ false) × (root ≡ 0 → ⊥) ⌝ }
+    ensures { λ r. ⌜ r ≡ reachOf (keptOf (now (store .entry))) stop k (cellNo root) (tagOf root) (point x y z) ⌝ }
     ensures { λ r. ⌜ (stop ≡ 0 → AtKept (keptOf (now (store .entry))) r) ⌝ }
 {
-    walk_to(
-        store,
-        stop,
-        depth - LEAF_HEIGHT,
-        cell_number(root),
-        tag(root),
-        x,
-        y,
-        z,
-    )
+    walk_to(store, stop, k, cell_number(root), tag(root), x, y, z)
 }

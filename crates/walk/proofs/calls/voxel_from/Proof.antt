@@ -1,11 +1,12 @@
 -- `walk::calls::voxel_from` meets its contract: outside, no root, or the end of the walk from the root, which stops at a kept leaf. Assumes nothing.
 use mathlib.Core.Path.{refl, ap, _∙_}
 use mathlib.Core.List.{List}
-use Prim.Native.Nat.{_-_, _^_}
+use Prim.Native.Nat.{_-_, _^_, _<_}
+use native.Mathlib.Omega.{arith}
 use denote.Ref.{now}
 use lib.Dec.{T}
 use Rattle.paper.specs.Rooms.{Point, point, inside}
-use Rattle.paper.specs.Store.{Cell, keptOf}
+use Rattle.paper.specs.Store.{heights, Cell, keptOf}
 use Rattle.walk.specs.Walk.{voxelEnd, toldBy}
 use Rattle.walk.specs.declared.ways.Reach.{Reach}
 use Rattle.store.proofs.Tests.{passed-T, failed-T}
@@ -34,8 +35,14 @@ returns-2 c =
     let a = c .before .before .before .before .args in
     voxel-none (keptOf (now (a .store))) (a .depth) (a .root) (point (a .x) (a .y) (a .z)) (inside-here (c .before)) (c .if2 .taken)
 
+sub-walk-root : tie.Need-sub-walk-root
+sub-walk-root c = let b = c .before .before .before .before in omega (arith, depth-range (b .args .depth) (b .pre .1 .0) .0)
+
 walk-root-requires : tie.Need-walk-root-requires
-walk-root-requires c κs = let b = c .before .before .before .before in (b .pre .0, (b .pre .1 .0, (b .pre .1 .1, c .if2 .left)))
+walk-root-requires c κs =
+    let b = c .before .before .before .before in
+    let low : b .args .depth - 2 < heights = omega (arith, depth-range (b .args .depth) (b .pre .1 .0) .1) in
+    (b .pre .0, (low, (b .pre .1 .1, c .if2 .left)))
 
 voxel-at-requires : tie.Need-voxel-at-requires
 voxel-at-requires c κs = (c .before .before .before .before .before .pre .0, c .walk-root .ensures .1 refl)
@@ -57,6 +64,7 @@ voxel-from-spec =
     outside-requires
     returns
     returns-2
+    sub-walk-root
     walk-root-requires
     voxel-at-requires
     returns-3)

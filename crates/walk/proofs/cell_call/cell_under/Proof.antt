@@ -6,7 +6,7 @@ use native.Mathlib.Nat.{le-trans}
 use native.Mathlib.Omega.{arith}
 use denote.Ref.{now}
 use Rattle.paper.specs.Rooms.{Point, point, Inside, deepest}
-use Rattle.paper.specs.Store.{Cell, tagOf, cellNo, keptOf}
+use Rattle.paper.specs.Store.{Cell, heights, tagOf, cellNo, keptOf}
 use Rattle.paper.specs.Questions.{corner}
 use Rattle.walk.specs.Walk.{reachOf, cellEnd, smallAt, toldBy}
 use Rattle.walk.specs.declared.ways.Reach.{Reach}
@@ -45,11 +45,17 @@ corner-requires-2 c κs = let b = c .before .before in (low b, fits b .inY)
 corner-requires-3 : tie.Need-corner-requires-3
 corner-requires-3 c κs = let b = c .before .before .before in (low b, fits b .inZ)
 
+sub-k : tie.Need-sub-k
+sub-k c = let b = c .before .before .before .before in omega (arith, depth-range (b .args .depth) (b .pre .1 .0) .0)
+
 list-of-requires : tie.Need-list-of-requires
 list-of-requires c κs = search needs
 
 walk-root-requires : tie.Need-walk-root-requires
-walk-root-requires c κs = let b = c .before .before .before .before .before in (b .pre .0, (b .pre .1 .0, b .pre .1 .1 .0))
+walk-root-requires c κs =
+    let b = c .before .before .before .before .before in
+    let low : b .args .depth - 2 < heights = omega (arith, depth-range (b .args .depth) (b .pre .1 .0) .1) in
+    (b .pre .0, (low, b .pre .1 .1 .0))
 
 -- where the walk ends
 end-is : (c : tie.After-walk-root) → (let a = c .before .before .before .before .before .before .args in
@@ -106,6 +112,7 @@ cell-under-spec =
     corner-requires
     corner-requires-2
     corner-requires-3
+    sub-k
     list-of-requires
     walk-root-requires
     small-at-requires

@@ -1,5 +1,5 @@
--- `walk::ways::walk_root` meets its contract: a root pointer that is neither bad nor none names a kept cell of the depth's list, and its tag is a
--- mirror. Assumes nothing.
+-- `walk::ways::walk_root` meets its contract: a root pointer that is neither bad nor none names a kept cell of its list, and its tag is a mirror.
+-- Assumes nothing.
 use mathlib.Core.Path.{_≡_, ap, ap₂, _∙_, subst, subst⁻¹}
 use mathlib.Core.List.{List}
 use Prim.Native.Nat.{ℕ, _-_, _<_}
@@ -17,28 +17,21 @@ use borrow.Author.Needs.{needs}
 use Rattle.walk.proofs.ways.walk_root.Statement.{statement}
 use Rattle.walk.proofs.ways.walk_root.Tie as tie
 
--- what is known of the arguments
-list-low : (b : tie.Start) → b .args .depth - 2 < heights
-list-low b = omega (arith, depth-range (b .args .depth) (b .pre .1 .0) .1)
-
-kept-root : (b : tie.Start) → cellNo (b .args .root) < keptCount (now (b .args .store)) (b .args .depth - 2)
-kept-root b = root-kept (keptCount (now (b .args .store)) (b .args .depth - 2)) (b .args .root) (b .pre .1 .1 .0) (b .pre .1 .1 .1)
-
-sub-walk-to : tie.Need-sub-walk-to
-sub-walk-to c = let b = c .before in omega (arith, depth-range (b .args .depth) (b .pre .1 .0) .0)
+kept-root : (b : tie.Start) → cellNo (b .args .root) < keptCount (now (b .args .store)) (b .args .k)
+kept-root b = root-kept (keptCount (now (b .args .store)) (b .args .k)) (b .args .root) (b .pre .1 .1 .0) (b .pre .1 .1 .1)
 
 walk-to-requires : tie.Need-walk-to-requires
 walk-to-requires c κs =
     let b = c .before .before .before in
-    (b .pre .0, (list-low b, (subst⁻¹ (λ (n : ℕ). n < keptCount (now (b .args .store)) (b .args .depth - 2)) (c .before .cell-number .ensures) (kept-root b), subst⁻¹ (λ (n : ℕ). n < 8) (c .tag .ensures) (tag-lt (b .args .root)))))
+    (b .pre .0, (b .pre .1 .0, (subst⁻¹ (λ (n : ℕ). n < keptCount (now (b .args .store)) (b .args .k)) (c .before .cell-number .ensures) (kept-root b), subst⁻¹ (λ (n : ℕ). n < 8) (c .tag .ensures) (tag-lt (b .args .root)))))
 
 returns : tie.Need-returns
 returns c =
     let b = c .before .before .before .before in
     let a = b .args in
     let K : List (List Cell) = keptOf (now (a .store)) in
-    let k : ℕ = a .depth - 2 in
-    let kept : cellNo (a .root) < length (cellsAt K k) = subst⁻¹ (λ (n : ℕ). cellNo (a .root) < n) (kept-length (now (a .store)) k (list-low b)) (kept-root b) in
+    let k : ℕ = a .k in
+    let kept : cellNo (a .root) < length (cellsAt K k) = subst⁻¹ (λ (n : ℕ). cellNo (a .root) < n) (kept-length (now (a .store)) k (b .pre .1 .0)) (kept-root b) in
     let end : c .walk-to .result ≡ reachOf K (a .stop) k (cellNo (a .root)) (tagOf (a .root)) (point (a .x) (a .y) (a .z)) =
     c .walk-to .ensures ∙ ap₂ (λ (n m : ℕ). reachOf K (a .stop) k n m (point (a .x) (a .y) (a .z))) (c .before .before .cell-number .ensures) (c .before .tag .ensures) in (
       end,
@@ -49,4 +42,4 @@ returns c =
 pub walk-root-spec : {M : Type 1} → statement M
 walk-root-spec =
     tie.close
-    (tie.spec sub-walk-to (λ c κs. search needs) (λ c κs. search needs) walk-to-requires returns)
+    (tie.spec (λ c κs. search needs) (λ c κs. search needs) walk-to-requires returns)
