@@ -54,12 +54,12 @@ pub fn octant(k: u32, x: u32, y: u32, z: u32) -> u32
     (x >> s) % 2 + 2 * ((y >> s) % 2) + 4 * ((z >> s) % 2)
 }
 
-// A coordinate in a leaf, mirrored if the bit is 1.
+// A coordinate in a leaf, mirrored if the bit is 1: 3 - c is c with both its bits changed.
 fn flipped(bit: u32, c: u32) -> u32
-    requires { ⌜ c < 4 ⌝ }
+    requires { ⌜ (bit < 2) × (c < 4) ⌝ }
     ensures { λ r. ⌜ (r ≡ flip (eqb bit 1) 4 c) × (r < 4) ⌝ }
 {
-    if bit == 1 { 3 - c } else { c }
+    c ^ (3 * bit)
 }
 
 // Whether a point is solid in a leaf that is seen under a mirror.

@@ -1,22 +1,23 @@
--- `points::flipped` meets its contract: each branch is the mirror formula at an edge of 4, marked or not. Assumes nothing.
-use mathlib.Core.Path.{sym, ap}
-use mathlib.Core.Bool.{Bool}
-use Prim.Native.Nat.{_-_}
+-- `points::flipped` meets its contract: each of the eight cases is computed. Assumes nothing.
+use mathlib.Core.Path.{_≡_}
+use Prim.Native.Nat.{ℕ, _*_, _<_}
 use native.Mathlib.Omega.{arith}
 use borrow.Author.Needs.{needs}
-use borrow.Author.Tests.{eq-eqb, ne-eqb}
+use lib.Bits.{bitXor, xor-lt}
+use lib.Dec.{eqb, eqb→eq}
 use Rattle.paper.specs.Rooms.{flip}
+use Rattle.laws.proofs.Tests.{all-at2}
 use Rattle.points.proofs.flipped.Statement.{statement}
 use Rattle.points.proofs.flipped.Tie as tie
 
-sub-result : tie.Need-sub-result
-sub-result c = search needs
+both-bits : (b c : ℕ) → b < 2 → c < 4 → bitXor c (3 * b) ≡ flip (eqb b 1) 4 c
+both-bits b c hb hc = eqb→eq (bitXor c (3 * b)) (flip (eqb b 1) 4 c) (all-at2 2 4 (λ i j. eqb (bitXor j (3 * i)) (flip (eqb i 1) 4 j)) tt b c hb hc)
 
 returns : tie.Need-returns
-returns c = (ap (λ (b : Bool). flip b 4 (c .before .args .c)) (sym (eq-eqb (c .before .args .bit) 1 (c .if1 .taken))), omega arith)
-
-returns-2 : tie.Need-returns-2
-returns-2 c = (ap (λ (b : Bool). flip b 4 (c .before .args .c)) (sym (ne-eqb (c .before .args .bit) 1 (c .if1 .left))), omega arith)
+returns c =
+    let a = c .args in
+    let low : 3 * a .bit < 4 = omega (arith, c .pre .0) in
+    (both-bits (a .bit) (a .c) (c .pre .0) (c .pre .1), xor-lt 2 (a .c) (3 * a .bit) (c .pre .1) low)
 
 pub flipped-spec : {M : Type 1} → statement M
-flipped-spec = tie.close (tie.spec sub-result returns returns-2)
+flipped-spec = tie.close (tie.spec (λ c. search needs) returns)
