@@ -1,4 +1,4 @@
 // Plays the script on standard input: see `script`.
 fn main() {
-    script::run();
+    script::run(0);
 }

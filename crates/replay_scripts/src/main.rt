@@ -7,10 +7,8 @@ fn play(name: &[u8]) {
         io::write_all(1, b"no script\n");
         return;
     }
-    let mut script = [0u8; 262145];
-    let size = io::read_full(fd, &mut script);
+    script::run(fd);
     libc::close(fd);
-    script::start(&script[..size]);
 }
 
 fn main() {

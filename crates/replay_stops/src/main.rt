@@ -1,4 +1,5 @@
 // Scripts that end in `stop`, each played from the start: see `script`.
+ghost use Prim.Native.Nat.{_≤_};
 
 // A byte that is no command.
 fn no_command() {
@@ -10,36 +11,31 @@ fn no_command() {
     script::start(b"k\x00\x00\x00\x02");
 }
 
-// A command cut short by the end: all but its first byte, then its last byte.
+// A command of `size` bytes cut short by the end: all but its first byte, then its last byte.
+fn cut(code: u8, size: usize)
+    requires { ⌜ size ≤ 29 ⌝ }
+{
+    let mut script = [0u8; 29];
+    script[0] = b'H';
+    script[1] = code;
+    script::start(&script[..2]);
+    script::start(&script[..size]);
+}
+
+// Commands cut short in their numbers, and `L` in the bytes behind them too.
 fn cut_short() {
-    script::start(b"HN");
-    script::start(b"HN\x00\x00\x00\x01\x00\x00\x01");
-    script::start(b"HV");
-    script::start(b"HV\x00\x00\x00\x00\x00\x00\x00\x00\x00\x00\x00\x00\x00\x00\x00");
-    script::start(b"HC");
-    script::start(
-        b"HC\x00\x00\x00\x00\x00\x00\x00\x00\x00\x00\x00\x00\x00\x00\x00\x00\x00\x00\x00",
-    );
-    script::start(b"HB");
-    script::start(
-        b"HB\x00\x00\x00\x00\x00\x00\x00\x00\x00\x00\x00\x00\x00\x00\x00\x00\x00\x00\x00\x00\x00\x00\x00\x00\x00\x00\x00",
-    );
-    script::start(b"HK");
-    script::start(b"HK\x00\x00\x00");
-    script::start(b"HO");
-    script::start(b"HO\x00\x00\x00\x00\x00\x00\x00");
+    cut(b'N', 9);
+    cut(b'V', 17);
+    cut(b'C', 21);
+    cut(b'B', 29);
+    cut(b'K', 5);
+    cut(b'O', 9);
     script::start(b"HL");
     script::start(b"HL\x00\x00\x00\x02a");
-    script::start(b"HX");
-    script::start(b"HX\x00\x00\x00\x00");
-    script::start(b"Hv");
-    script::start(b"Hv\x00\x00\x00\x00\x00\x00\x00\x00\x00\x00\x00");
-    script::start(b"HD");
-    script::start(
-        b"HD\x00\x00\x00\x02\x00\x00\x00\x00\x00\x00\x00\x00\x00\x00\x00\x00\x00\x00\x00\x00",
-    );
-    script::start(b"HW");
-    script::start(b"HW\x00\x00\x00\x00\x00\x00\x00");
+    cut(b'X', 6);
+    cut(b'v', 13);
+    cut(b'D', 22);
+    cut(b'W', 9);
     script::start(b"L\x00\x00\x00");
 }
 

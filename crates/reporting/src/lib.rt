@@ -1,6 +1,9 @@
 // Document 01's program: an outline is added to a store of capacity 32, and its answer, the cells kept at each height, the solid
 // voxels of the whole room and the packed length are printed.
 ghost use Prim.Native.Nat.{_≤_};
+use limits::DEEPEST;
+use limits::DEPTH_PLACE;
+use limits::LEAST_DEPTH;
 use numbers::wide;
 
 // The longest input; a longer one prints `answer 4` alone.
@@ -14,13 +17,6 @@ const STORE_WORDS: usize = 3808;
 const SCRATCH_WORDS: usize = 1920;
 
 const MOST_PACKED: usize = 8192;
-
-// The least and the greatest depth, and where a file has its depth.
-const LEAST_DEPTH: u32 = 2;
-
-const DEEPEST: u32 = 16;
-
-const DEPTH_PLACE: usize = 5;
 
 // A line of a word and a number.
 fn line(word: &[u8], number: u64) {

@@ -1,13 +1,13 @@
-// The whole program: a script from standard input, its lines to standard output.
+// The whole program: a script from a descriptor, its lines to standard output.
 use crate::turns::play;
 
 // The longest script.
 const LONGEST: usize = 262144;
 
-// Plays the script on standard input. One byte more is read than the longest has, to see that there is one.
-pub fn run() {
+// Plays the script that a descriptor reads. One byte more is read than the longest has, to see that there is one.
+pub fn run(fd: i32) {
     let mut script = [0u8; 262145];
-    let size = io::read_full(0, &mut script);
+    let size = io::read_full(fd, &mut script);
     start(&script[..size]);
 }
 

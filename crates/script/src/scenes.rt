@@ -1,119 +1,48 @@
 // The commands that ask the current packed file, and detail. They answer as the commands of `calls` do.
-ghost use Prim.Native.Nat.{_+_, _≤_};
-ghost use lib.ListN.{length};
-ghost use Rattle.script.specs.Steps.{Took};
-use crate::calls::Step;
 use crate::fill::fill_bytes;
+use crate::given::byte;
+use crate::given::long;
+use crate::given::word;
 use crate::sums::sum_bytes;
-use crate::text::label;
-use crate::text::line;
-use crate::text::long_line;
-use crate::text::put;
-use numbers::be32;
-use numbers::be64;
-use paper::Checked;
-use paper::Chosen;
-use paper::Found;
 use paper::Sight;
 use paper::Wish;
 
 // `v`: packed voxel.
-pub fn packed_voxel(given: &[u8], file: &[u8], text: &mut [u8], used: usize) -> Step
-    requires { ⌜ used + 160 ≤ length (now text) ⌝ }
-    ensures { λ r. ⌜ Took (now (given .entry)) used (r .took) (r .used) ⌝ }
-{
-    if given.len() < 12 {
-        return Step {
-            took: 0,
-            used: used,
-        };
-    }
-    let x = be32(given, 0);
-    let y = be32(given, 4);
-    let z = be32(given, 8);
-    let after = match rooms::packed_voxel(file, x, y, z) {
-        Found::Solid(records) => long_line(text, used, b"packed ", 0, 1, records),
-        Found::Empty(records) => long_line(text, used, b"packed ", 0, 0, records),
-        Found::Refused(refusal) => long_line(text, used, b"packed ", refusal.number(), 0, 0),
-    };
-    Step {
-        took: 13,
-        used: after,
-    }
+fn packed_voxel(given: &[u8], file: &[u8]) -> [u64; 5] {
+    let found = rooms::packed_voxel(file, word(given, 0), word(given, 4), word(given, 8));
+    [
+        found.number() as u64,
+        found.value() as u64,
+        found.records() as u64,
+        0,
+        0,
+    ]
 }
 
-// `q`: the current file is opened and, where that is accepted, the opened scene asked.
-pub fn open_and_ask(given: &[u8], file: &[u8], text: &mut [u8], used: usize) -> Step
-    requires { ⌜ used + 160 ≤ length (now text) ⌝ }
-    ensures { λ r. ⌜ Took (now (given .entry)) used (r .took) (r .used) ⌝ }
-{
-    if given.len() < 12 {
-        return Step {
-            took: 0,
-            used: used,
-        };
-    }
-    let x = be32(given, 0);
-    let y = be32(given, 4);
-    let z = be32(given, 8);
+// `q`: the current file is opened and the opened scene asked; where the opening is refused, so is the question.
+fn open_and_ask(given: &[u8], file: &[u8]) -> [u64; 5] {
     let header = opened::read_header(file);
-    let first = line(text, used, b"open ", header.number, header.depth as u64);
-    if header.number != 0 {
-        return Step {
-            took: 13,
-            used: first,
-        };
-    }
-    let answer = opened::open_and_ask(file, x, y, z);
-    Step {
-        took: 13,
-        used: long_line(
-            text,
-            first,
-            b"ask ",
-            answer.number(),
-            answer.value() as u64,
-            answer.records(),
-        ),
-    }
+    let found = opened::open_and_ask(file, word(given, 0), word(given, 4), word(given, 8));
+    [
+        header.number as u64,
+        header.depth as u64,
+        found.number() as u64,
+        found.value() as u64,
+        found.records() as u64,
+    ]
 }
 
-// The line of a check, with the sum of the scratch.
-fn check_line(text: &mut [u8], used: usize, answer: Checked, scratch: &[u8]) -> usize
-    requires { ⌜ used + 160 ≤ length (now text) ⌝ }
-    ensures { λ r. ⌜ r ≤ used + 160 ⌝ }
-{
-    let first = label(text, used, b"check ", answer.number() as u64);
-    let second = label(text, first, b" ", answer.value() as u64);
-    let summed = label(text, second, b" scratch ", sum_bytes(scratch));
-    put(text, summed, b"\n")
-}
-
-// `c`: packed check, with as many bytes of scratch as the script says.
-pub fn check(given: &[u8], file: &[u8], scratch: &mut [u8], text: &mut [u8], used: usize) -> Step
-    requires { ⌜ used + 160 ≤ length (now text) ⌝ }
-    ensures { λ r. ⌜ Took (now (given .entry)) used (r .took) (r .used) ⌝ }
-{
-    if given.len() < 4 {
-        return Step {
-            took: 0,
-            used: used,
-        };
-    }
-    let room = be32(given, 0) as usize;
-    if room > scratch.len() {
-        return Step {
-            took: 0,
-            used: used,
-        };
-    }
-    let lent = &mut scratch[..room];
-    fill_bytes(lent);
-    let answer = rooms::check(file, lent);
-    Step {
-        took: 5,
-        used: check_line(text, used, answer, lent),
-    }
+// `c`: packed check, with this scratch.
+fn check(file: &[u8], scratch: &mut [u8]) -> [u64; 5] {
+    fill_bytes(scratch);
+    let depth = rooms::check(file, scratch);
+    [
+        depth.number() as u64,
+        depth.value() as u64,
+        sum_bytes(scratch),
+        0,
+        0,
+    ]
 }
 
 // The f64 of these bits; a pattern that is no number stands for NaN.
@@ -140,31 +69,23 @@ fn wish_of(kind: u8, first: f64, second: f64) -> Wish {
 }
 
 // `D`: detail.
-pub fn detail(given: &[u8], text: &mut [u8], used: usize) -> Step
-    requires { ⌜ used + 160 ≤ length (now text) ⌝ }
-    ensures { λ r. ⌜ Took (now (given .entry)) used (r .took) (r .used) ⌝ }
-{
-    if given.len() < 21 {
-        return Step {
-            took: 0,
-            used: used,
-        };
-    }
-    let kind = given[4];
-    if kind > 2 {
-        return Step {
-            took: 0,
-            used: used,
-        };
-    }
-    let first = float_of(be64(given, 5));
-    let second = float_of(be64(given, 13));
-    let after = match rooms::detail(be32(given, 0), wish_of(kind, first, second)) {
-        Chosen::Height(height) => line(text, used, b"detail ", 0, height as u64),
-        Chosen::Refused(refusal) => line(text, used, b"detail ", refusal.number(), 0),
-    };
-    Step {
-        took: 22,
-        used: after,
+fn detail(given: &[u8]) -> [u64; 5] {
+    let wish = wish_of(
+        byte(given),
+        float_of(long(given, 5)),
+        float_of(long(given, 13)),
+    );
+    let height = rooms::detail(word(given, 0), wish);
+    [height.number() as u64, height.value() as u64, 0, 0, 0]
+}
+
+// Plays a command that asks the current packed file, or detail.
+pub fn look(code: u8, given: &[u8], file: &[u8], out: &mut [u8]) -> [u64; 5] {
+    match code {
+        b'v' => packed_voxel(given, file),
+        b'q' => open_and_ask(given, file),
+        b'c' => check(file, out),
+        b'D' => detail(given),
+        _ => [0; 5],
     }
 }

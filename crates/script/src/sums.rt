@@ -1,14 +1,7 @@
 // The sum of a list of bytes: h starts at 1, and for each byte b becomes (h × 1,000,003 + b + 1) mod 2,147,483,647.
-ghost use mathlib.Core.Path.{_≡_};
 ghost use Prim.Native.Nat.{_<_};
+use numbers::wide;
 use numbers::wider;
-
-// A byte as a wider number.
-fn wide(x: u8) -> u64
-    ensures { λ r. ⌜ (r ≡ x) × (r < 256) ⌝ }
-{
-    x as u64
-}
 
 // The sum after one byte more.
 fn with_byte(h: u64, byte: u64) -> u64
@@ -36,7 +29,7 @@ pub fn sum_bytes(bytes: &[u8]) -> u64 {
     let mut h = 1;
     let mut i = 0;
     while i < bytes.len() {
-        h = with_byte(h, wide(bytes[i]));
+        h = with_byte(h, wide(bytes[i]) as u64);
         i += 1;
     }
     h

@@ -1,10 +1,9 @@
-// The lines that a script prints: words and decimal numbers with one space between, put at the end of a text.
+// The lines that a script prints, put at the end of a text. A line has a form: words, and digits for the places of its numbers.
 ghost use mathlib.Core.Path.{_≡_};
 ghost use Prim.Native.Nat.{_+_, _≤_};
 ghost use lib.ListN.{length};
-use paper::Written;
 
-// Puts bytes at a place of the text, and answers the place after them.
+// Puts bytes at a place of others, and answers the place after them.
 pub fn put(text: &mut [u8], used: usize, bytes: &[u8]) -> usize
     requires { ⌜ used + length (now bytes) ≤ length (now text) ⌝ }
     ensures { λ r. ⌜ r ≡ used + length (now (bytes .entry)) ⌝ }
@@ -17,58 +16,113 @@ pub fn put(text: &mut [u8], used: usize, bytes: &[u8]) -> usize
     used + i
 }
 
-// Puts words, with the space after them, and a number.
-pub fn label(text: &mut [u8], used: usize, words: &[u8], number: u64) -> usize
-    requires { ⌜ (length (now words) ≤ 9) × (used + 29 ≤ length (now text)) ⌝ }
-    ensures { λ r. ⌜ r ≤ used + 29 ⌝ }
+// Puts a number, of at most twenty digits.
+fn decimal(text: &mut [u8], used: usize, number: u64) -> usize
+    requires { ⌜ used + 20 ≤ length (now text) ⌝ }
+    ensures { λ r. ⌜ r ≤ used + 20 ⌝ }
 {
-    let after = put(text, used, words);
     let mut digits = [0u8; 20];
     let n = io::decimal(number, &mut digits);
-    put(text, after, &digits[..n])
+    put(text, used, &digits[..n])
 }
 
-// A line of words and two numbers.
-pub fn line(text: &mut [u8], used: usize, words: &[u8], number: u32, value: u64) -> usize
-    requires { ⌜ (length (now words) ≤ 9) × (used + 60 ≤ length (now text)) ⌝ }
-    ensures { λ r. ⌜ r ≤ used + 60 ⌝ }
-{
-    let first = label(text, used, words, number as u64);
-    let second = label(text, first, b" ", value);
-    put(text, second, b"\n")
-}
-
-// A line of words and three numbers.
-pub fn long_line(
-    text: &mut [u8],
-    used: usize,
-    words: &[u8],
-    number: u32,
-    value: u64,
-    count: u32,
-) -> usize
-    requires { ⌜ (length (now words) ≤ 9) × (used + 90 ≤ length (now text)) ⌝ }
-    ensures { λ r. ⌜ r ≤ used + 90 ⌝ }
-{
-    let first = label(text, used, words, number as u64);
-    let second = label(text, first, b" ", value);
-    let third = label(text, second, b" ", count as u64);
-    put(text, third, b"\n")
-}
-
-// Puts words and what a call that writes an output answers, with no line end.
-pub fn written(text: &mut [u8], used: usize, words: &[u8], answer: Written) -> usize
-    requires { ⌜ (length (now words) ≤ 9) × (used + 60 ≤ length (now text)) ⌝ }
-    ensures { λ r. ⌜ r ≤ used + 60 ⌝ }
-{
-    match answer {
-        Written::Length(n) => {
-            let accepted = label(text, used, words, 0);
-            label(text, accepted, b" ", n as u64)
-        }
-        Written::Refused(refusal) => {
-            let refused = label(text, used, words, refusal.number() as u64);
-            label(text, refused, b" ", 0)
-        }
+// The place of the number that a byte of a form stands for; 5 or more where it stands for itself.
+fn place(byte: u8) -> usize {
+    if byte < b'0' {
+        return 5;
     }
+    (byte - b'0') as usize
+}
+
+// Puts what a byte of a form stands for: a digit 0 to 4 for the number at its place, any other for itself.
+fn piece(text: &mut [u8], used: usize, byte: u8, numbers: [u64; 5]) -> usize
+    requires { ⌜ used + 20 ≤ length (now text) ⌝ }
+    ensures { λ r. ⌜ r ≤ used + 20 ⌝ }
+{
+    let i = place(byte);
+    if i < 5 {
+        return decimal(text, used, numbers[i]);
+    }
+    text[used] = byte;
+    used + 1
+}
+
+// Puts a line with these numbers, in the form that these bytes begin with: up to the end of its line, and at most 25 bytes.
+fn line(text: &mut [u8], used: usize, form: &[u8], numbers: [u64; 5]) -> usize
+    requires { ⌜ used + 500 ≤ length (now text) ⌝ }
+    ensures { λ r. ⌜ r ≤ used + 500 ⌝ }
+{
+    let mut i = 0;
+    let mut end = used;
+    while i < form.len() {
+        if i == 25 {
+            return end;
+        }
+        let byte = form[i];
+        end = piece(text, end, byte, numbers);
+        if byte == b'\n' {
+            return end;
+        }
+        i += 1;
+    }
+    end
+}
+
+// Whether a form's byte stands here: first in its line.
+fn begins(before: u8, byte: u8, code: u8) -> bool {
+    if before != b'\n' {
+        return false;
+    }
+    byte == code
+}
+
+// The place of the form that stands behind this byte; the end where there is none.
+fn find(forms: &[u8], code: u8) -> usize
+    ensures { λ r. ⌜ r ≤ length (now (forms .entry)) ⌝ }
+{
+    let mut i = 0;
+    let mut before = b'\n';
+    while i < forms.len() {
+        let byte = forms[i];
+        i += 1;
+        if begins(before, byte, code) {
+            return i;
+        }
+        before = byte;
+    }
+    i
+}
+
+// Puts a line with these numbers, in the form that stands behind this byte.
+fn formed(text: &mut [u8], used: usize, forms: &[u8], code: u8, numbers: [u64; 5]) -> usize
+    requires { ⌜ used + 500 ≤ length (now text) ⌝ }
+    ensures { λ r. ⌜ r ≤ used + 500 ⌝ }
+{
+    let at = find(forms, code);
+    line(text, used, &forms[at..], numbers)
+}
+
+// Puts what a command prints. An opening that is accepted has the line of the question behind its own.
+fn lines(text: &mut [u8], used: usize, forms: &[u8], code: u8, numbers: [u64; 5]) -> usize
+    requires { ⌜ used + 1000 ≤ length (now text) ⌝ }
+    ensures { λ r. ⌜ r ≤ used + 1000 ⌝ }
+{
+    let after = formed(text, used, forms, code, numbers);
+    if code != b'q' {
+        return after;
+    }
+    if numbers[0] != 0 {
+        return after;
+    }
+    formed(text, after, forms, b'a', numbers)
+}
+
+// Puts what a command prints with these numbers. A form stands behind its command's byte, `a` for the question after `q`.
+pub fn say(text: &mut [u8], used: usize, code: u8, numbers: [u64; 5]) -> usize
+    requires { ⌜ used + 1000 ≤ length (now text) ⌝ }
+    ensures { λ r. ⌜ r ≤ used + 1000 ⌝ }
+{
+    let forms =
+        b"Nnew 0 store 1\nAadd 0 1 store 2\nHstore 0\nVvoxel 0 1\nCcell 0 1\nBbox 0 1\nKkept 0 1\nOoutline 0 1 out 2\nPpack 0 1 scratch 2 out 3\nccheck 0 1 scratch 2\nvpacked 0 1 2\nqopen 0 1\naask 2 3 4\nDdetail 0 1\n";
+    lines(text, used, forms, code, numbers)
 }

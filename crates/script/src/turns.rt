@@ -1,25 +1,16 @@
 // A script's commands, one after the other.
 ghost use Prim.Native.Nat.{_+_, _≤_, _<_};
 ghost use lib.ListN.{length};
-ghost use Rattle.script.specs.Steps.{Took, Inside};
-use crate::calls::Step;
-use crate::calls::box_count;
-use crate::calls::cell;
-use crate::calls::kept;
-use crate::calls::outline_out;
-use crate::calls::store_sum;
-use crate::calls::voxel;
-use crate::changes::add;
-use crate::changes::load;
-use crate::changes::new_store;
-use crate::changes::pack;
-use crate::changes::set_byte;
-use crate::changes::set_word;
-use crate::scenes::check;
-use crate::scenes::detail;
-use crate::scenes::open_and_ask;
-use crate::scenes::packed_voxel;
+ghost use Rattle.script.specs.Steps.{Inside, Parts};
+use crate::asks::Asked;
+use crate::asks::Memory;
+use crate::asks::read;
+use crate::calls::ask;
+use crate::changes::change;
+use crate::changes::taken;
+use crate::scenes::look;
 use crate::text::put;
+use crate::text::say;
 
 // How far a script is played: the place of the next command, the words of the store, the bytes of the current packed file,
 // and the bytes of text not written yet.
@@ -30,38 +21,51 @@ pub struct Played {
     pub used: usize,
 }
 
-// Plays a command that leaves the number of words and bytes as it is.
+// Plays a command on the memory that it is lent, and answers the numbers of its lines. `bytes` stand in the script behind its
+// numbers.
 fn command(
     code: u8,
     given: &[u8],
+    bytes: &[u8],
     store: &mut [u32],
     file: &mut [u8],
     out: &mut [u8],
-    text: &mut [u8],
-    used: usize,
-) -> Step
-    requires { ⌜ used + 160 ≤ length (now text) ⌝ }
-    ensures { λ r. ⌜ Took (now (given .entry)) used (r .took) (r .used) ⌝ }
-{
+    scratch: &mut [u32],
+) -> [u64; 5] {
     match code {
-        b'V' => voxel(given, store, text, used),
-        b'C' => cell(given, store, text, used),
-        b'B' => box_count(given, store, text, used),
-        b'A' => add(given, store, text, used),
-        b'K' => kept(given, store, text, used),
-        b'O' => outline_out(given, store, out, text, used),
-        b'v' => packed_voxel(given, file, text, used),
-        b'q' => open_and_ask(given, file, text, used),
-        b'c' => check(given, file, out, text, used),
-        b'D' => detail(given, text, used),
-        b'X' => set_byte(given, file, used),
-        b'W' => set_word(given, store, used),
-        b'H' => store_sum(given, store, text, used),
-        _ => Step {
-            took: 0,
-            used: used,
-        },
+        b'N' | b'A' | b'W' | b'X' | b'L' => change(code, given, bytes, store, file),
+        b'v' | b'q' | b'c' | b'D' => look(code, given, file, out),
+        _ => ask(code, given, store, scratch, out),
     }
+}
+
+// Plays a command on the part of each memory that it asks for.
+fn lend(
+    code: u8,
+    given: &[u8],
+    asked: Asked,
+    store: &mut [u32],
+    file: &mut [u8],
+    out: &mut [u8],
+    scratch: &mut [u32],
+) -> [u64; 5]
+    requires { ⌜ Parts asked (now given) (now store) (now file) (now out) (now scratch) ⌝ }
+{
+    let from = asked.from;
+    let end = asked.end;
+    let words = asked.part.words;
+    let size = asked.part.size;
+    let room = asked.part.room;
+    let spare = asked.part.scratch;
+    command(
+        code,
+        given,
+        &given[from..end],
+        &mut store[..words],
+        &mut file[..size],
+        &mut out[..room],
+        &mut scratch[..spare],
+    )
 }
 
 // Plays the next command. Where there is none, or it is cut short or past a limit, the place stays.
@@ -80,62 +84,38 @@ fn turn(
     ensures { λ r. ⌜ (played .at ≤ r .at) × (r .used ≤ length (now (text .entry))) ⌝ }
 {
     let at = played.at;
-    let words = played.words;
-    let size = played.size;
-    let used = played.used;
     let code = script[at];
     let start = at + 1;
     let given = &script[start..];
-    if code == b'N' {
-        let new = new_store(given, store, text, used);
-        return Played {
-            at: at + new.took,
-            words: new.size,
-            size: size,
-            used: new.used,
-        };
+    let most = Memory {
+        words: store.len(),
+        size: file.len(),
+        room: out.len(),
+        scratch: scratch.len(),
+    };
+    let asked = read(code, given, played.words, played.size, most);
+    if asked.stop {
+        return played;
     }
-    if code == b'L' {
-        let loaded = load(given, file, used);
-        return Played {
-            at: at + loaded.took,
-            words: words,
-            size: loaded.size,
-            used: loaded.used,
-        };
-    }
-    if code == b'P' {
-        let packed = pack(given, &store[..words], scratch, out, file, size, text, used);
-        return Played {
-            at: at + packed.took,
-            words: words,
-            size: packed.size,
-            used: packed.used,
-        };
-    }
-    let step = command(
-        code,
-        given,
-        &mut store[..words],
-        &mut file[..size],
-        out,
-        text,
-        used,
-    );
+    let next = start + asked.end;
+    let numbers = lend(code, given, asked, store, file, out, scratch);
     Played {
-        at: at + step.took,
-        words: words,
-        size: size,
-        used: step.used,
+        at: next,
+        words: asked.part.words,
+        size: taken(code, numbers, out, file, asked.part.size),
+        used: say(text, played.used, code, numbers),
     }
 }
 
+// The most bytes of one command's lines.
+const MOST: usize = 1000;
+
 // Writes the text where there may be no room for another line, and answers how much is left of it.
 fn flushed(text: &[u8], used: usize) -> usize
-    requires { ⌜ (used ≤ length (now text)) × (160 ≤ length (now text)) ⌝ }
-    ensures { λ r. ⌜ r + 160 ≤ length (now (text .entry)) ⌝ }
+    requires { ⌜ (used ≤ length (now text)) × (1000 ≤ length (now text)) ⌝ }
+    ensures { λ r. ⌜ r + 1000 ≤ length (now (text .entry)) ⌝ }
 {
-    if text.len() - used >= 160 {
+    if text.len() - used >= MOST {
         return used;
     }
     io::write_all(1, &text[..used]);
@@ -144,7 +124,7 @@ fn flushed(text: &[u8], used: usize) -> usize
 
 // Writes the text with `stop` behind it.
 fn say_stop(text: &mut [u8], used: usize)
-    requires { ⌜ (used ≤ length (now text)) × (160 ≤ length (now text)) ⌝ }
+    requires { ⌜ (used ≤ length (now text)) × (1000 ≤ length (now text)) ⌝ }
 {
     let stopped = put(text, flushed(text, used), b"stop\n");
     io::write_all(1, &text[..stopped]);
@@ -159,7 +139,7 @@ pub fn play(
     scratch: &mut [u32],
     text: &mut [u8],
 )
-    requires { ⌜ 160 ≤ length (now text) ⌝ }
+    requires { ⌜ 1000 ≤ length (now text) ⌝ }
 {
     let mut played = Played {
         at: 0,
