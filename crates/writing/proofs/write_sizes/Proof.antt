@@ -1,16 +1,13 @@
 -- `writing::write_sizes` meets its contract. The invariant: the sizes from list k down are left to write. Assumes nothing.
 use mathlib.Core.Path.{_≡_, sym, ap, _∙_}
 use mathlib.Core.List.{_++_}
-use Prim.Native.Nat.{ℕ, _+_, _-_, _≤_}
+use Prim.Native.Nat.{ℕ, _-_, _≤_}
 use native.Mathlib.Omega.{arith}
 use lib.ListN.{length}
 use borrow.Author.Needs.{needs}
 use Rattle.paper.specs.Numbers.{bytes}
-use Rattle.laws.proofs.Bytes.{bytes-length}
-use Rattle.numbers.specs.Laid.{reached, writing}
-use Rattle.numbers.proofs.Laying.{writing-number}
 use Rattle.writing.specs.Writing.{sizesIn}
-use Rattle.writing.proofs.Behind.{Going, going-first, going-room, going-on, going-last, last-long}
+use Rattle.writing.proofs.Behind.{Going, going-first, number-room, number-first, going-on, going-last, last-long}
 use Rattle.writing.proofs.Pieces.{sizes-down, sizes-last}
 use Rattle.writing.proofs.write_sizes.Statement.{statement}
 use Rattle.writing.proofs.write_sizes.Tie as tie
@@ -39,20 +36,10 @@ next c =
     let a = t .before .before .before .args in
     sizes-down (a .t1) (l .k) (t .loop-test .taken) ∙ ap (λ (v : ℕ). bytes 4 v ++ sizesIn (a .t1) (l .k - 1)) (sym (c .wider .ensures .0))
 
-room : (c : tie.After-wider Inv-loop μ-loop) → c .before .before .before .loop .next + 4 ≤ length (c .before .before .before .loop .out)
-room c =
+write-number-requires : tie.Need-write-number-requires Inv-loop μ-loop
+write-number-requires c κs =
     let l = c .before .before .before .loop in
-    let a = c .before .before .before .before .before .args in
-    rw (bytes-length 4 (c .wider .result)) at (going-room (bytes 4 (c .wider .result)) (sizesIn (a .t1) (l .k - 1)) (sizesIn (a .t1) (l .k)) (l .next) (l .out) (sizesIn (a .t1) (a .top)) (a .at) (a .out .now) (next c) (l .inv .1))
-
-put-number-requires : tie.Need-put-number-requires Inv-loop μ-loop
-put-number-requires c κs = room c
-
-add-next : tie.Need-add-next Inv-loop μ-loop
-add-next c =
-    let w = c .before .before .before in
-    let l = w .before .before .before .loop in
-    omega (arith, room w, l .inv .1 .long, w .before .before .before .before .before .good .1 .1 .0)
+    number-first 4 _ (l .next) (length (l .out)) _ _ (next c) (l .inv .1 .room)
 
 loop-again : tie.Need-loop-again Inv-loop μ-loop
 loop-again c =
@@ -61,8 +48,8 @@ loop-again c =
     let l = w .before .before .before .loop in
     let a = w .before .before .before .before .before .args in (
       omega (arith, l .inv .0),
-      going-on (sizesIn (a .t1) (a .top)) (a .at) (a .out .now) (bytes 4 (w .wider .result)) (l .next) (l .out) (l .next + 4) (p .put-number .last .0)
-          (writing-number 4 (w .wider .result) (l .next) (l .out) (p .put-number .last .0) (p .put-number .ensures)) (sizesIn (a .t1) (l .k - 1)) (sizesIn (a .t1) (l .k)) (next w) (l .inv .1),
+      going-on (sizesIn (a .t1) (a .top)) (a .at) (a .out .now) (bytes 4 (w .wider .result)) (l .next) (l .out) (p .write-number .result) (p .write-number .last .0) (p .write-number .ensures)
+          (sizesIn (a .t1) (l .k - 1)) (sizesIn (a .t1) (l .k)) (next w) (l .inv .1),
     )
 
 -- the leaves' number is left
@@ -73,24 +60,10 @@ leaves c =
     let a = t .before .before .before .args in
     sizes-last (a .t1) (t .before .loop .k) (t .loop-test .left) ∙ ap (bytes 4) (sym (c .wider2 .ensures .0))
 
-last-room : (c : tie.After-wider2 Inv-loop μ-loop) → c .before .before .before .loop .next + 4 ≤ length (c .before .before .before .loop .out)
-last-room c = omega (arith, ap length (leaves c), bytes-length 4 (c .wider2 .result), c .before .before .before .loop .inv .1 .room)
-
-put-number-requires-2 : tie.Need-put-number-requires-2 Inv-loop μ-loop
-put-number-requires-2 c κs = last-room c
-
-add-result : tie.Need-add-result Inv-loop μ-loop
-add-result c =
-    let w = c .before .before .before in
-    let l = w .before .before .before .loop in
-    omega (arith, last-room w, l .inv .1 .long, w .before .before .before .before .before .good .1 .1 .0)
-
-written : (c : tie.After-put-number2 Inv-loop μ-loop)
-    → (let w = c .before in let l = w .before .before .before .loop in reached (l .next + 4) (c .put-number2 .last .0) ≡ writing (bytes 4 (w .wider2 .result)) (l .next) (l .out))
-written c =
-    let w = c .before in
-    let l = w .before .before .before .loop in
-    writing-number 4 (w .wider2 .result) (l .next) (l .out) (c .put-number2 .last .0) (c .put-number2 .ensures)
+write-number-requires-2 : tie.Need-write-number-requires-2 Inv-loop μ-loop
+write-number-requires-2 c κs =
+    let l = c .before .before .before .loop in
+    number-room 4 _ (l .next) (length (l .out)) _ (leaves c) (l .inv .1 .room)
 
 same-length : tie.Need-same-length Inv-loop μ-loop
 same-length c =
@@ -98,7 +71,7 @@ same-length c =
     let w = p .before in
     let l = w .before .before .before .loop in
     let a = w .before .before .before .before .before .args in
-    last-long (sizesIn (a .t1) (a .top)) (a .at) (a .out .now) (bytes 4 (w .wider2 .result)) (l .next) (l .out) (l .next + 4) (p .put-number2 .last .0) (written p) (sizesIn (a .t1) (l .k)) (leaves w) (l .inv .1)
+    last-long (sizesIn (a .t1) (a .top)) (a .at) (a .out .now) (bytes 4 (w .wider2 .result)) (l .next) (l .out) (p .write-number2 .result) (p .write-number2 .last .0) (p .write-number2 .ensures) (sizesIn (a .t1) (l .k)) (leaves w) (l .inv .1)
 
 returns : tie.Need-returns Inv-loop μ-loop
 returns c =
@@ -106,7 +79,7 @@ returns c =
     let w = p .before in
     let l = w .before .before .before .loop in
     let a = w .before .before .before .before .before .args in
-    going-last (sizesIn (a .t1) (a .top)) (a .at) (a .out .now) (bytes 4 (w .wider2 .result)) (l .next) (l .out) (l .next + 4) (p .put-number2 .last .0) (written p) (sizesIn (a .t1) (l .k)) (leaves w) (l .inv .1)
+    going-last (sizesIn (a .t1) (a .top)) (a .at) (a .out .now) (bytes 4 (w .wider2 .result)) (l .next) (l .out) (p .write-number2 .result) (p .write-number2 .last .0) (p .write-number2 .ensures) (sizesIn (a .t1) (l .k)) (leaves w) (l .inv .1)
 
 pub write-sizes-spec : {M : Type 1} → statement M
 write-sizes-spec =
@@ -119,14 +92,12 @@ write-sizes-spec =
     mul-wider
     array-read-wider
     (λ c κs. search needs)
-    put-number-requires
-    add-next
+    write-number-requires
     (λ c. search needs)
     (λ c. search needs)
     loop-again
     (λ c. search needs)
     (λ c κs. search needs)
-    put-number-requires-2
-    add-result
+    write-number-requires-2
     same-length
     returns)
