@@ -44,7 +44,7 @@ fn put_words(store: &mut [u32], at: usize, words: &[u32])
 }
 
 // One more cell in list k, of these words.
-fn keep(store: &mut [u32], k: u32, cell: &[u32])
+pub fn keep(store: &mut [u32], k: u32, cell: &[u32])
     requires { ⌜ T (headerOk (now store)) ⌝ }
     requires { ⌜ (k < heights) × (length (now cell) ≡ cellWords k) ⌝ }
     requires { ⌜ keptCount (now store) k < capacityOf (now store) ⌝ }
@@ -56,24 +56,11 @@ fn keep(store: &mut [u32], k: u32, cell: &[u32])
     put_words(store, at, cell);
 }
 
-// One more leaf, its high word first.
-pub fn keep_leaf(store: &mut [u32], leaf: u64)
-    requires { ⌜ T (headerOk (now store)) ⌝ }
-    requires { ⌜ keptCount (now store) 0 < capacityOf (now store) ⌝ }
-    ensures { λ _. ⌜ now (store .exit) ≡ keepIn 0 (leafCell leaf) (now (store .entry)) ⌝ }
+// The words of a leaf, the high one first.
+pub fn leaf_words(leaf: u64) -> [u32; 2]
+    ensures { λ r. ⌜ r ≡ leafCell leaf ⌝ }
 {
-    let words = [(leaf / HIGH_WORD) as u32, (leaf % HIGH_WORD) as u32];
-    keep(store, 0, &words);
-}
-
-// One more cell in list k, k not 0.
-pub fn keep_cell(store: &mut [u32], k: u32, cell: [u32; 8])
-    requires { ⌜ T (headerOk (now store)) ⌝ }
-    requires { ⌜ (1 ≤ k) × (k < heights) ⌝ }
-    requires { ⌜ keptCount (now store) k < capacityOf (now store) ⌝ }
-    ensures { λ _. ⌜ now (store .exit) ≡ keepIn k cell (now (store .entry)) ⌝ }
-{
-    keep(store, k, &cell);
+    [(leaf / HIGH_WORD) as u32, (leaf % HIGH_WORD) as u32]
 }
 
 // One more scene.
