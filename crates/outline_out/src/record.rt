@@ -6,7 +6,7 @@ ghost use Prim.Native.Nat.{_+_, _≤_, _<_};
 ghost use lib.Bits.{bitXor};
 ghost use lib.Dec.{T, eqb};
 ghost use lib.ListN.{length};
-ghost use Rattle.paper.specs.Numbers.{bitFor, bytes};
+ghost use Rattle.paper.specs.Numbers.{bitFor};
 ghost use Rattle.paper.specs.Store.{heights, keptCount, keptOf, anyBad, storeOk};
 ghost use Rattle.numbers.specs.Laid.{reached, writing};
 ghost use Rattle.outline_out.specs.Record.{maskAt, childrenAt, recordAt};

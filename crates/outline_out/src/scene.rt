@@ -4,7 +4,7 @@ ghost use mathlib.Core.List.{[], _∷_};
 ghost use Prim.Native.Nat.{_^_, _≤_, _<_, min};
 ghost use lib.Dec.{T};
 ghost use lib.ListN.{length};
-ghost use Rattle.paper.specs.Outline.{outlineHead, longest};
+ghost use Rattle.paper.specs.Outline.{longest};
 ghost use Rattle.paper.specs.Store.{scenesHeld, storeOk};
 ghost use Rattle.paper.specs.Answers.{outcome, written};
 ghost use Rattle.paper.specs.Calls.{outlineOutcome};

@@ -1,4 +1,4 @@
--- The laws of placing: rooms in scratch, codes as digits, places found one behind the other.
+-- Laws that belong to no one function: rooms in scratch, codes as digits, places found one behind the other.
 pub mod Bounds
 pub mod Codes
 pub mod Placings

@@ -4,7 +4,7 @@ ghost use mathlib.Core.Path.{_≡_};
 ghost use Prim.Native.Nat.{ℕ, _+_, _*_, _≤_, _<_};
 ghost use lib.Dec.{T};
 ghost use lib.ListN.{getD};
-ghost use Rattle.paper.specs.Store.{mostCapacity, heights, capacityOf, keptCount, keptOf, cellNo, storeOk};
+ghost use Rattle.paper.specs.Store.{capacityOf, keptCount, keptOf, cellNo, storeOk};
 ghost use Rattle.paper.specs.Packed.{codeFor};
 ghost use Rattle.paper.specs.Pack.{code};
 ghost use Rattle.numbers.specs.Laid.{reached};

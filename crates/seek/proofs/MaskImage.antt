@@ -11,7 +11,7 @@ use lib.Dec.{T, eqb}
 use lib.ListN.{getD}
 use Rattle.paper.specs.Numbers.{allBelow}
 use Rattle.paper.specs.Leaf.{mirrorLeaf}
-use Rattle.paper.specs.Store.{Cell, tagOf, cellNo}
+use Rattle.paper.specs.Store.{Cell, tagOf}
 use Rattle.paper.specs.Match.{pointerMatch, matches, leafCell}
 use Rattle.laws.proofs.Tests.{all-at, all-T, iff-eq}
 use Rattle.laws.proofs.Lists.{getD-tabulate}

@@ -1,7 +1,7 @@
 // A file's parts written over an output, each behind the other: pointers, records, lists, sizes.
 ghost use mathlib.Core.Path.{_≡_};
 ghost use mathlib.Core.List.{map};
-ghost use Prim.Native.Nat.{ℕ, _+_, _≤_, _<_};
+ghost use Prim.Native.Nat.{ℕ, suc, _+_, _≤_, _<_};
 ghost use lib.Dec.{T};
 ghost use lib.ListN.{length, getD};
 ghost use Rattle.paper.specs.Numbers.{flatten};
@@ -149,31 +149,31 @@ pub fn write_lists(
     requires { ⌜ T (storeOk (now store)) ⌝ }
     requires { ⌜ Room (capacityOf (now store)) top (now scratch) ⌝ }
     requires { ⌜ ((j : ℕ) → j ≤ top → Kept (now store) j (getD counts j 0) (now scratch)) ⌝ }
-    requires { ⌜ at + length (bodyIn (keptOf (now store)) (capacityOf (now store)) counts top (now scratch)) ≤ length (now out) ⌝ }
-    ensures { λ r. ⌜ reached r (now (out .exit)) ≡ writing (bodyIn (keptOf (now (store .entry))) (capacityOf (now (store .entry))) counts top (now (scratch .entry))) at (now (out .entry)) ⌝ }
+    requires { ⌜ at + length (bodyIn (keptOf (now store)) (capacityOf (now store)) counts (suc top) (now scratch)) ≤ length (now out) ⌝ }
+    ensures { λ r. ⌜ reached r (now (out .exit)) ≡ writing (bodyIn (keptOf (now (store .entry))) (capacityOf (now (store .entry))) counts (suc top) (now (scratch .entry))) at (now (out .entry)) ⌝ }
 {
-    let mut k = top;
+    let mut k = top + 1;
     let mut next = at;
     while k != 0 {
-        next = write_list(store, k, counts[k as usize], scratch, out, next);
         k -= 1;
+        next = write_list(store, k, counts[k as usize], scratch, out, next);
     }
-    write_list(store, 0, counts[0], scratch, out, next)
+    next
 }
 
 // Writes the sizes of the lists from list `top` down; answers the position after them.
 pub fn write_sizes(sizes: [u32; 15], top: u32, out: &mut [u8], at: usize) -> usize
     requires { ⌜ top < heights ⌝ }
-    requires { ⌜ at + length (sizesIn sizes top) ≤ length (now out) ⌝ }
-    ensures { λ r. ⌜ reached r (now (out .exit)) ≡ writing (sizesIn sizes top) at (now (out .entry)) ⌝ }
+    requires { ⌜ at + length (sizesIn sizes (suc top)) ≤ length (now out) ⌝ }
+    ensures { λ r. ⌜ reached r (now (out .exit)) ≡ writing (sizesIn sizes (suc top)) at (now (out .entry)) ⌝ }
 {
-    let mut k = top;
+    let mut k = top + 1;
     let mut next = at;
     while k != 0 {
-        next = write_number(out, next, SIZE_BYTES, wider(sizes[k as usize]));
         k -= 1;
+        next = write_number(out, next, SIZE_BYTES, wider(sizes[k as usize]));
     }
-    write_number(out, next, SIZE_BYTES, wider(sizes[0]))
+    next
 }
 
 // The length of a file whose lists have these sizes.

@@ -3,7 +3,6 @@ use mathlib.Core.Path.{ap}
 use Prim.Native.Nat.{ℕ, _<_}
 use native.Mathlib.Omega.{arith}
 use lib.ListN.{length, getD}
-use borrow.Author.Needs.{needs}
 use Rattle.placing.proofs.Bounds.{part-room}
 use Rattle.placing.proofs.word_of.Statement.{statement}
 use Rattle.placing.proofs.word_of.Tie as tie

@@ -2,7 +2,7 @@
 -- Assumes nothing.
 use mathlib.Core.Path.{_≡_, refl, sym, ap₂, _∙_}
 use mathlib.Core.List.{List, _++_}
-use Prim.Native.Nat.{ℕ, _+_, _≤_}
+use Prim.Native.Nat.{ℕ, suc, _+_, _≤_}
 use native.Mathlib.Omega.{arith}
 use lib.ListN.{length, drop}
 use borrow.Author.Needs.{needs}
@@ -125,13 +125,13 @@ abbrev head : tie.After-tag → List ℕ
 head c = headOf (c .before .before .before .file-length .result) (start (placed c) .args .top + 2) (c .tag .result)
 
 abbrev sizes : tie.After-tag → List ℕ
-sizes c = let p = placed c in sizesIn (p .place-lists .result) (start p .args .top)
+sizes c = let p = placed c in sizesIn (p .place-lists .result) (suc (start p .args .top))
 
 abbrev lists : tie.After-tag → List ℕ
 lists c =
     let p = placed c in
     let a = start p .args in
-    bodyIn (keptOf (a .store .now)) (capacityOf (a .store .now)) (earlier p .order-lists .result) (a .top) (scratch p)
+    bodyIn (keptOf (a .store .now)) (capacityOf (a .store .now)) (earlier p .order-lists .result) (suc (a .top)) (scratch p)
 
 whole : (c : tie.After-tag) → file (start (placed c)) ≡ head c ++ (sizes c ++ lists c)
 whole c =
