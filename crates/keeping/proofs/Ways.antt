@@ -2,12 +2,14 @@
 -- Each by the values of the words read before, which the definition reads. Assumes nothing.
 use mathlib.Core.Path.{_≡_, refl, ap, ap₂, _∙_}
 use mathlib.Core.List.{List, [], _∷_}
-use Prim.Native.Nat.{ℕ, suc, _+_, _-_, _*_, _/_, _%_, _^_, _≤_}
+use Prim.Native.Nat.{ℕ, zero, suc, _+_, _-_, _*_, _<_, _≤_}
+use native.Mathlib.Nat.{not-suc-le-zero, mul-le-mul-left}
 use native.Mathlib.Numerals.{add-one}
+use native.Mathlib.Omega.{arith}
 use lib.ListN.{getD, set, replicate}
 use lib.Seq.{sets}
-use Rattle.paper.specs.Store.{Cell, heights, capacityOf, scenesHeld, keptCount, scenePlace, cellWords, cellPlace}
-use Rattle.paper.specs.Match.{leafCell}
+use Rattle.paper.specs.Store.{Cell, heights, used, capacityOf, scenesHeld, keptCount, scenePlace, cellWords, cellPlace}
+use Rattle.laws.proofs.Words.{list-in}
 use Rattle.keeping.specs.Keeping.{keepIn, holdIn, cutList, cutLists, cutBack}
 use Rattle.store.proofs.Places.{place-between}
 
@@ -21,18 +23,21 @@ module _ (ws : List ℕ) (k n C at : ℕ) (counted : n ≡ keptCount ws k) (size
       (e ∙ ap (set ws (2 + k)) (add-one n ∙ ap suc counted))
       (placed ∙ ap₂ (λ (D q : ℕ). cellPlace D k q) sized counted)
 
-pub leaf-kept : (ws : List ℕ) (n C at leaf : ℕ) → n ≡ keptCount ws 0 → C ≡ capacityOf ws → at ≡ cellPlace C 0 n → (l : List ℕ) → l ≡ set ws 2 (n + 1)
-    → set (set l at (leaf / 2 ^ 32)) (at + 1) (leaf % 2 ^ 32) ≡ keepIn 0 (leafCell leaf) ws
-leaf-kept ws n C at leaf counted sized placed l e =
-    ap (λ (i : ℕ). set (set l at (leaf / 2 ^ 32)) i (leaf % 2 ^ 32)) (add-one at) ∙ cell-kept ws 0 n C at counted sized placed l (leafCell leaf) e
+-- one more cell has room in its list
+pub cell-room : (C k n : ℕ) → k < heights → n < C → cellPlace C k n + cellWords k ≤ used C
+cell-room C k n h l = omega (arith, list-in C k h, mul-le-mul-left (cellWords k) l)
+
+-- a cell of a list that is not the leaves' has eight words
+pub eight-words : (k : ℕ) → 1 ≤ k → 8 ≡ cellWords k
+eight-words zero h = absurd (not-suc-le-zero h)
+eight-words (suc k) h = refl
 
 -- ---- a scene more
 
-pub scene-held : (ws : List ℕ) (n at d r : ℕ) → n ≡ scenesHeld ws → at ≡ scenePlace n → set (set (set ws 1 (n + 1)) at d) (at + 1) r ≡ holdIn (d ∷ r ∷ []) ws
+pub scene-held : (ws : List ℕ) (n at d r : ℕ) → n ≡ scenesHeld ws → at ≡ scenePlace n → sets (set ws 1 (n + 1)) at (d ∷ r ∷ []) ≡ holdIn (d ∷ r ∷ []) ws
 unfolding holdIn
 scene-held ws n at d r held placed =
-    ap (λ (i : ℕ). set (set (set ws 1 (n + 1)) at d) i r) (add-one at)
-    ∙ ap₂ (λ (m : List ℕ) (i : ℕ). sets m i (d ∷ r ∷ [])) (ap (set ws 1) (add-one n ∙ ap suc held)) (placed ∙ ap scenePlace held)
+    ap₂ (λ (m : List ℕ) (i : ℕ). sets m i (d ∷ r ∷ [])) (ap (set ws 1) (add-one n ∙ ap suc held)) (placed ∙ ap scenePlace held)
 
 -- ---- list k back to n of its m cells, which end at `end`
 

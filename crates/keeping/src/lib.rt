@@ -6,10 +6,9 @@ ghost use lib.Dec.{T};
 ghost use lib.ListN.{length, getD, set};
 ghost use lib.Seq.{sets};
 ghost use Rattle.paper.specs.Numbers.{tabulate};
-ghost use Rattle.paper.specs.Store.{mostScenes, heights, capacityOf, scenesHeld, keptCount, headerOk};
+ghost use Rattle.paper.specs.Store.{mostScenes, heights, capacityOf, scenesHeld, keptCount, cellWords, headerOk};
 ghost use Rattle.paper.specs.Match.{leafCell};
 ghost use Rattle.keeping.specs.Keeping.{keepIn, holdIn, cutList, cutBack};
-use store::CELL_WORDS;
 use store::FIRST_COUNT;
 use store::HEIGHTS;
 use store::HIGH_WORD;
@@ -32,42 +31,36 @@ fn set_count(store: &mut [u32], k: u32, count: u32)
     store[(FIRST_COUNT + k) as usize] = count;
 }
 
-// One more leaf, its high word first.
-pub fn keep_leaf(store: &mut [u32], leaf: u64)
-    requires { ⌜ T (headerOk (now store)) ⌝ }
-    requires { ⌜ keptCount (now store) 0 < capacityOf (now store) ⌝ }
-    ensures { λ _. ⌜ now (store .exit) ≡ keepIn 0 (leafCell leaf) (now (store .entry)) ⌝ }
-{
-    let count = kept_count(store, 0);
-    let at = cell_place(capacity(store), 0, count);
-    set_count(store, 0, count + 1);
-    store[at] = (leaf / HIGH_WORD) as u32;
-    store[at + 1] = (leaf % HIGH_WORD) as u32;
-}
-
-// Eight words in place of those from `at` on.
-fn put_cell(store: &mut [u32], at: usize, cell: [u32; 8])
-    requires { ⌜ at + 8 ≤ length (now store) ⌝ }
-    ensures { λ _. ⌜ now (store .exit) ≡ sets (now (store .entry)) at cell ⌝ }
+// These words in place of those from `at` on.
+fn put_words(store: &mut [u32], at: usize, words: &[u32])
+    requires { ⌜ at + length (now words) ≤ length (now store) ⌝ }
+    ensures { λ _. ⌜ now (store .exit) ≡ sets (now (store .entry)) at (now (words .entry)) ⌝ }
 {
     let mut i = 0;
-    while i < CELL_WORDS {
-        store[at + i] = cell[i];
+    while i < words.len() {
+        store[at + i] = words[i];
         i += 1;
     }
 }
 
-// One more cell in list k, k not 0.
-pub fn keep_cell(store: &mut [u32], k: u32, cell: [u32; 8])
+// One more cell in list k, of these words.
+pub fn keep(store: &mut [u32], k: u32, cell: &[u32])
     requires { ⌜ T (headerOk (now store)) ⌝ }
-    requires { ⌜ (1 ≤ k) × (k < heights) ⌝ }
+    requires { ⌜ (k < heights) × (length (now cell) ≡ cellWords k) ⌝ }
     requires { ⌜ keptCount (now store) k < capacityOf (now store) ⌝ }
-    ensures { λ _. ⌜ now (store .exit) ≡ keepIn k cell (now (store .entry)) ⌝ }
+    ensures { λ _. ⌜ now (store .exit) ≡ keepIn k (now (cell .entry)) (now (store .entry)) ⌝ }
 {
     let count = kept_count(store, k);
     let at = cell_place(capacity(store), k, count);
     set_count(store, k, count + 1);
-    put_cell(store, at, cell);
+    put_words(store, at, cell);
+}
+
+// The words of a leaf, the high one first.
+pub fn leaf_words(leaf: u64) -> [u32; 2]
+    ensures { λ r. ⌜ r ≡ leafCell leaf ⌝ }
+{
+    [(leaf / HIGH_WORD) as u32, (leaf % HIGH_WORD) as u32]
 }
 
 // One more scene.
@@ -79,8 +72,8 @@ pub fn hold_scene(store: &mut [u32], depth: u32, root: u32)
     let held = scenes_held(store);
     let at = scene_place(held);
     store[SCENES_HELD] = held + 1;
-    store[at] = depth;
-    store[at + 1] = root;
+    let words = [depth, root];
+    put_words(store, at, &words);
 }
 
 // How many cells each list keeps.

@@ -1,14 +1,12 @@
--- The half-words and bytes of pointers, records and lists: their bounds and lengths, and a record's width and header from its last pointer up. By
--- the clauses of the definitions. Assumes nothing.
+-- The half-words and bytes of pointers, records and lists: their bounds and lengths. By the clauses of the definitions. Assumes nothing.
 use mathlib.Core.Path.{_≡_, refl, sym, ap, _∙_}
 use mathlib.Core.Bool.{Bool, true, false, cond}
 use mathlib.Core.List.{List, [], _∷_, map}
 use Prim.Native.Nat.{ℕ, zero, suc, _+_, _-_, _*_, _^_, _<_, _≤_}
-use native.Mathlib.Nat.{pow-le-pow-right, pow-succ'}
+use native.Mathlib.Nat.{pow-succ'}
 use native.Mathlib.Omega.{arith}
 use lib.Dec.{eqb, leb, lit<}
-use lib.ListN.{length, getD, drop, length-append}
-use lib.Seq.{drop-cons, drop-length}
+use lib.ListN.{length, getD, length-append}
 use borrow.Author.Tests.{le-leb, lt-leb, eq-eqb, ne-eqb}
 use Rattle.paper.specs.Numbers.{bytes, flatten}
 use Rattle.paper.specs.Store.{Cell, tagOf}
@@ -108,9 +106,6 @@ module _ (ps : List ℕ) where
   header-pos (p ∷ c) zero n = omega (arith, code-pos ps p n)
   header-pos (p ∷ c) (suc i) n = omega (arith, header-pos c i n)
 
-  pub header-small : (c : Cell) → length c ≤ 8 → header ps c < 65536
-  header-small c h = let most : 4 ^ length c ≤ 4 ^ 8 = pow-le-pow-right (lit< tt) h in omega (arith, header-lt c)
-
   pointers-length : (c : Cell) → length (flatten (map (pointerBytes ps) c)) + 2 ≡ 2 * width ps c
   unfolding flatten width
   pointers-length [] = refl
@@ -121,27 +116,6 @@ module _ (ps : List ℕ) where
   unfolding recordBytes
   record-length c =
       length-append (bytes 2 (header ps c)) (flatten (map (pointerBytes ps) c)) ∙ omega (arith, bytes-length 2 (header ps c), pointers-length c)
-
-  -- from the last pointer up
-  module _ (c : Cell) (eight : length c ≡ 8) where
-    none-left : drop 8 c ≡ []
-    none-left = ap (λ (n : ℕ). drop n c) (sym eight) ∙ drop-length c
-
-    pub width-none : width ps (drop 8 c) ≡ 1
-    unfolding width
-    width-none = ap (width ps) none-left
-
-    pub header-none : header ps (drop 8 c) ≡ 0
-    unfolding header
-    header-none = ap (header ps) none-left
-
-    pub width-down : (i : ℕ) → i < 8 → width ps (drop i c) ≡ code ps (getD c i 0) + width ps (drop (suc i) c)
-    unfolding width
-    width-down i h = ap (width ps) (drop-cons c i 0 (rw eight h))
-
-    pub header-down : (i : ℕ) → i < 8 → header ps (drop i c) ≡ code ps (getD c i 0) + 4 * header ps (drop (suc i) c)
-    unfolding header
-    header-down i h = ap (header ps) (drop-cons c i 0 (rw eight h))
 
 -- ---- a list
 

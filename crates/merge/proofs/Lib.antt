@@ -1,4 +1,4 @@
--- Laws that belong to no one function.
+-- Laws that belong to no one function: a file's records taken, what stays as it was, and the call.
 -- taking a file's records
 pub mod Ways
 pub mod Lasting

@@ -13,7 +13,7 @@ use crate::record::take_record;
 use keeping::counts;
 use keeping::cut_back;
 use keeping::hold_scene;
-use outline::HEAD;
+use limits::OUTLINE_HEAD;
 use outline::depth;
 use outline::refusal;
 use paper::Added;
@@ -45,10 +45,10 @@ fn take_root(file: &[u8], store: &mut [u32]) -> Taken
     requires { ⌜ T (headerOk (now store)) ⌝ }
     ensures { λ r. ⌜ taking r (now (store .exit)) ≡ takeRoot (now (file .entry)) (now (store .entry)) ⌝ }
 {
-    if file.len() == HEAD {
-        return Taken::At(HEAD, 0, 0);
+    if file.len() == OUTLINE_HEAD {
+        return Taken::At(OUTLINE_HEAD, 0, 0);
     }
-    take_record(file, store, HEAD, depth(file))
+    take_record(file, store, OUTLINE_HEAD, depth(file))
 }
 
 // The scene of a file that breaks no rule, in a store that can hold one more: its cells, then its two words. Where a

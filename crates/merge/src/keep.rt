@@ -3,11 +3,11 @@ ghost use mathlib.Core.Path.{_≡_};
 ghost use mathlib.Core.Bool.{not};
 ghost use Prim.Native.Nat.{_≤_, _<_};
 ghost use lib.Dec.{T, ltb};
-ghost use Rattle.paper.specs.Store.{heights, capacityOf, keptCount, headerOk, pointer as paperPointer};
-ghost use Rattle.paper.specs.Match.{leafCell};
+ghost use lib.ListN.{length};
+ghost use Rattle.paper.specs.Store.{heights, capacityOf, keptCount, cellWords, headerOk, pointer as paperPointer};
 ghost use Rattle.merge.specs.Seeking.{placing, keptWith, seekLeaf, seekCell};
-use keeping::keep_cell;
-use keeping::keep_leaf;
+use keeping::keep;
+use keeping::leaf_words;
 use leaf::leaf_mask;
 use seek::Sought;
 use seek::cell_mask;
@@ -41,30 +41,17 @@ fn next_pointer(store: &[u32], k: u32) -> u32
     pointer(0, kept_count(store, k))
 }
 
-// A leaf that is nowhere is kept, if there is room.
-fn place_leaf(store: &mut [u32], leaf: u64, mask: u8) -> Placed
+// A cell of list k, of these words, that is nowhere is kept, if there is room.
+fn place(store: &mut [u32], k: u32, cell: &[u32], mask: u8) -> Placed
     requires { ⌜ T (headerOk (now store)) ⌝ }
-    ensures { λ r. ⌜ placing r (now (store .exit)) ≡ keptWith mask 0 (leafCell leaf) (now (store .entry)) ⌝ }
-{
-    if no_room(store, 0) {
-        return Placed::Full;
-    }
-    let p = next_pointer(store, 0);
-    keep_leaf(store, leaf);
-    Placed::At(p, mask)
-}
-
-// A cell of list k that is nowhere is kept, if there is room.
-fn place_cell(store: &mut [u32], k: u32, cell: [u32; 8], mask: u8) -> Placed
-    requires { ⌜ T (headerOk (now store)) ⌝ }
-    requires { ⌜ (1 ≤ k) × (k < heights) ⌝ }
-    ensures { λ r. ⌜ placing r (now (store .exit)) ≡ keptWith mask k cell (now (store .entry)) ⌝ }
+    requires { ⌜ (k < heights) × (length (now cell) ≡ cellWords k) ⌝ }
+    ensures { λ r. ⌜ placing r (now (store .exit)) ≡ keptWith mask k (now (cell .entry)) (now (store .entry)) ⌝ }
 {
     if no_room(store, k) {
         return Placed::Full;
     }
     let p = next_pointer(store, k);
-    keep_cell(store, k, cell);
+    keep(store, k, cell);
     Placed::At(p, mask)
 }
 
@@ -76,7 +63,10 @@ pub fn seek_leaf(store: &mut [u32], leaf: u64) -> Placed
     let mask = leaf_mask(leaf);
     match find_leaf(store, leaf) {
         Sought::At(p) => Placed::At(p, mask),
-        Sought::Nowhere => place_leaf(store, leaf, mask),
+        Sought::Nowhere => {
+            let words = leaf_words(leaf);
+            place(store, 0, &words, mask)
+        }
     }
 }
 
@@ -89,6 +79,6 @@ pub fn seek_cell(store: &mut [u32], k: u32, cell: [u32; 8], masks: [u8; 8]) -> P
     let mask = cell_mask(cell, masks);
     match find_cell(store, k, cell, masks) {
         Sought::At(p) => Placed::At(p, mask),
-        Sought::Nowhere => place_cell(store, k, cell, mask),
+        Sought::Nowhere => place(store, k, &cell, mask),
     }
 }

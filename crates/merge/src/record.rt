@@ -12,8 +12,10 @@ ghost use Rattle.merge.specs.Taking.{taking, endingAt, takeChildren, tak
 use crate::keep::Placed;
 use crate::keep::seek_cell;
 use crate::keep::seek_leaf;
+use limits::CHILDREN;
+use limits::LEAF_BYTES;
+use limits::LEAF_HEIGHT;
 use numbers::be64;
-use outline::LEAF;
 
 // What taking a record answers: the position after it, the cell's pointer and its mask; or its height is full.
 pub enum Taken {
@@ -38,15 +40,15 @@ pub fn take_record(file: &[u8], store: &mut [u32], at: usize, height: u32) -> Ta
     requires { ⌜ T (headerOk (now store)) ⌝ }
     ensures { λ r. ⌜ taking r (now (store .exit)) ≡ takeRecord (now (file .entry)) (height - 2) at (now (store .entry)) ⌝ }
 {
-    if height == LEAF {
-        return ending_at(at + 8, seek_leaf(store, be64(file, at)));
+    if height == LEAF_HEIGHT {
+        return ending_at(at + LEAF_BYTES, seek_leaf(store, be64(file, at)));
     }
     take_children(
         file,
         store,
         at + 1,
         height - 1,
-        8,
+        CHILDREN,
         file[at],
         [0u32; 8],
         [0u8; 8],
@@ -80,7 +82,7 @@ fn take_children(
     match take_record(file, store, at, height) {
         Taken::Full => Taken::Full,
         Taken::At(next, p, own) => {
-            let place = (8 - left) as usize;
+            let place = (CHILDREN - left) as usize;
             let mut with = cell;
             with[place] = p;
             let mut known = masks;

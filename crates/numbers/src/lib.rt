@@ -1,9 +1,13 @@
-// 'All numbers are big-endian': the numbers that a file's bytes write, and numbers laid over an output.
+// 'All numbers are big-endian': the numbers that a file's bytes write, and numbers laid over an output, and the head that
+// every file begins with.
 ghost use mathlib.Core.Path.{_≡_};
 ghost use Prim.Native.Nat.{_+_, _^_, _≤_, _<_};
 ghost use lib.ListN.{length, drop};
 ghost use Rattle.paper.specs.Numbers.{num, bytes};
-ghost use Rattle.numbers.specs.Laid.{laid};
+ghost use Rattle.numbers.specs.Laid.{laid, reached, writing, headOf};
+use limits::DEPTH_PLACE;
+use limits::LENGTH_BYTES;
+use limits::LENGTH_PLACE;
 
 // A byte as a wider number.
 pub fn wide(x: u8) -> u32
@@ -53,4 +57,24 @@ pub fn put_number(out: &mut [u8], at: usize, n: usize, number: u64)
         out[at + left] = (rest % 256) as u8;
         rest /= 256;
     }
+}
+
+// Writes them so; answers the position after them.
+pub fn write_number(out: &mut [u8], at: usize, n: usize, number: u64) -> usize
+    requires { ⌜ at + n ≤ length (now out) ⌝ }
+    ensures { λ r. ⌜ reached r (now (out .exit)) ≡ writing (bytes n number) at (now (out .entry)) ⌝ }
+{
+    put_number(out, at, n, number);
+    at + n
+}
+
+// Writes a file's version byte, length and depth; answers the position after them.
+pub fn write_head(out: &mut [u8], front: u8, total: u64, depth: u32) -> usize
+    requires { ⌜ (6 ≤ length (now out)) × (depth < 256) ⌝ }
+    ensures { λ r. ⌜ reached r (now (out .exit)) ≡ writing (headOf front total depth) 0 (now (out .entry)) ⌝ }
+{
+    out[0] = front;
+    put_number(out, LENGTH_PLACE, LENGTH_BYTES, total);
+    out[DEPTH_PLACE] = depth as u8;
+    DEPTH_PLACE + 1
 }

@@ -1,4 +1,4 @@
--- words, tallies, buckets; counting what is named; one list, then all
+-- Laws that belong to no one function: words, tallies, buckets; counting what is named; one list, then all.
 pub mod OrderWords
 pub mod OrderTally
 pub mod OrderBuckets

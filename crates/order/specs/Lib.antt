@@ -1,3 +1,3 @@
--- the scratch, and the order in it
+-- Definitions that the contracts cite: the scratch, and the order in it.
 pub mod Scratch
 pub mod OrderParts

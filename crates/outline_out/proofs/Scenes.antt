@@ -2,22 +2,20 @@
 -- and whether the root is there. Assumes nothing.
 use mathlib.Core.Path.{_≡_, sym, ap, _∙_}
 use mathlib.Core.Bool.{Bool, false, cond}
-use mathlib.Core.List.{List, [], _∷_, _++_, append-nil}
-use Prim.Native.Nat.{ℕ, suc, _+_, _-_, _≤_, _<_}
+use mathlib.Core.List.{List, [], _++_, append-nil}
+use Prim.Native.Nat.{ℕ, _+_, _-_, _≤_, _<_}
 use native.Mathlib.Omega.{arith}
 use lib.Dec.{T}
-use lib.ListN.{length, set, length-append}
+use lib.ListN.{length, length-append}
 use borrow.Author.Tests.{eq-eqb, ne-eqb}
-use Rattle.paper.specs.Numbers.{bytes}
 use Rattle.paper.specs.Rooms.{least, deepest}
 use Rattle.paper.specs.Outline.{outlineFront, outlineHead}
 use Rattle.paper.specs.Store.{Cell, mostScenes, scenesHeld, keptCount, tagOf, cellNo, badPointer, sceneDepth, sceneRoot, storeOk}
-use Rattle.laws.proofs.Bytes.{bytes-length}
 use Rattle.laws.proofs.StoreFacts.{store-header, scene-sound, tag-lt, names-kept, depth-range}
 use Rattle.store.proofs.HeaderFacts.{header}
-use Rattle.numbers.specs.Laid.{laid, reached, writing}
-use Rattle.outline_out.specs.Record.{recordAt, measureAt, headOf, rootAt, fileAt}
-use Rattle.numbers.proofs.Laying.{writing-one, writing-number, writing-then, reached-length}
+use Rattle.numbers.specs.Laid.{headOf}
+use Rattle.outline_out.specs.Record.{recordAt, measureAt, rootAt, fileAt}
+use Rattle.numbers.proofs.Laying.{head-length}
 use Rattle.outline_out.proofs.Pointers.{record-length}
 
 -- ---- a scene held
@@ -45,31 +43,16 @@ root-kept ws n p q h e z f = rw (f, e) (names-kept (keptCount ws (sceneDepth ws 
 
 -- ---- its file
 
-pub head-length : (n D : ℕ) → length (headOf n D) ≡ outlineHead
-head-length n D = ap suc (length-append (bytes 4 n) (D ∷ []) ∙ ap (λ (x : ℕ). x + 1) (bytes-length 4 n))
-
--- the header written: the front byte, the length, the depth
-pub head-written : (total D : ℕ) (l l′ : List ℕ) → outlineHead ≤ length l → l′ ≡ laid (bytes 4 total) 1 (set l 0 outlineFront)
-    → reached 6 (set l′ 5 D) ≡ writing (headOf total D) 0 l
-head-written total D l l′ h e =
-    let one : reached 1 (set l 0 outlineFront) ≡ writing (outlineFront ∷ []) 0 l = writing-one outlineFront 0 l (omega arith) in
-    let front : List ℕ = outlineFront ∷ bytes 4 total in
-    let five : reached 5 l′ ≡ writing front 0 l =
-    writing-number 4 total 1 (set l 0 outlineFront) l′ e ∙ writing-then (outlineFront ∷ []) 0 1 l (set l 0 outlineFront) one (bytes 4 total) (omega arith) in
-    let fits : 0 + length front ≤ length l = omega (arith, bytes-length 4 total) in
-    let long : length l′ ≡ length l = reached-length front 0 5 l l′ five fits in
-    writing-one D 5 l′ (omega arith) ∙ writing-then front 0 5 l l′ five (D ∷ []) fits
-
 module _ (K : List (List Cell)) (D p : ℕ) where
   long : length (fileAt K D p) ≡ outlineHead + length (rootAt K D p)
   unfolding fileAt
   long =
-      length-append (headOf (outlineHead + length (rootAt K D p)) D) (rootAt K D p)
-      ∙ ap (λ (x : ℕ). x + length (rootAt K D p)) (head-length (outlineHead + length (rootAt K D p)) D)
+      length-append (headOf outlineFront (outlineHead + length (rootAt K D p)) D) (rootAt K D p)
+      ∙ ap (λ (x : ℕ). x + length (rootAt K D p)) (head-length outlineFront (outlineHead + length (rootAt K D p)) D)
 
-  parts : fileAt K D p ≡ headOf (length (fileAt K D p)) D ++ rootAt K D p
+  parts : fileAt K D p ≡ headOf outlineFront (length (fileAt K D p)) D ++ rootAt K D p
   unfolding fileAt
-  parts = ap (λ (n : ℕ). headOf n D ++ rootAt K D p) (sym long)
+  parts = ap (λ (n : ℕ). headOf outlineFront n D ++ rootAt K D p) (sym long)
 
   root-none : p ≡ 0 → rootAt K D p ≡ []
   unfolding rootAt
@@ -83,15 +66,15 @@ module _ (K : List (List Cell)) (D p : ℕ) where
   pub none-length : p ≡ 0 → length (fileAt K D p) ≡ outlineHead
   none-length e = long ∙ ap (λ (l : List ℕ). outlineHead + length l) (root-none e)
 
-  pub none-file : p ≡ 0 → headOf (length (fileAt K D p)) D ≡ fileAt K D p
-  none-file e = sym (append-nil (headOf (length (fileAt K D p)) D)) ∙ ap (λ (l : List ℕ). headOf (length (fileAt K D p)) D ++ l) (sym (root-none e)) ∙ sym parts
+  pub none-file : p ≡ 0 → headOf outlineFront (length (fileAt K D p)) D ≡ fileAt K D p
+  none-file e = sym (append-nil (headOf outlineFront (length (fileAt K D p)) D)) ∙ ap (λ (l : List ℕ). headOf outlineFront (length (fileAt K D p)) D ++ l) (sym (root-none e)) ∙ sym parts
 
   -- a root: its record follows
   pub there-length : (p ≡ 0 → ⊥) → length (fileAt K D p) ≡ outlineHead + measureAt K (D - 2) (cellNo p)
   there-length z = long ∙ ap (λ (n : ℕ). outlineHead + n) (ap length (root-there z) ∙ record-length K (D - 2) (cellNo p) (tagOf p) (tag-lt p))
 
-  pub there-file : (p ≡ 0 → ⊥) → headOf (length (fileAt K D p)) D ++ recordAt K (D - 2) (cellNo p) (tagOf p) ≡ fileAt K D p
-  there-file z = ap (λ (l : List ℕ). headOf (length (fileAt K D p)) D ++ l) (sym (root-there z)) ∙ sym parts
+  pub there-file : (p ≡ 0 → ⊥) → headOf outlineFront (length (fileAt K D p)) D ++ recordAt K (D - 2) (cellNo p) (tagOf p) ≡ fileAt K D p
+  there-file z = ap (λ (l : List ℕ). headOf outlineFront (length (fileAt K D p)) D ++ l) (sym (root-there z)) ∙ sym parts
 
   -- the root's record under the names that code has for its parts
   pub root-record : (d q s r : ℕ) → d ≡ D → r ≡ p → q ≡ cellNo r → s ≡ tagOf r → recordAt K (d - 2) q s ≡ recordAt K (D - 2) (cellNo p) (tagOf p)

@@ -11,6 +11,7 @@ use Rattle.paper.specs.Leaf.{mirrorLeaf}
 use Rattle.paper.specs.Outline.{outlineFront, outlineHead}
 use Rattle.paper.specs.Store.{Cell, cellAt, tagOf, cellNo, leafNo}
 use Rattle.paper.specs.Calls.{ofScene}
+use Rattle.numbers.specs.Laid.{headOf}
 
 -- the pointer of child i of a cell seen under m
 abbrev pub pointerAt : Cell → ℕ → ℕ → ℕ
@@ -48,16 +49,12 @@ measureAt K (suc k) n = suc (childrenMeasure (measureAt K k) (cellAt K (suc k) n
 
 -- ---- the file
 
--- the header of a file of this length and depth
-abbrev pub headOf : ℕ → ℕ → List ℕ
-headOf n D = outlineFront ∷ bytes 4 n ++ (D ∷ [])
-
 -- the root's record, or nothing
 unfoldable pub rootAt : List (List Cell) → ℕ → ℕ → List ℕ
 rootAt K D p = let b : List ℕ = recordAt K (D - 2) (cellNo p) (tagOf p) in cond (eqb p 0) [] b
 
 unfoldable pub fileAt : List (List Cell) → ℕ → ℕ → List ℕ
-fileAt K D p = headOf (outlineHead + length (rootAt K D p)) D ++ rootAt K D p
+fileAt K D p = headOf outlineFront (outlineHead + length (rootAt K D p)) D ++ rootAt K D p
 
 -- the outline of a scene
 abbrev pub sceneFile : List ℕ → ℕ → List ℕ

@@ -7,8 +7,8 @@ ghost use lib.Dec.{T};
 ghost use Rattle.paper.specs.Store.{heights, keptCount, keptOf, anyBad, storeOk};
 ghost use Rattle.outline_out.specs.Limit.{upTo};
 ghost use Rattle.outline_out.specs.Record.{measureAt, childrenMeasure};
-use crate::record::CHILDREN;
-use crate::record::LEAF_BYTES;
+use limits::CHILDREN;
+use limits::LEAF_BYTES;
 use store::cell_at;
 use store::cell_number;
 

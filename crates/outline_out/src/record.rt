@@ -6,22 +6,18 @@ ghost use Prim.Native.Nat.{_+_, _≤_, _<_};
 ghost use lib.Bits.{bitXor};
 ghost use lib.Dec.{T, eqb};
 ghost use lib.ListN.{length};
-ghost use Rattle.paper.specs.Numbers.{bitFor, bytes};
+ghost use Rattle.paper.specs.Numbers.{bitFor};
 ghost use Rattle.paper.specs.Store.{heights, keptCount, keptOf, anyBad, storeOk};
 ghost use Rattle.numbers.specs.Laid.{reached, writing};
 ghost use Rattle.outline_out.specs.Record.{maskAt, childrenAt, recordAt};
 use leaf::mirror_leaf;
-use numbers::put_number;
+use limits::CHILDREN;
+use limits::LEAF_BYTES;
+use numbers::write_number;
 use store::cell_at;
 use store::cell_number;
 use store::leaf_at;
 use store::tag;
-
-// A cell's children.
-pub const CHILDREN: u32 = 8;
-
-// The bytes of a leaf's record.
-pub const LEAF_BYTES: usize = 8;
 
 // A child's number, or its tag, under a mirror besides: their exclusive or.
 fn turned(x: u32, mirror: u32) -> u32
@@ -53,15 +49,6 @@ fn mask(cell: [u32; 8], mirror: u32) -> u8
     bits
 }
 
-// Writes a leaf; answers the position after it.
-fn write_leaf(out: &mut [u8], at: usize, leaf: u64) -> usize
-    requires { ⌜ at + 8 ≤ length (now out) ⌝ }
-    ensures { λ r. ⌜ reached r (now (out .exit)) ≡ writing (bytes 8 leaf) at (now (out .entry)) ⌝ }
-{
-    put_number(out, at, LEAF_BYTES, leaf);
-    at + LEAF_BYTES
-}
-
 // Writes the record of cell n of list k seen under a mirror; answers the position after it.
 pub fn write_record(store: &[u32], k: u32, n: u32, mirror: u32, out: &mut [u8], at: usize) -> usize
     requires { ⌜ T (storeOk (now store)) ⌝ }
@@ -70,7 +57,7 @@ pub fn write_record(store: &[u32], k: u32, n: u32, mirror: u32, out: &mut [u8], 
     ensures { λ r. ⌜ reached r (now (out .exit)) ≡ writing (recordAt (keptOf (now (store .entry))) k n mirror) at (now (out .entry)) ⌝ }
 {
     if k == 0 {
-        return write_leaf(out, at, mirror_leaf(leaf_at(store, n), mirror));
+        return write_number(out, at, LEAF_BYTES, mirror_leaf(leaf_at(store, n), mirror));
     }
     let cell = cell_at(store, k, n);
     out[at] = mask(cell, mirror);

@@ -4,16 +4,19 @@ ghost use mathlib.Core.List.{[], _∷_};
 ghost use Prim.Native.Nat.{_^_, _≤_, _<_, min};
 ghost use lib.Dec.{T};
 ghost use lib.ListN.{length};
-ghost use Rattle.paper.specs.Outline.{outlineHead, longest};
+ghost use Rattle.paper.specs.Outline.{longest};
 ghost use Rattle.paper.specs.Store.{scenesHeld, storeOk};
 ghost use Rattle.paper.specs.Answers.{outcome, written};
 ghost use Rattle.paper.specs.Calls.{outlineOutcome};
 ghost use Rattle.numbers.specs.Laid.{reached, writing};
 ghost use Rattle.outline_out.specs.Limit.{upTo};
-ghost use Rattle.outline_out.specs.Record.{headOf, sceneFile};
+ghost use Rattle.outline_out.specs.Record.{sceneFile};
 use crate::measure::measure;
 use crate::record::write_record;
-use numbers::put_number;
+use limits::LEAF_HEIGHT;
+use limits::OUTLINE_FRONT;
+use limits::OUTLINE_HEAD;
+use numbers::write_head;
 use paper::Refusal;
 use paper::Written;
 use store::cell_number;
@@ -23,23 +26,11 @@ use store::scenes_held;
 use store::store_bad;
 use store::tag;
 
-// The front byte.
-const FRONT: u8 = 0x11;
-
-// The bytes of the header: front, length and depth; where the length lies, its bytes, and where the depth lies.
-const HEAD: u64 = 6;
-
-const LENGTH_PLACE: usize = 1;
-
-const LENGTH_BYTES: usize = 4;
-
-const DEPTH_PLACE: usize = 5;
+// The bytes before the root's record.
+const HEAD: u64 = OUTLINE_HEAD as u64;
 
 // The greatest length that four bytes write.
 const LONGEST: u64 = 4294967295;
-
-// List k has the cells of height k + 2.
-const LEAF_HEIGHT: u32 = 2;
 
 // The longest file that an output of so many bytes takes.
 fn most(bytes: usize) -> u64
@@ -69,18 +60,6 @@ fn measure_scene(store: &[u32], scene: u32, limit: u64) -> u64
     HEAD + measure(store, k, cell_number(root), limit - HEAD)
 }
 
-// Writes the header of a file of this length; answers the position after it.
-fn write_head(out: &mut [u8], total: u64, depth: u32) -> usize
-    requires { ⌜ outlineHead ≤ length (now out) ⌝ }
-    requires { ⌜ depth < 256 ⌝ }
-    ensures { λ r. ⌜ reached r (now (out .exit)) ≡ writing (headOf total depth) 0 (now (out .entry)) ⌝ }
-{
-    out[0] = FRONT;
-    put_number(out, LENGTH_PLACE, LENGTH_BYTES, total);
-    out[DEPTH_PLACE] = depth as u8;
-    DEPTH_PLACE + 1
-}
-
 // Writes a scene's file, which has this length; answers the position after it.
 fn write_scene(store: &[u32], scene: u32, total: u64, out: &mut [u8]) -> usize
     requires { ⌜ T (storeOk (now store)) ⌝ }
@@ -91,7 +70,7 @@ fn write_scene(store: &[u32], scene: u32, total: u64, out: &mut [u8]) -> usize
 {
     let depth = scene_depth(store, scene);
     let root = scene_root(store, scene);
-    let at = write_head(out, total, depth);
+    let at = write_head(out, OUTLINE_FRONT, total, depth);
     if root == 0 {
         return at;
     }

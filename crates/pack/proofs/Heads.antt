@@ -1,15 +1,18 @@
--- A file's header: its length, and that it is written byte behind byte. By the law of two writers. Assumes nothing.
+-- A packed file's header: its length, and that it is written with the mirror behind what every file begins with. By the law of two writers.
+-- Assumes nothing.
 use mathlib.Core.Path.{_≡_, refl, ap, _∙_}
-use mathlib.Core.List.{List, [], _∷_, _++_, append-assoc}
-use Prim.Native.Nat.{ℕ, suc, _+_, _≤_}
+use mathlib.Core.List.{List, [], _∷_, append-assoc}
+use Prim.Native.Nat.{ℕ, suc, _+_, _<_, _≤_}
 use native.Mathlib.Omega.{arith}
 use lib.ListN.{length, set, length-append}
 use Rattle.paper.specs.Numbers.{bytes}
 use Rattle.paper.specs.Packed.{packedFront, packedHead}
 use Rattle.paper.specs.Pack.{emptyFile}
 use Rattle.laws.proofs.Bytes.{bytes-length}
-use Rattle.numbers.specs.Laid.{laid, reached, writing}
-use Rattle.numbers.proofs.Laying.{writing-one, writing-number, writing-then, reached-length}
+use Rattle.numbers.specs.Laid.{reached, writing}
+use Rattle.numbers.specs.Laid as file
+use Rattle.numbers.proofs.Laying.{writing-one, writing-then, reached-at, reached-length}
+use Rattle.numbers.proofs.Laying as begin
 use Rattle.writing.specs.Writing.{headOf}
 
 pub head-length : (n D m : ℕ) → length (headOf n D m) ≡ packedHead
@@ -20,19 +23,21 @@ pub empty-head : (D : ℕ) → headOf packedHead D 8 ≡ emptyFile D
 unfolding emptyFile
 empty-head D = refl
 
--- the front byte, the length, the depth, the mirror
-pub head-written : (total D m : ℕ) (l l′ : List ℕ) → packedHead ≤ length l → l′ ≡ laid (bytes 4 total) 1 (set l 0 packedFront)
-    → reached 7 (set (set l′ 5 D) 6 m) ≡ writing (headOf total D m) 0 l
-head-written total D m l l′ h e =
-    let one : reached 1 (set l 0 packedFront) ≡ writing (packedFront ∷ []) 0 l = writing-one packedFront 0 l (omega arith) in
-    let front : List ℕ = packedFront ∷ bytes 4 total in
-    let five : reached 5 l′ ≡ writing front 0 l =
-    writing-number 4 total 1 (set l 0 packedFront) l′ e ∙ writing-then (packedFront ∷ []) 0 1 l (set l 0 packedFront) one (bytes 4 total) (omega arith) in
-    let fits : 0 + length front ≤ length l = omega (arith, bytes-length 4 total) in
-    let long : length l′ ≡ length l = reached-length front 0 5 l l′ five fits in
-    let next : List ℕ = front ++ (D ∷ []) in
-    let six : reached 6 (set l′ 5 D) ≡ writing next 0 l = writing-one D 5 l′ (omega arith) ∙ writing-then front 0 5 l l′ five (D ∷ []) fits in
-    let room : 0 + length next ≤ length l = omega (arith, length-append front (D ∷ []), bytes-length 4 total) in
-    let still : length (set l′ 5 D) ≡ length l = reached-length next 0 6 l (set l′ 5 D) six room in
-    writing-one m 6 (set l′ 5 D) (omega arith) ∙ writing-then next 0 6 l (set l′ 5 D) six (m ∷ []) room
-    ∙ ap (λ (bs : List ℕ). writing bs 0 l) (append-assoc front (D ∷ []) (m ∷ []))
+-- the mirror behind what every file begins with
+module _ (total D at : ℕ) (l l′ : List ℕ) (room : packedHead ≤ length l) (begun : reached at l′ ≡ writing (file.headOf packedFront total D) 0 l) where
+  abbrev first : List ℕ
+  first = file.headOf packedFront total D
+
+  fits : 0 + length first ≤ length l
+  fits = omega (arith, begin.head-length packedFront total D)
+
+  pub mark-at : at ≡ 6
+  mark-at = omega (arith, reached-at first 0 at l l′ begun, begin.head-length packedFront total D)
+
+  pub mark-inside : at < length l′
+  mark-inside = omega (arith, mark-at, reached-length first 0 at l l′ begun fits)
+
+  pub head-marked : (m : ℕ) → reached (at + 1) (set l′ at m) ≡ writing (headOf total D m) 0 l
+  head-marked m =
+      writing-one m at l′ mark-inside ∙ writing-then first 0 at l l′ begun (m ∷ []) fits
+      ∙ ap (λ (bs : List ℕ). writing bs 0 l) (append-assoc (packedFront ∷ bytes 4 total) (D ∷ []) (m ∷ []))

@@ -2,7 +2,7 @@
 -- the sizes are the lists' sizes, and the bytes by both are the file's, fewer than 2^32. By induction from the leaves up. Assumes nothing.
 use mathlib.Core.Path.{_≡_, refl, sym, ap, ap₂, subst, _∙_}
 use mathlib.Core.Bool.{Bool, false, cond}
-use mathlib.Core.List.{List, [], _∷_, _++_, map, append-assoc}
+use mathlib.Core.List.{List, [], _∷_, _++_, map, append-assoc, append-nil}
 use mathlib.Core.Logic.{_⊎_, inl, inr}
 use Prim.Native.Nat.{ℕ, zero, suc, _+_, _-_, _*_, _^_, _<_, _≤_}
 use native.Mathlib.Nat.{zero-add, eq-or-lt-of-le, le-of-suc-le-suc, not-suc-le-zero, mul-le-mul-left, mul-suc}
@@ -42,7 +42,7 @@ pub record Found (ws : List ℕ) (k p : ℕ) (counts s sizes t : List ℕ) : Typ
   pub behind : drop (packScratch (capacityOf ws)) t ≡ drop (packScratch (capacityOf ws)) s
   pub kept : (j : ℕ) → j ≤ k → Kept ws j (getD counts j 0) t
   pub small : fileLength sizes k < 2 ^ 32
-  pub whole : headOf (fileLength sizes k) (k + 2) (tagOf p) ++ (sizesIn sizes k ++ bodyIn (keptOf ws) (capacityOf ws) counts k t) ≡ packedFile (keptOf ws) (k + 2) p
+  pub whole : headOf (fileLength sizes k) (k + 2) (tagOf p) ++ (sizesIn sizes (suc k) ++ bodyIn (keptOf ws) (capacityOf ws) counts (suc k) t) ≡ packedFile (keptOf ws) (k + 2) p
   pub measured : length (packedFile (keptOf ws) (k + 2) p) ≡ fileLength sizes k
 
 -- a place of a list lies before those of the lists above, and inside its part
@@ -191,14 +191,14 @@ module _ (ws : List ℕ) (ok : T (storeOk ws)) (top p : ℕ) (hk : top < heights
       list-bytes-are k h =
           ap (λ (ns : List ℕ). flatten (map (recordIn K C k t) ns)) (order-is k h t (all .before)) ∙ list-is ws ok top p hk some fine k h t (λ j l. all .told j (omega arith)) .bytes-are
 
-      body-is : (k : ℕ) → k ≤ top → bodyIn K C counts k t ≡ body G k
+      body-is : (k : ℕ) → k ≤ top → bodyIn K C counts (suc k) t ≡ body G k
       unfolding bodyIn body
-      body-is zero h = list-bytes-are 0 h
+      body-is zero h = append-nil (listIn K C 0 (getD counts 0 0) t) ∙ list-bytes-are 0 h
       body-is (suc k) h = ap₂ (λ (x y : List ℕ). x ++ y) (list-bytes-are (suc k) h) (body-is k (omega arith))
 
-      sizes-are : (k : ℕ) → k ≤ top → sizesIn sizes k ≡ sizeBytes G k
+      sizes-are : (k : ℕ) → k ≤ top → sizesIn sizes (suc k) ≡ sizeBytes G k
       unfolding sizesIn sizeBytes
-      sizes-are zero h = ap (bytes 4) (all .sized 0 (omega arith))
+      sizes-are zero h = append-nil (bytes 4 (getD sizes 0 0)) ∙ ap (bytes 4) (all .sized 0 (omega arith))
       sizes-are (suc k) h = ap₂ (λ (n : ℕ) (l : List ℕ). bytes 4 n ++ l) (all .sized (suc k) (omega arith)) (sizes-are k (omega arith))
 
       length-is : (k : ℕ) → k ≤ top → bodyLength sizes k ≡ length (body G k)
@@ -217,7 +217,7 @@ module _ (ws : List ℕ) (ok : T (storeOk ws)) (top p : ℕ) (hk : top < heights
 
       -- the sizes and the lists
       abbrev tail : List ℕ
-      tail = sizesIn sizes top ++ bodyIn (keptOf ws) (capacityOf ws) counts top t
+      tail = sizesIn sizes (suc top) ++ bodyIn (keptOf ws) (capacityOf ws) counts (suc top) t
 
       tail-is : tail ≡ sizeBytes G top ++ body G top
       tail-is = ap₂ (λ (x y : List ℕ). x ++ y) (sizes-are top (omega arith)) (body-is top (omega arith))

@@ -13,7 +13,10 @@ ghost use Rattle.paper.specs.Answers.{outcome, written};
 ghost use Rattle.paper.specs.Calls.{packScratch, packOutcome};
 ghost use Rattle.numbers.specs.Laid.{reached, writing};
 ghost use Rattle.writing.specs.Writing.{headOf, fitted};
-use numbers::put_number;
+use limits::EMPTY_MARK;
+use limits::LEAF_HEIGHT;
+use limits::PACKED_FRONT;
+use numbers::write_head;
 use order::order_lists;
 use paper::Refusal;
 use paper::Written;
@@ -30,23 +33,8 @@ use writing::file_length;
 use writing::write_lists;
 use writing::write_sizes;
 
-// The front byte.
-const FRONT: u8 = 0x21;
-
-// Where the length lies, its bytes, and where the depth and the root's mirror lie.
-const LENGTH_PLACE: usize = 1;
-
-const LENGTH_BYTES: usize = 4;
-
-const DEPTH_PLACE: usize = 5;
-
-const MIRROR_PLACE: usize = 6;
-
 // The mirror's place says this for an empty scene.
-const EMPTY: u32 = 8;
-
-// List k has the cells of height k + 2.
-const LEAF_HEIGHT: u32 = 2;
+const EMPTY: u32 = EMPTY_MARK as u32;
 
 // Scratch takes so many words for each unit of capacity.
 const SCRATCH_PER_UNIT: usize = 60;
@@ -59,17 +47,16 @@ fn scratch_words(store: &[u32]) -> usize
     SCRATCH_PER_UNIT * (capacity(store) as usize)
 }
 
-// Writes the header of a file of this length; answers the position after it.
-fn write_head(out: &mut [u8], total: u64, depth: u32, mirror: u32) -> usize
+// Writes the header of a file of this length, the root's mirror or the mark of an empty scene behind what every file
+// begins with; answers the position after it.
+fn write_packed_head(out: &mut [u8], total: u64, depth: u32, mirror: u32) -> usize
     requires { ⌜ packedHead ≤ length (now out) ⌝ }
     requires { ⌜ (depth < 256) × (mirror < 256) ⌝ }
     ensures { λ r. ⌜ reached r (now (out .exit)) ≡ writing (headOf total depth mirror) 0 (now (out .entry)) ⌝ }
 {
-    out[0] = FRONT;
-    put_number(out, LENGTH_PLACE, LENGTH_BYTES, total);
-    out[DEPTH_PLACE] = depth as u8;
-    out[MIRROR_PLACE] = mirror as u8;
-    MIRROR_PLACE + 1
+    let at = write_head(out, PACKED_FRONT, total, depth);
+    out[at] = mirror as u8;
+    at + 1
 }
 
 // Writes the file of an empty scene.
@@ -80,7 +67,7 @@ fn pack_empty(depth: u32, out: &mut [u8]) -> Written
     if (out.len() as u64) < HEAD {
         return Written::Refused(Refusal::OutputShort);
     }
-    write_head(out, HEAD, depth, EMPTY);
+    write_packed_head(out, HEAD, depth, EMPTY);
     Written::Length(HEAD as u32)
 }
 
@@ -99,7 +86,7 @@ fn pack_root(store: &[u32], top: u32, root: u32, scratch: &mut [u32], out: &mut 
     if (out.len() as u64) < total {
         return Written::Refused(Refusal::OutputShort);
     }
-    let after_head = write_head(out, total, top + LEAF_HEIGHT, tag(root));
+    let after_head = write_packed_head(out, total, top + LEAF_HEIGHT, tag(root));
     let after_sizes = write_sizes(sizes, top, out, after_head);
     write_lists(store, top, counts, scratch, out, after_sizes);
     Written::Length(total as u32)

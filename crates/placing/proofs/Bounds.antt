@@ -1,8 +1,8 @@
 -- Room in scratch: each list's words lie inside its part, and a list's places read there are those words. By a product's bound. Assumes nothing.
 use mathlib.Core.Path.{_≡_, ap, _∙_}
 use mathlib.Core.List.{List}
-use Prim.Native.Nat.{ℕ, _-_, _*_, _<_, _≤_}
-use native.Mathlib.Nat.{mul-le-mul-left, le-of-suc-le-suc, zero-add}
+use Prim.Native.Nat.{ℕ, _+_, _-_, _*_, _<_, _≤_}
+use native.Mathlib.Nat.{mul-le-mul-left, mul-le-mul-right, le-of-suc-le-suc, zero-add}
 use native.Mathlib.Omega.{arith}
 use lib.ListN.{length, getD}
 use Rattle.paper.specs.Store.{heights}
@@ -15,11 +15,8 @@ pub lists-fit : (C k : ℕ) → k < heights → C * k ≤ 14 * C
 lists-fit C k h = let p : C * k ≤ C * 14 = mul-le-mul-left C (le-of-suc-le-suc h) in omega arith
 
 module _ (C k : ℕ) (s : List ℕ) (r : Room C k s) where
-  pub order-room : (i : ℕ) → i < C → orderPlace C k i < length s
-  order-room i h = omega (arith, lists-fit C k (r .list), r .long)
-
-  pub place-room : (q : ℕ) → q < C → placePlace C k q < length s
-  place-room q h = omega (arith, lists-fit C k (r .list), r .long)
+  pub part-room : (part i : ℕ) → part ≤ 30 → i < C → part * C + (C * k + i) < length s
+  part-room part i p h = let m : part * C ≤ 30 * C = mul-le-mul-right C p in omega (arith, lists-fit C k (r .list), r .long)
 
   -- room for the list below
   pub room-below : Room C (k - 1) s

@@ -3,11 +3,11 @@
 -- the packed file is a law.
 use mathlib.Core.Path.{_≡_}
 use mathlib.Core.List.{List, [], _∷_}
-use Prim.Native.Nat.{ℕ, zero, suc, _+_, _<_, _≤_}
+use Prim.Native.Nat.{ℕ, zero, suc, _+_, _*_, _<_, _≤_}
 use lib.ListN.{length, getD, set, replicate}
 use Rattle.paper.specs.Numbers.{tabulate}
 use Rattle.paper.specs.Store.{Cell, heights, mostCapacity, cellAt, cellNo, keptCount, capacityOf}
-use Rattle.paper.specs.Pack.{width}
+use Rattle.paper.specs.Pack.{code, width}
 use Rattle.paper.specs.Calls.{packScratch}
 use Rattle.numbers.specs.Laid.{Reached, reached}
 use Rattle.order.specs.Scratch.{orderPlace, placePlace}
@@ -19,6 +19,11 @@ placesIn C k s = tabulate 0 C (λ q. getD s (placePlace C k q) 0)
 -- list k's first n cells in their order
 unfoldable pub orderIn : ℕ → ℕ → ℕ → List ℕ → List ℕ
 orderIn C k n s = tabulate 0 n (λ i. getD s (orderPlace C k i) 0)
+
+-- the codes of a cell's pointers as the digits of a number to base b, child 0's the lowest
+unfoldable pub digits : ℕ → List ℕ → Cell → ℕ
+digits b ps [] = 0
+digits b ps (p ∷ c) = code ps p + b * digits b ps c
 
 -- what the record of cell q of list k takes of its list: half-words, or one leaf
 unfoldable pub span : List (List Cell) → ℕ → ℕ → List ℕ → ℕ → ℕ

@@ -1,46 +1,35 @@
 // Where each record lies in its list: half-words from the list's start, or the leaf's number. From the leaves up, so
 // that a record's size is known from the places of the records that it points to.
 ghost use mathlib.Core.Path.{_≡_};
-ghost use Prim.Native.Nat.{ℕ, _+_, _≤_, _<_};
+ghost use Prim.Native.Nat.{ℕ, _+_, _*_, _≤_, _<_};
 ghost use lib.Dec.{T};
 ghost use lib.ListN.{getD};
-ghost use Rattle.paper.specs.Store.{mostCapacity, heights, capacityOf, keptCount, keptOf, cellNo, storeOk};
+ghost use Rattle.paper.specs.Store.{capacityOf, keptCount, keptOf, cellNo, storeOk};
 ghost use Rattle.paper.specs.Packed.{codeFor};
-ghost use Rattle.paper.specs.Pack.{code, width};
+ghost use Rattle.paper.specs.Pack.{code};
 ghost use Rattle.numbers.specs.Laid.{reached};
-ghost use Rattle.order.specs.Scratch.{orderPlace, placePlace};
-ghost use Rattle.placing.specs.Placing.{placesIn, span, placedList, placed, placedLists, Room, Below, Kept};
+ghost use Rattle.placing.specs.Placing.{placesIn, digits, span, placedList, placed, placedLists, Room, Below, Kept};
+use limits::CHILDREN;
+use order::ORDERS;
+use order::PLACES;
+use order::word_place;
 use store::capacity;
 use store::cell_at;
 use store::cell_number;
 
-// A cell's children.
-pub const CHILDREN: usize = 8;
-
-// The parts of scratch with the order and with the places begin after so many words for each unit of capacity.
-const ORDER: usize = 15;
-
-const PLACES: usize = 30;
-
 // A pointer is short where its place is at most this.
 pub const FARTHEST_SHORT: u32 = 8191;
 
-// Where scratch has the i-th cell of list k in the packed order, for a store of capacity c.
-pub fn order_at(c: u32, k: u32, i: u32) -> usize
-    requires { ⌜ (c ≤ mostCapacity) × (k < heights) × (i < c) ⌝ }
-    ensures { λ r. ⌜ r ≡ orderPlace c k i ⌝ }
-{
-    let units = c as usize;
-    ORDER * units + (units * (k as usize) + (i as usize))
-}
+// A pointer's code is its half-words: to base 1 the codes of a cell are counted together.
+const COUNTED: u32 = 1;
 
-// Where scratch has the place of cell q of list k.
-fn place_at(c: u32, k: u32, q: u32) -> usize
-    requires { ⌜ (c ≤ mostCapacity) × (k < heights) × (q < c) ⌝ }
-    ensures { λ r. ⌜ r ≡ placePlace c k q ⌝ }
+// Word i of list k in a part of scratch.
+pub fn word_of(c: u32, part: usize, k: u32, i: u32, scratch: &[u32]) -> u32
+    requires { ⌜ Room c k (now scratch) ⌝ }
+    requires { ⌜ (part ≤ 30) × (i < c) ⌝ }
+    ensures { λ r. ⌜ r ≡ getD (now (scratch .entry)) (part * c + (c * k + i)) 0 ⌝ }
 {
-    let units = c as usize;
-    PLACES * units + (units * (k as usize) + (q as usize))
+    scratch[word_place(c, part, k, i)]
 }
 
 // The place of cell q of list k.
@@ -49,7 +38,7 @@ pub fn place_of(c: u32, k: u32, q: u32, scratch: &[u32]) -> u32
     requires { ⌜ q < c ⌝ }
     ensures { λ r. ⌜ r ≡ getD (placesIn c k (now (scratch .entry))) q 0 ⌝ }
 {
-    scratch[place_at(c, k, q)]
+    word_of(c, PLACES, k, q, scratch)
 }
 
 // The half-words of a pointer to a place.
@@ -71,19 +60,20 @@ pub fn code_of(c: u32, k: u32, p: u32, scratch: &[u32]) -> u32
     code_for(place_of(c, k, cell_number(p), scratch))
 }
 
-// The half-words of the record of a cell whose pointers go into list k.
-fn width_of(c: u32, k: u32, cell: [u32; 8], scratch: &[u32]) -> u32
+// The codes of a cell's pointers into list k as the digits of a number to this base, child 0's the lowest.
+pub fn codes_of(c: u32, k: u32, cell: [u32; 8], base: u32, scratch: &[u32]) -> u32
     requires { ⌜ Room c k (now scratch) ⌝ }
     requires { ⌜ Below c cell ⌝ }
-    ensures { λ r. ⌜ r ≡ width (placesIn c k (now (scratch .entry))) cell ⌝ }
+    requires { ⌜ base ≤ 4 ⌝ }
+    ensures { λ r. ⌜ (r ≡ digits base (placesIn c k (now (scratch .entry))) cell) × (r < 65536) ⌝ }
 {
-    let mut i = CHILDREN;
-    let mut sum = 1u32;
+    let mut i = CHILDREN as usize;
+    let mut number = 0u32;
     while i != 0 {
         i -= 1;
-        sum = code_of(c, k, cell[i], scratch) + sum;
+        number = code_of(c, k, cell[i], scratch) + base * number;
     }
-    sum
+    number
 }
 
 // What the record of cell q of list k takes of its list: half-words, or one leaf.
@@ -96,7 +86,14 @@ fn span_of(store: &[u32], k: u32, q: u32, scratch: &[u32]) -> u32
     if k == 0 {
         return 1;
     }
-    width_of(capacity(store), k - 1, cell_at(store, k, q), scratch)
+    codes_of(
+        capacity(store),
+        k - 1,
+        cell_at(store, k, q),
+        COUNTED,
+        scratch,
+    )
+        + 1 // for the header
 }
 
 // Places the n cells of list k in their order; answers the list's size.
@@ -110,9 +107,9 @@ fn place_list(store: &[u32], k: u32, n: u32, scratch: &mut [u32]) -> u32
     let mut at = 0u32;
     let mut i = 0u32;
     while i < n {
-        let q = scratch[order_at(c, k, i)];
+        let q = word_of(c, ORDERS, k, i, scratch);
         let taken = span_of(store, k, q, scratch);
-        scratch[place_at(c, k, q)] = at;
+        scratch[word_place(c, PLACES, k, q)] = at;
         at += taken;
         i += 1;
     }

@@ -1,6 +1,6 @@
 -- The scan of one mirror: what it finds for the image is the first number that the cell or leaf itself matches under that mirror. For a leaf: a is
 -- b mirrored exactly where b is a mirrored. Assumes nothing.
-use mathlib.Core.Path.{_≡_, sym, ap, ap₂, _∙_, subst}
+use mathlib.Core.Path.{_≡_, sym, ap, _∙_, subst}
 use mathlib.Core.Bool.{Bool}
 use mathlib.Core.List.{List}
 use Prim.Native.Nat.{ℕ, _^_, _<_, _≤_}
@@ -17,7 +17,8 @@ use Rattle.laws.proofs.Places.{leaf-fits}
 use Rattle.laws.proofs.AddingTrees.{leaf-words}
 use Rattle.laws.proofs.StoreFacts.{Words}
 use Rattle.laws.proofs.Masks.{maskMatch}
-use Rattle.seek.specs.Sought.{firstBelow, imageOf, masksUnder}
+use Rattle.store.specs.Mirrored.{mirroredCell}
+use Rattle.seek.specs.Sought.{firstBelow, masksUnder}
 use Rattle.seek.proofs.MaskImage.{mask-image}
 use Rattle.seek.proofs.FindFirst.{First, first-is, first-agree}
 
@@ -61,10 +62,11 @@ abbrev pub cellPasses : List ℕ → ℕ → Cell → List ℕ → ℕ → ℕ �
 cellPasses ws k cell masks q t = maskMatch masks cell (cellAt (keptOf ws) k q) t
 
 module _ (ws : List ℕ) (k : ℕ) (cell : Cell) (masks : List ℕ) (t end : ℕ) (ht : t < 8) where
-  pub cell-first : {image under : List ℕ} {n : ℕ} → image ≡ imageOf t cell → under ≡ masksUnder t masks
-      → n ≡ firstBelow end (λ q. maskMatch under image (cellAt (keptOf ws) k q) 0) → First (λ q. cellPasses ws k cell masks q t) end n
-  cell-first {image} {under} {n} ei em en =
+  pub cell-first : {image : List ℕ} {n : ℕ} → image ≡ mirroredCell t cell
+      → n ≡ firstBelow end (λ q. maskMatch (masksUnder t masks) image (cellAt (keptOf ws) k q) 0) → First (λ q. cellPasses ws k cell masks q t) end n
+  cell-first {image} {n} ei en =
+      let under : List ℕ = masksUnder t masks in
       let of : ℕ → Cell = λ q. cellAt (keptOf ws) k q in
       first-agree end n (λ q. maskMatch under image (of q) 0) (λ q. cellPasses ws k cell masks q t)
-      (λ q h. ap₂ (λ (ms i : List ℕ). maskMatch ms i (of q) 0) em ei ∙ mask-image masks cell (of q) t ht)
+      (λ q h. ap (λ (i : List ℕ). maskMatch under i (of q) 0) ei ∙ mask-image masks cell (of q) t ht)
       (subst (First (λ q. maskMatch under image (of q) 0) end) (sym en) (first-is end (λ q. maskMatch under image (of q) 0)))

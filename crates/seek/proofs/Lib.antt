@@ -1,4 +1,4 @@
--- Laws that belong to no one function.
+-- Laws that belong to no one function: matching by masks, and the search.
 -- matching by masks
 pub mod MaskImage
 pub mod MaskWays

@@ -3,75 +3,45 @@
 use mathlib.Core.Path.{_≡_, refl, sym, ap, ap₂, _∙_, subst}
 use mathlib.Core.Bool.{Bool, true, false}
 use mathlib.Core.List.{List}
-use Prim.Native.Nat.{ℕ, suc, _+_, _*_, _^_, _<_}
+use Prim.Native.Nat.{ℕ, _<_}
 use native.Mathlib.Nat.{zero-add}
-use native.Mathlib.Omega.{arith}
-use borrow.Author.Tests.{eqb-true, eqb-false, eq-eqb, ne-eqb}
+use borrow.Author.Tests.{eqb-true, eqb-false, ne-eqb}
 use lib.Bits.{bitXor, xor-zero-r}
 use lib.Dec.{T, eqb}
 use lib.ListN.{getD}
-use Rattle.paper.specs.Numbers.{allBelow, tabulate}
+use Rattle.paper.specs.Numbers.{allBelow}
 use Rattle.paper.specs.Leaf.{mirrorLeaf}
-use Rattle.paper.specs.Store.{Cell, tagOf, lowOf, cellNo, pointer, tagUnit}
+use Rattle.paper.specs.Store.{Cell, tagOf}
 use Rattle.paper.specs.Match.{pointerMatch, matches, leafCell}
 use Rattle.laws.proofs.Tests.{all-at, all-T, iff-eq}
 use Rattle.laws.proofs.Lists.{getD-tabulate}
 use Rattle.laws.proofs.Eight.{xor8-lt, xor8-swap, xor8-back}
 use Rattle.laws.proofs.Matching.{tag-lt}
-use Rattle.laws.proofs.Adding.{pointer-cell, pointer-tag}
 use Rattle.laws.proofs.AddingTrees.{leaf-words}
 use Rattle.laws.proofs.Masks.{maskFor, marked, maskMatch, symmetries, mask-same}
 use Rattle.store.specs.Mirrored.{turnedBy, mirroredCell}
-use Rattle.seek.specs.Sought.{namedBy, imageOf, masksUnder}
+use Rattle.store.proofs.MirroredCells.{turned-none, turned-some, tag-turned, number-turned, mirrored-child}
+use Rattle.seek.specs.Sought.{masksUnder}
 
 -- ---- one pointer
-
-number-lt : (p : ℕ) → suc (cellNo p) < 2 ^ 29
-number-lt p = omega arith
-
-pub named-none : (p : ℕ) → p ≡ 0 → namedBy p ≡ 0
-unfolding namedBy
-named-none p e = rw (eq-eqb p 0 e)
-
-pub named-some : (p : ℕ) → (p ≡ 0 → ⊥) → namedBy p ≡ pointer (tagOf p) (cellNo p)
-unfolding namedBy
-named-some p n = rw (ne-eqb p 0 n)
-
-turned-none : (t : ℕ) → turnedBy t 0 ≡ 0
-unfolding turnedBy
-turned-none t = refl
-
-low-pointer : (t n : ℕ) → suc n < 2 ^ 29 → lowOf (pointer t n) ≡ n + 1
-low-pointer t n h = omega arith
-
-turned-pointer : (t a n : ℕ) → a < 8 → suc n < 2 ^ 29 → turnedBy t (pointer a n) ≡ pointer (bitXor a t) n
-unfolding turnedBy
-turned-pointer t a n ha hn =
-    rw (ne-eqb (pointer a n) 0 (λ e. omega arith)) (ap₂ (λ (x y : ℕ). bitXor x t * tagUnit + y) (pointer-tag a n ha hn) (low-pointer a n hn))
 
 -- the image's pointer under 0 matches what the pointer does under t
 module _ (self : ℕ → ℕ → Bool) (t p q : ℕ) (ht : t < 8) where
   abbrev image : ℕ
-  image = turnedBy t (namedBy p)
+  image = turnedBy t p
 
   image-none : p ≡ 0 → pointerMatch self 0 image q ≡ pointerMatch self t p q
   unfolding pointerMatch
   image-none e =
-      let i : image ≡ 0 = ap (turnedBy t) (named-none p e) ∙ turned-none t in
+      let i : image ≡ 0 = turned-none t p e in
       rw (i, e)
 
   image-some : (p ≡ 0 → ⊥) → pointerMatch self 0 image q ≡ pointerMatch self t p q
   unfolding pointerMatch
   image-some n =
-      let a : ℕ = bitXor (tagOf p) t in
-      let ha : a < 8 = xor8-lt (tagOf p) t (tag-lt p) ht in
-      let r : ℕ = pointer a (cellNo p) in
-      let i : image ≡ r = ap (turnedBy t) (named-some p n) ∙ turned-pointer t (tagOf p) (cellNo p) (tag-lt p) (number-lt p) in
-      let g : tagOf r ≡ a = pointer-tag a (cellNo p) ha (number-lt p) in
-      let c : cellNo r ≡ cellNo p = pointer-cell a (cellNo p) (number-lt p) in
-      let x : bitXor (bitXor a (tagOf q)) 0 ≡ bitXor (bitXor (tagOf p) (tagOf q)) t =
-      xor-zero-r (bitXor a (tagOf q)) ∙ sym (xor8-swap (tagOf p) (tagOf q) t (tag-lt p) (tag-lt q) ht) in
-      rw (i, ne-eqb r 0 (λ e. omega arith), ne-eqb p 0 n, c, g, x)
+      let x : bitXor (bitXor (bitXor (tagOf p) t) (tagOf q)) 0 ≡ bitXor (bitXor (tagOf p) (tagOf q)) t =
+      xor-zero-r (bitXor (bitXor (tagOf p) t) (tagOf q)) ∙ sym (xor8-swap (tagOf p) (tagOf q) t (tag-lt p) (tag-lt q) ht) in
+      rw (ne-eqb image 0 (turned-some t p n), ne-eqb p 0 n, number-turned t p ht n, tag-turned t p ht n, x)
 
   pub pointer-image : pointerMatch self 0 image q ≡ pointerMatch self t p q
   pointer-image = go (eqb p 0) refl
@@ -90,30 +60,21 @@ all-turned f g t ht e =
     subst (λ (n : ℕ). T (g n)) (xor8-back i t hi ht) (subst T (e (bitXor i t) (xor8-lt i t hi ht)) (all-at 8 f s (bitXor i t) (xor8-lt i t hi ht)))))
     (λ s. all-T 8 f (λ j hj. subst T (sym (e j hj)) (all-at 8 g s (bitXor j t) (xor8-lt j t hj ht))))
 
-mask-at : (ms : List ℕ) (t j : ℕ) → j < 8 → getD (masksUnder t ms) j 0 ≡ getD ms (bitXor j t) 0
+pub mask-at : (ms : List ℕ) (t j : ℕ) → j < 8 → getD (masksUnder t ms) j 0 ≡ getD ms (bitXor j t) 0
 unfolding masksUnder
 mask-at ms t j hj = getD-tabulate 8 0 j (λ i. getD ms (bitXor i t) 0) 0 hj ∙ ap (λ (i : ℕ). getD ms (bitXor i t) 0) (zero-add j)
-
-child-at : (a : Cell) (t j : ℕ) → t < 8 → j < 8 → getD (imageOf t a) j 0 ≡ turnedBy t (namedBy (getD a (bitXor j t) 0))
-unfolding imageOf mirroredCell
-child-at a t j ht hj =
-    let read : Cell = tabulate 0 8 (λ i. namedBy (getD a i 0)) in
-    getD-tabulate 8 0 j (λ i. turnedBy t (getD read (bitXor i t) 0)) 0 hj
-    ∙ ap (λ (i : ℕ). turnedBy t (getD read (bitXor i t) 0)) (zero-add j)
-    ∙ ap (turnedBy t) (getD-tabulate 8 0 (bitXor j t) (λ i. namedBy (getD a i 0)) 0 (xor8-lt j t hj ht)
-    ∙ ap (λ (i : ℕ). namedBy (getD a i 0)) (zero-add (bitXor j t)))
 
 abbrev one : List ℕ → Cell → Cell → ℕ → ℕ → Bool
 one ms a b t i = pointerMatch (λ q u. marked (getD ms i 0) u) t (getD a i 0) (getD b (bitXor i t) 0)
 
-pub mask-image : (ms : List ℕ) (a b : Cell) (t : ℕ) → t < 8 → maskMatch (masksUnder t ms) (imageOf t a) b 0 ≡ maskMatch ms a b t
+pub mask-image : (ms : List ℕ) (a b : Cell) (t : ℕ) → t < 8 → maskMatch (masksUnder t ms) (mirroredCell t a) b 0 ≡ maskMatch ms a b t
 unfolding maskMatch
 mask-image ms a b t ht =
-    all-turned (one (masksUnder t ms) (imageOf t a) b 0) (one ms a b t) t ht (λ j hj.
+    all-turned (one (masksUnder t ms) (mirroredCell t a) b 0) (one ms a b t) t ht (λ j hj.
     let i : ℕ = bitXor j t in
     let q : getD b (bitXor j 0) 0 ≡ getD b (bitXor i t) 0 = ap (λ (n : ℕ). getD b n 0) (xor-zero-r j ∙ sym (xor8-back j t hj ht)) in
-    ap (λ (m : ℕ). pointerMatch (λ c u. marked m u) 0 (getD (imageOf t a) j 0) (getD b (bitXor j 0) 0)) (mask-at ms t j hj)
-    ∙ ap₂ (λ (x y : ℕ). pointerMatch (λ c u. marked (getD ms i 0) u) 0 x y) (child-at a t j ht hj) q
+    ap (λ (m : ℕ). pointerMatch (λ c u. marked m u) 0 (getD (mirroredCell t a) j 0) (getD b (bitXor j 0) 0)) (mask-at ms t j hj)
+    ∙ ap₂ (λ (x y : ℕ). pointerMatch (λ c u. marked (getD ms i 0) u) 0 x y) (mirrored-child t a j hj) q
     ∙ pointer-image (λ c u. marked (getD ms i 0) u) t (getD a i 0) (getD b (bitXor i t) 0) ht)
 
 -- ---- a leaf

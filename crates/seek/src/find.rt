@@ -6,15 +6,14 @@ ghost use lib.Dec.{T, eqb};
 ghost use Rattle.paper.specs.Store.{mostCapacity, heights, keptCount, keptOf, cellsAt, cellAt, leafNo, headerOk};
 ghost use Rattle.paper.specs.Match.{matches, find, leafCell};
 ghost use Rattle.laws.specs.Masks.{maskMatch};
-ghost use Rattle.seek.specs.Sought.{sought, firstBelow, betterOf, foundOf};
-use crate::masks::image;
-use crate::masks::masks_under;
+ghost use Rattle.seek.specs.Sought.{masksUnder, sought, firstBelow, betterOf, foundOf};
 use crate::masks::same_cell;
-use leaf::MIRRORS;
 use leaf::mirror_leaf;
+use limits::MIRRORS;
 use store::cell_at;
 use store::kept_count;
 use store::leaf_at;
+use store::mirrored;
 use store::pointer;
 
 // The pointer found, or none.
@@ -88,16 +87,17 @@ pub fn find_leaf(store: &[u32], leaf: u64) -> Sought
     found(best, count)
 }
 
-// The first cell kept in list k below `end` that this one matches under mirror 0, or `end`.
-fn first_cell(store: &[u32], k: u32, cell: [u32; 8], masks: [u8; 8], end: u32) -> u32
+// The first cell kept in list k below `end` that the image of a cell under a mirror matches under mirror 0, or `end`; `masks`
+// are those of the cell's children.
+fn first_cell(store: &[u32], k: u32, image: [u32; 8], masks: [u8; 8], mirror: u32, end: u32) -> u32
     requires { ⌜ T (headerOk (now store)) ⌝ }
     requires { ⌜ (1 ≤ k) × (k < heights) ⌝ }
-    requires { ⌜ end ≤ keptCount (now store) k ⌝ }
-    ensures { λ r. ⌜ r ≡ firstBelow end (λ n. maskMatch masks cell (cellAt (keptOf (now (store .entry))) k n) 0) ⌝ }
+    requires { ⌜ (end ≤ keptCount (now store) k) × (mirror < 8) ⌝ }
+    ensures { λ r. ⌜ r ≡ firstBelow end (λ n. maskMatch (masksUnder mirror masks) image (cellAt (keptOf (now (store .entry))) k n) 0) ⌝ }
 {
     let mut n = 0u32;
     while n < end {
-        if same_cell(cell, masks, cell_at(store, k, n)) {
+        if same_cell(image, masks, mirror, cell_at(store, k, n)) {
             return n;
         }
         n += 1;
@@ -118,7 +118,7 @@ pub fn find_cell(store: &[u32], k: u32, cell: [u32; 8], masks: [u8; 8]) -> Sough
     };
     let mut t = 0u32;
     while t < MIRRORS {
-        let n = first_cell(store, k, image(cell, t), masks_under(masks, t), best.number);
+        let n = first_cell(store, k, mirrored(cell, t), masks, t, best.number);
         best = better(best, n, t);
         t += 1;
     }

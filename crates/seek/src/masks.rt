@@ -4,20 +4,15 @@
 ghost use mathlib.Core.Path.{_≡_};
 ghost use mathlib.Core.Bool.{not};
 ghost use Prim.Native.Nat.{_<_};
-ghost use lib.Bits.{bitXor};
-ghost use lib.ListN.{getD};
 ghost use Rattle.paper.specs.Numbers.{bitFor};
 ghost use Rattle.paper.specs.Match.{pointerMatch};
 ghost use Rattle.laws.specs.Masks.{maskFor, marked, maskMatch};
-ghost use Rattle.seek.specs.Sought.{namedBy, imageOf, masksUnder};
-use leaf::MIRRORS;
+ghost use Rattle.seek.specs.Sought.{masksUnder};
+use limits::CHILDREN;
+use limits::MIRRORS;
 use store::cell_number;
 use store::mirrored;
-use store::pointer;
 use store::tag;
-
-// The children of a cell.
-const CHILDREN: usize = 8;
 
 // Whether two pointers don't match under mirror 0, `mask` being that of the cell that p names.
 fn pointers_differ(p: u32, q: u32, mask: u8) -> bool
@@ -35,72 +30,21 @@ fn pointers_differ(p: u32, q: u32, mask: u8) -> bool
     (mask >> (tag(p) ^ tag(q))) % 2 != 1
 }
 
-// Whether a cell matches another under mirror 0, `masks` being those of its children.
-pub fn same_cell(cell: [u32; 8], masks: [u8; 8], other: [u32; 8]) -> bool
-    ensures { λ r. ⌜ r ≡ maskMatch masks cell other 0 ⌝ }
+// Whether the image of a cell under a mirror matches another cell under mirror 0, `masks` being those of the cell's children:
+// child i of the image is child (i xor mirror) of the cell.
+pub fn same_cell(image: [u32; 8], masks: [u8; 8], mirror: u32, other: [u32; 8]) -> bool
+    requires { ⌜ mirror < 8 ⌝ }
+    ensures { λ r. ⌜ r ≡ maskMatch (masksUnder mirror masks) image other 0 ⌝ }
 {
-    let mut i = CHILDREN;
+    let turn = mirror as usize;
+    let mut i = CHILDREN as usize;
     while i != 0 {
         i -= 1;
-        if pointers_differ(cell[i], other[i], masks[i]) {
+        if pointers_differ(image[i], other[i], masks[i ^ turn]) {
             return false;
         }
     }
     true
-}
-
-// A pointer by its mirror and number: one with a tag and no number is read as number 0, as the match rule reads it.
-fn named(p: u32) -> u32
-    ensures { λ r. ⌜ r ≡ namedBy p ⌝ }
-{
-    if p == 0 {
-        return 0;
-    }
-    pointer(tag(p), cell_number(p))
-}
-
-// The image of a cell under a mirror.
-pub fn image(cell: [u32; 8], mirror: u32) -> [u32; 8]
-    requires { ⌜ mirror < 8 ⌝ }
-    ensures { λ r. ⌜ r ≡ imageOf mirror cell ⌝ }
-{
-    let read = [
-        named(cell[0]),
-        named(cell[1]),
-        named(cell[2]),
-        named(cell[3]),
-        named(cell[4]),
-        named(cell[5]),
-        named(cell[6]),
-        named(cell[7]),
-    ];
-    mirrored(read, mirror)
-}
-
-// The mask of child i of the image.
-fn mask_under(masks: [u8; 8], mirror: u32, i: u32) -> u8
-    requires { ⌜ (mirror < 8) × (i < 8) ⌝ }
-    ensures { λ r. ⌜ r ≡ getD masks (bitXor i mirror) 0 ⌝ }
-{
-    let k = (i ^ mirror) as usize;
-    masks[k]
-}
-
-// The masks of the image's children.
-pub fn masks_under(masks: [u8; 8], mirror: u32) -> [u8; 8]
-    requires { ⌜ mirror < 8 ⌝ }
-    ensures { λ r. ⌜ r ≡ masksUnder mirror masks ⌝ }
-{
-    [
-        mask_under(masks, mirror, 0),
-        mask_under(masks, mirror, 1),
-        mask_under(masks, mirror, 2),
-        mask_under(masks, mirror, 3),
-        mask_under(masks, mirror, 4),
-        mask_under(masks, mirror, 5),
-        mask_under(masks, mirror, 6),
-        mask_under(masks, mirror, 7),
-    ]
 }
 
 // 1 where a cell matches itself under a mirror, 0 elsewhere.
@@ -108,7 +52,7 @@ fn cell_bit(cell: [u32; 8], masks: [u8; 8], mirror: u32) -> u8
     requires { ⌜ mirror < 8 ⌝ }
     ensures { λ r. ⌜ r ≡ bitFor (maskMatch masks cell cell mirror) ⌝ }
 {
-    if same_cell(image(cell, mirror), masks_under(masks, mirror), cell) {
+    if same_cell(mirrored(cell, mirror), masks, mirror, cell) {
         return 1;
     }
     0

@@ -1,15 +1,16 @@
 -- Document 01, 'Rooms and mirrors' and 'The store': a pointer and a cell mirrored once more, on any words. Definitions only.
 use mathlib.Core.Bool.{cond}
-use Prim.Native.Nat.{ℕ, _+_, _*_}
+use Prim.Native.Nat.{ℕ}
 use lib.Bits.{bitXor}
 use lib.Dec.{eqb}
 use lib.ListN.{getD}
 use Rattle.paper.specs.Numbers.{tabulate}
-use Rattle.paper.specs.Store.{Cell, tagUnit, tagOf, lowOf}
+use Rattle.paper.specs.Store.{Cell, tagOf, cellNo, pointer}
 
--- 'two mirrors one after the other are their exclusive or': the tag changes, the cell's number stays, and none stays none
+-- 'two mirrors one after the other are their exclusive or': the tag changes, the cell's number stays, and none stays none; a tag with no number
+-- is read as number 0, as the match rule reads it
 unfoldable pub turnedBy : ℕ → ℕ → ℕ
-turnedBy t p = cond (eqb p 0) 0 (bitXor (tagOf p) t * tagUnit + lowOf p)
+turnedBy t p = cond (eqb p 0) 0 (pointer (bitXor (tagOf p) t) (cellNo p))
 
 -- 'a mirrored cell has as child i the mirrored child (i xor t)'
 unfoldable pub mirroredCell : ℕ → Cell → Cell

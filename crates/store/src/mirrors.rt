@@ -4,9 +4,12 @@ ghost use Prim.Native.Nat.{_<_};
 ghost use lib.Bits.{bitXor};
 ghost use lib.ListN.{getD};
 ghost use Rattle.store.specs.Mirrored.{turnedBy, mirroredCell};
-use crate::pointers::TAG_STEP;
+use crate::pointers::cell_number;
+use crate::pointers::pointer;
+use crate::pointers::tag;
 
-// A pointer mirrored once more: none stays none.
+// A pointer mirrored once more, by its mirror and its number: none stays none, and a tag with no number is read as number 0,
+// as the match rule reads it.
 pub fn turned(p: u32, mirror: u32) -> u32
     requires { ⌜ mirror < 8 ⌝ }
     ensures { λ r. ⌜ r ≡ turnedBy mirror p ⌝ }
@@ -14,7 +17,7 @@ pub fn turned(p: u32, mirror: u32) -> u32
     if p == 0 {
         return 0;
     }
-    p ^ (mirror * TAG_STEP)
+    pointer(tag(p) ^ mirror, cell_number(p))
 }
 
 // Pointer i of a cell so mirrored.

@@ -6,7 +6,8 @@ use Prim.Native.Nat.{ℕ, suc, _+_, _<_, _≤_}
 use native.Mathlib.Omega.{arith}
 use lib.ListN.{length, getD, drop, length-append}
 use lib.Seq.{drop-cons, drop-length}
-use Rattle.paper.specs.Numbers.{flatten}
+use Rattle.paper.specs.Numbers.{bytes, flatten}
+use Rattle.laws.proofs.Bytes.{bytes-length}
 use Rattle.numbers.specs.Laid.{reached, writing}
 use Rattle.numbers.proofs.Laying.{writing-none, writing-then, reached-at, reached-length}
 
@@ -18,6 +19,13 @@ pub record Going (rest : List ℕ) (n : ℕ) (l all : List ℕ) (n₀ : ℕ) (l�
 
 pub going-first : (all : List ℕ) (n : ℕ) (l : List ℕ) → n + length all ≤ length l → Going all n l all n l
 going-first all n l h = record { same = refl; room = h; long = refl }
+
+-- a number is all that has room, or the first of it
+pub number-room : (n v at L : ℕ) (all : List ℕ) → all ≡ bytes n v → at + length all ≤ L → at + n ≤ L
+number-room n v at L all e h = omega (arith, ap length e, bytes-length n v)
+
+pub number-first : (n v at L : ℕ) (b all : List ℕ) → all ≡ bytes n v ++ b → at + length all ≤ L → at + n ≤ L
+number-first n v at L b all e h = omega (arith, ap length e, length-append (bytes n v) b, bytes-length n v)
 
 -- what is left begins with `a`: it has room
 pub going-room : (a b rest : List ℕ) (n : ℕ) (l all : List ℕ) (n₀ : ℕ) (l₀ : List ℕ) → rest ≡ a ++ b → Going rest n l all n₀ l₀ → n + length a ≤ length l

@@ -1,7 +1,7 @@
 -- The parts of a file, in the code's words: a record, a list, the lists and the sizes from one list down. By the clauses of the definitions,
 -- carried from k + 1 to k - 1 once. Assumes nothing.
 use mathlib.Core.Path.{_≡_, refl, ap, _∙_}
-use mathlib.Core.List.{List, _++_, map}
+use mathlib.Core.List.{List, [], _++_, map}
 use Prim.Native.Nat.{ℕ, zero, suc, _+_, _-_, _*_}
 use native.Mathlib.Numerals.{sub-one}
 use native.Mathlib.Omega.{arith}
@@ -26,27 +26,27 @@ record-cell K C (suc k) s q b c z e f =
     let g : b ≡ header (placesIn C k s) c = f ∙ ap (λ (j : ℕ). header (placesIn C j s) c) d in
     rw (d, g, e)
 
--- the lists
+-- the last k lists
 pub body-down : (K : List (List Cell)) (C : ℕ) (counts : List ℕ) (k : ℕ) (s : List ℕ) → (k ≡ 0 → ⊥)
-    → bodyIn K C counts k s ≡ listIn K C k (getD counts k 0) s ++ bodyIn K C counts (k - 1) s
+    → bodyIn K C counts k s ≡ listIn K C (k - 1) (getD counts (k - 1) 0) s ++ bodyIn K C counts (k - 1) s
 unfolding bodyIn
 body-down K C counts zero s z = absurd (z refl)
 body-down K C counts (suc k) s z = rw (sub-one (suc k))
 
-pub body-last : (K : List (List Cell)) (C : ℕ) (counts : List ℕ) (k : ℕ) (s : List ℕ) → k ≡ 0 → bodyIn K C counts k s ≡ listIn K C 0 (getD counts 0 0) s
+pub body-none : (K : List (List Cell)) (C : ℕ) (counts : List ℕ) (k : ℕ) (s : List ℕ) → k ≡ 0 → bodyIn K C counts k s ≡ []
 unfolding bodyIn
-body-last K C counts k s e = rw e
+body-none K C counts k s e = rw e
 
 -- the sizes
 module _ (sizes : List ℕ) where
-  pub sizes-down : (k : ℕ) → (k ≡ 0 → ⊥) → sizesIn sizes k ≡ bytes 4 (getD sizes k 0) ++ sizesIn sizes (k - 1)
+  pub sizes-down : (k : ℕ) → (k ≡ 0 → ⊥) → sizesIn sizes k ≡ bytes 4 (getD sizes (k - 1) 0) ++ sizesIn sizes (k - 1)
   unfolding sizesIn
   sizes-down zero z = absurd (z refl)
   sizes-down (suc k) z = rw (sub-one (suc k))
 
-  pub sizes-last : (k : ℕ) → k ≡ 0 → sizesIn sizes k ≡ bytes 4 (getD sizes 0 0)
+  pub sizes-none : (k : ℕ) → k ≡ 0 → sizesIn sizes k ≡ []
   unfolding sizesIn
-  sizes-last k e = rw e
+  sizes-none k e = rw e
 
   pub length-down : (k : ℕ) → (k ≡ 0 → ⊥) → bodyLength sizes k ≡ 2 * getD sizes k 0 + bodyLength sizes (k - 1)
   unfolding bodyLength

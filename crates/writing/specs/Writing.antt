@@ -22,16 +22,17 @@ recordIn K C (suc k) s q = recordBytes (placesIn C k s) (cellAt K (suc k) q)
 unfoldable pub listIn : List (List Cell) → ℕ → ℕ → ℕ → List ℕ → List ℕ
 listIn K C k n s = flatten (map (recordIn K C k s) (orderIn C k n s))
 
--- the lists from list k down to the leaves
+-- the last n lists, down to the leaves
 unfoldable pub bodyIn : List (List Cell) → ℕ → List ℕ → ℕ → List ℕ → List ℕ
-bodyIn K C counts zero s = listIn K C 0 (getD counts 0 0) s
-bodyIn K C counts (suc k) s = listIn K C (suc k) (getD counts (suc k) 0) s ++ bodyIn K C counts k s
+bodyIn K C counts zero s = []
+bodyIn K C counts (suc k) s = listIn K C k (getD counts k 0) s ++ bodyIn K C counts k s
 
--- their sizes, and their bytes counted by the sizes
+-- their sizes
 unfoldable pub sizesIn : List ℕ → ℕ → List ℕ
-sizesIn sizes zero = bytes 4 (getD sizes 0 0)
-sizesIn sizes (suc k) = bytes 4 (getD sizes (suc k) 0) ++ sizesIn sizes k
+sizesIn sizes zero = []
+sizesIn sizes (suc k) = bytes 4 (getD sizes k 0) ++ sizesIn sizes k
 
+-- the bytes of the lists from list k down, counted by the sizes
 unfoldable pub bodyLength : List ℕ → ℕ → ℕ
 bodyLength sizes zero = 8 * getD sizes 0 0
 bodyLength sizes (suc k) = 2 * getD sizes (suc k) 0 + bodyLength sizes k

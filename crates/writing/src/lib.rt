@@ -1,67 +1,57 @@
 // A file's parts written over an output, each behind the other: pointers, records, lists, sizes.
 ghost use mathlib.Core.Path.{_≡_};
 ghost use mathlib.Core.List.{map};
-ghost use Prim.Native.Nat.{ℕ, _+_, _≤_, _<_};
+ghost use Prim.Native.Nat.{ℕ, suc, _+_, _≤_, _<_};
 ghost use lib.Dec.{T};
 ghost use lib.ListN.{length, getD};
 ghost use Rattle.paper.specs.Numbers.{flatten};
 ghost use Rattle.paper.specs.Store.{heights, capacityOf, keptCount, keptOf, cellNo, storeOk};
-ghost use Rattle.paper.specs.Pack.{header, pointerBytes};
+ghost use Rattle.paper.specs.Pack.{pointerBytes};
 ghost use Rattle.numbers.specs.Laid.{reached, writing};
 ghost use Rattle.placing.specs.Placing.{placesIn, Room, Below, Kept};
 ghost use Rattle.writing.specs.Writing.{recordIn, listIn, bodyIn, sizesIn, fileLength};
-use numbers::put_number;
+use limits::CHILDREN;
+use limits::FARTHEST_SHORT;
+use limits::HALF_BYTES;
+use limits::LEAF_BYTES;
+use limits::PACKED_HEAD;
 use numbers::wider;
-use placing::CHILDREN;
-use placing::FARTHEST_SHORT;
-use placing::code_of;
-use placing::order_at;
+use numbers::write_number;
+use order::ORDERS;
+use placing::codes_of;
 use placing::place_of;
+use placing::word_of;
 use store::capacity;
 use store::cell_at;
 use store::cell_number;
 use store::leaf_at;
 use store::tag;
 
-// The bytes of a short and of a long pointer, of a record's header, of a size and of a leaf.
-const SHORT_BYTES: usize = 2;
+// The bytes of a short and of a long pointer, of a record's header and of a list's size.
+const SHORT_BYTES: usize = HALF_BYTES;
 
-const LONG_BYTES: usize = 4;
+const LONG_BYTES: usize = 2 * HALF_BYTES;
 
-const HEADER_BYTES: usize = 2;
+const HEADER_BYTES: usize = HALF_BYTES;
 
 const SIZE_BYTES: usize = 4;
 
-const LEAF_BYTES: usize = 8;
+// The same as lengths: of a file's head, of a size, of a half-word and of a leaf.
+pub const HEAD: u64 = PACKED_HEAD as u64;
 
-// The bytes before the sizes; of a size, of a half-word and of a leaf.
-pub const HEAD: u64 = 7;
+const SIZE_LENGTH: u64 = SIZE_BYTES as u64;
 
-const SIZE_LENGTH: u64 = 4;
+const HALF_LENGTH: u64 = HALF_BYTES as u64;
 
-const HALF_LENGTH: u64 = 2;
+const LEAF_LENGTH: u64 = LEAF_BYTES as u64;
 
-const LEAF_LENGTH: u64 = 8;
+// A header has two bits for each child: the codes are its digits to this base.
+const TWO_BITS: u32 = 4;
 
 // The lowest mirror bit of a short and of a long pointer.
 const SHORT_TAG: u64 = 8192;
 
 const LONG_TAG: u64 = 536870912;
-
-// The header of the record of a cell whose pointers go into list k: two bits for each child.
-fn header_of(c: u32, k: u32, cell: [u32; 8], scratch: &[u32]) -> u32
-    requires { ⌜ Room c k (now scratch) ⌝ }
-    requires { ⌜ Below c cell ⌝ }
-    ensures { λ r. ⌜ r ≡ header (placesIn c k (now (scratch .entry))) cell ⌝ }
-{
-    let mut i = CHILDREN;
-    let mut bits = 0u32;
-    while i != 0 {
-        i -= 1;
-        bits = code_of(c, k, cell[i], scratch) + 4 * bits;
-    }
-    bits
-}
 
 // Writes a pointer p into list k, or nothing for none; answers the position after it.
 fn write_pointer(c: u32, k: u32, p: u32, scratch: &[u32], out: &mut [u8], at: usize) -> usize
@@ -76,11 +66,9 @@ fn write_pointer(c: u32, k: u32, p: u32, scratch: &[u32], out: &mut [u8], at: us
     let mirror = wider(tag(p));
     let place = place_of(c, k, cell_number(p), scratch);
     if place <= FARTHEST_SHORT {
-        put_number(out, at, SHORT_BYTES, mirror * SHORT_TAG + wider(place));
-        return at + SHORT_BYTES;
+        return write_number(out, at, SHORT_BYTES, mirror * SHORT_TAG + wider(place));
     }
-    put_number(out, at, LONG_BYTES, mirror * LONG_TAG + wider(place));
-    at + LONG_BYTES
+    write_number(out, at, LONG_BYTES, mirror * LONG_TAG + wider(place))
 }
 
 // Writes a cell's pointers into list k; answers the position after them.
@@ -99,7 +87,7 @@ fn write_pointers(
 {
     let mut i = 0;
     let mut next = at;
-    while i < CHILDREN {
+    while i < CHILDREN as usize {
         next = write_pointer(c, k, cell[i], scratch, out, next);
         i += 1;
     }
@@ -115,14 +103,13 @@ fn write_record(store: &[u32], k: u32, q: u32, scratch: &[u32], out: &mut [u8], 
     ensures { λ r. ⌜ reached r (now (out .exit)) ≡ writing (recordIn (keptOf (now (store .entry))) (capacityOf (now (store .entry))) k (now (scratch .entry)) q) at (now (out .entry)) ⌝ }
 {
     if k == 0 {
-        put_number(out, at, LEAF_BYTES, leaf_at(store, q));
-        return at + LEAF_BYTES;
+        return write_number(out, at, LEAF_BYTES, leaf_at(store, q));
     }
     let c = capacity(store);
     let cell = cell_at(store, k, q);
-    let bits = wider(header_of(c, k - 1, cell, scratch));
-    put_number(out, at, HEADER_BYTES, bits);
-    write_pointers(c, k - 1, cell, scratch, out, at + HEADER_BYTES)
+    let header = wider(codes_of(c, k - 1, cell, TWO_BITS, scratch));
+    let next = write_number(out, at, HEADER_BYTES, header);
+    write_pointers(c, k - 1, cell, scratch, out, next)
 }
 
 // Writes list k of n cells; answers the position after it.
@@ -137,7 +124,14 @@ fn write_list(store: &[u32], k: u32, n: u32, scratch: &[u32], out: &mut [u8], at
     let mut next = at;
     let mut i = 0u32;
     while i < n {
-        next = write_record(store, k, scratch[order_at(c, k, i)], scratch, out, next);
+        next = write_record(
+            store,
+            k,
+            word_of(c, ORDERS, k, i, scratch),
+            scratch,
+            out,
+            next,
+        );
         i += 1;
     }
     next
@@ -155,33 +149,31 @@ pub fn write_lists(
     requires { ⌜ T (storeOk (now store)) ⌝ }
     requires { ⌜ Room (capacityOf (now store)) top (now scratch) ⌝ }
     requires { ⌜ ((j : ℕ) → j ≤ top → Kept (now store) j (getD counts j 0) (now scratch)) ⌝ }
-    requires { ⌜ at + length (bodyIn (keptOf (now store)) (capacityOf (now store)) counts top (now scratch)) ≤ length (now out) ⌝ }
-    ensures { λ r. ⌜ reached r (now (out .exit)) ≡ writing (bodyIn (keptOf (now (store .entry))) (capacityOf (now (store .entry))) counts top (now (scratch .entry))) at (now (out .entry)) ⌝ }
+    requires { ⌜ at + length (bodyIn (keptOf (now store)) (capacityOf (now store)) counts (suc top) (now scratch)) ≤ length (now out) ⌝ }
+    ensures { λ r. ⌜ reached r (now (out .exit)) ≡ writing (bodyIn (keptOf (now (store .entry))) (capacityOf (now (store .entry))) counts (suc top) (now (scratch .entry))) at (now (out .entry)) ⌝ }
 {
-    let mut k = top;
+    let mut k = top + 1;
     let mut next = at;
     while k != 0 {
-        next = write_list(store, k, counts[k as usize], scratch, out, next);
         k -= 1;
+        next = write_list(store, k, counts[k as usize], scratch, out, next);
     }
-    write_list(store, 0, counts[0], scratch, out, next)
+    next
 }
 
 // Writes the sizes of the lists from list `top` down; answers the position after them.
 pub fn write_sizes(sizes: [u32; 15], top: u32, out: &mut [u8], at: usize) -> usize
     requires { ⌜ top < heights ⌝ }
-    requires { ⌜ at + length (sizesIn sizes top) ≤ length (now out) ⌝ }
-    ensures { λ r. ⌜ reached r (now (out .exit)) ≡ writing (sizesIn sizes top) at (now (out .entry)) ⌝ }
+    requires { ⌜ at + length (sizesIn sizes (suc top)) ≤ length (now out) ⌝ }
+    ensures { λ r. ⌜ reached r (now (out .exit)) ≡ writing (sizesIn sizes (suc top)) at (now (out .entry)) ⌝ }
 {
-    let mut k = top;
+    let mut k = top + 1;
     let mut next = at;
     while k != 0 {
-        put_number(out, next, SIZE_BYTES, wider(sizes[k as usize]));
-        next += SIZE_BYTES;
         k -= 1;
+        next = write_number(out, next, SIZE_BYTES, wider(sizes[k as usize]));
     }
-    put_number(out, next, SIZE_BYTES, wider(sizes[0]));
-    next + SIZE_BYTES
+    next
 }
 
 // The length of a file whose lists have these sizes.

@@ -1,6 +1,7 @@
 -- `keeping::hold_scene` meets its contract: the count of scenes and the scene's two words are what the definition stores.
 -- By where the next scene lies, and the words before the first list. Assumes nothing.
-use Prim.Native.Nat.{_≤_}
+use mathlib.Core.Path.{_∙_}
+use Prim.Native.Nat.{_+_, _≤_}
 use native.Mathlib.Omega.{arith}
 use lib.ListN.{length, length-set}
 use Rattle.paper.specs.Store.{mostScenes, scenePlace}
@@ -16,16 +17,21 @@ front c = header-front _ (c .before .before .before .before .pre .0)
 slice-write-store : tie.Need-slice-write-store
 slice-write-store c = omega (arith, front c)
 
-slice-write-store-2 : tie.Need-slice-write-store-2
-slice-write-store-2 c = simp length-set (omega (arith, front c))
+put-words-requires : tie.Need-put-words-requires
+put-words-requires c κs = let p = c .before .before in simp length-set (omega (arith, front p, p .scene-place .ensures, p .before .scenes-held .ensures, p .before .before .before .before .pre .1))
 
-slice-write-store-3 : tie.Need-slice-write-store-3
-slice-write-store-3 c = simp length-set (omega (arith, front c))
+same-length : tie.Need-same-length
+same-length c =
+    let w = c .before .before in
+    let p = w .before .before .before in
+    w .put-words .kept .0 ∙ length-set (p .before .before .before .before .args .store .now) 1 (p .before .scenes-held .result + 1)
 
 returns : tie.Need-returns
 returns c =
-    let s = c .before .before .before .before in
-    scene-held (s .args .store .now) _ _ (s .args .depth) (s .args .root) (c .before .scenes-held .ensures) (c .scene-place .ensures)
+    let w = c .before .before in
+    let p = w .before .before .before in
+    let s = p .before .before .before .before in
+    w .put-words .ensures ∙ scene-held (s .args .store .now) _ _ (s .args .depth) (s .args .root) (p .before .scenes-held .ensures) (p .scene-place .ensures)
 
 pub hold-scene-spec : {M : Type 1} → statement M
 hold-scene-spec =
@@ -36,9 +42,6 @@ hold-scene-spec =
     (λ c. search needs)
     slice-write-store
     (λ c. search needs)
-    slice-write-store-2
-    (λ c. search needs)
-    (λ c. search needs)
-    slice-write-store-3
-    (λ c. search needs)
+    put-words-requires
+    same-length
     returns)

@@ -9,7 +9,7 @@ use Rattle.laws.proofs.Undamaged.{headed}
 use Rattle.laws.proofs.StoreFacts.{store-header}
 use Rattle.order.specs.Scratch.{orderPlace, placePlace}
 use Rattle.placing.specs.Placing.{orderIn, Room}
-use Rattle.placing.proofs.Bounds.{order-room, place-room, order-at}
+use Rattle.placing.proofs.Bounds.{part-room, order-at}
 use Rattle.placing.proofs.Runs.{Run, run-first, run-next, run-on, run-last}
 use Rattle.placing.proofs.place_list.Statement.{statement}
 use Rattle.placing.proofs.place_list.Tie as tie
@@ -32,85 +32,69 @@ loop-holds c =
     let s = c .before .before .before in
     run-first (keptOf (s .args .store .now)) (C s) (s .args .k) (s .args .n) (s .args .scratch .now)
 
-order-at-requires : tie.Need-order-at-requires Inv-loop μ-loop
-order-at-requires c κs =
-    let p = c .before .before in
-    let s = p .before .before .before in
-    (omega (arith, p .capacity .ensures, s .pre .1 .0 .most), s .pre .1 .0 .list, omega (arith, p .capacity .ensures, s .pre .1 .1 .few, c .loop-test .taken))
+-- room for the list in scratch as it is
+room-now : (c : tie.At-loop Inv-loop μ-loop) → (let s = c .before .before .before .before in Room (C s) (s .args .k) (c .loop .scratch))
+room-now c = let r = c .before .before .before .before .pre .1 .0 in record { most = r .most; list = r .list; long = rw (c .loop .inv .long) (r .long) }
 
--- where the next cell of the order is
-abbrev start : tie.After-order-at Inv-loop μ-loop → tie.Start Inv-loop μ-loop
-start c = c .before .before .before .before .before .before
-
-there : (c : tie.After-order-at Inv-loop μ-loop) → c .order-at .result ≡ orderPlace (C (start c)) (start c .args .k) (c .before .before .loop .i)
-there c = c .order-at .ensures ∙ ap (λ (x : ℕ). orderPlace x (start c .args .k) (c .before .before .loop .i)) (c .before .before .before .capacity .ensures)
-
-turn : (c : tie.After-order-at Inv-loop μ-loop) → c .before .before .loop .i < C (start c)
-turn c = omega (arith, start c .pre .1 .1 .few, c .before .loop-test .taken)
-
-inside : (c : tie.After-order-at Inv-loop μ-loop) → c .order-at .result < length (c .before .before .loop .scratch)
-inside c =
-    let a = start c .args in
-    omega (arith, there c, c .before .before .loop .inv .long, order-room (C (start c)) (a .k) (a .scratch .now) (start c .pre .1 .0) (c .before .before .loop .i) (turn c))
-
-mul-q : tie.Need-mul-q Inv-loop μ-loop
-mul-q c = omega (arith, inside c, start c .good .1 .1 .1 .0)
-
-slice-read-q : tie.Need-slice-read-q Inv-loop μ-loop
-slice-read-q c = omega (arith, inside (c .before))
+word-of-requires : tie.Need-word-of-requires Inv-loop μ-loop
+word-of-requires c κs =
+    let l = c .before .before in
+    let e = l .before .capacity .ensures in
+    let s = l .before .before .before .before in
+    (rw e (room-now l), (omega arith, omega (arith, e, s .pre .1 .1 .few, c .before .loop-test .taken)))
 
 -- the cell that is read is the next of the order, and kept
-abbrev cell : tie.After-order-at Inv-loop μ-loop → ℕ
-cell c = getD (c .before .before .loop .scratch) (c .order-at .result) 0
+abbrev loop : tie.After-word-of Inv-loop μ-loop → tie.At-loop Inv-loop μ-loop
+loop c = c .before .before .before
 
-next : (c : tie.After-order-at Inv-loop μ-loop) → cell c ≡ getD (orderIn (C (start c)) (start c .args .k) (start c .args .n) (start c .args .scratch .now)) (c .before .before .loop .i) 0
+abbrev start : tie.After-word-of Inv-loop μ-loop → tie.Start Inv-loop μ-loop
+start c = c .before .before .before .before .before .before .before
+
+next : (c : tie.After-word-of Inv-loop μ-loop) → c .word-of .result ≡ getD (orderIn (C (start c)) (start c .args .k) (start c .args .n) (start c .args .scratch .now)) (loop c .loop .i) 0
 next c =
     let a = start c .args in
-    let l = c .before .before .loop in
-    ap (λ (x : ℕ). getD (l .scratch) x 0) (there c)
-    ∙ run-next (keptOf (a .store .now)) (C (start c)) (a .k) (a .n) (a .scratch .now) (l .scratch) (l .at) (l .i) (l .inv) (c .before .loop-test .taken) (start c .pre .1 .1 .few)
+    let l = loop c .loop in
+    c .word-of .ensures ∙ ap (λ (x : ℕ). getD (l .scratch) (orderPlace x (a .k) (l .i)) 0) (loop c .before .capacity .ensures)
+    ∙ run-next (keptOf (a .store .now)) (C (start c)) (a .k) (a .n) (a .scratch .now) (l .scratch) (l .at) (l .i) (l .inv) (c .before .before .loop-test .taken) (start c .pre .1 .1 .few)
 
-is-kept : (c : tie.After-order-at Inv-loop μ-loop) → cell c < keptCount (start c .args .store .now) (start c .args .k)
+is-kept : (c : tie.After-word-of Inv-loop μ-loop) → c .word-of .result < keptCount (start c .args .store .now) (start c .args .k)
 is-kept c =
     let s = start c in
     let a = s .args in
-    let i = c .before .before .loop .i in
-    rw (next c ∙ order-at (C s) (a .k) (a .n) (a .scratch .now) i (c .before .loop-test .taken)) (s .pre .1 .1 .kept i (c .before .loop-test .taken))
+    let i = loop c .loop .i in
+    let t = c .before .before .loop-test .taken in
+    subst (λ (q : ℕ). q < keptCount (a .store .now) (a .k)) (sym (next c ∙ order-at (C s) (a .k) (a .n) (a .scratch .now) i t)) (s .pre .1 .1 .kept i t)
 
-room-now : (c : tie.After-order-at Inv-loop μ-loop) → Room (C (start c)) (start c .args .k) (c .before .before .loop .scratch)
-room-now c = let r = start c .pre .1 .0 in record { most = r .most; list = r .list; long = rw (c .before .before .loop .inv .long) (r .long) }
-
-below : (c : tie.After-order-at Inv-loop μ-loop) → cell c < C (start c)
+below : (c : tie.After-word-of Inv-loop μ-loop) → c .word-of .result < C (start c)
 below c =
     let s = start c in
     omega (arith, is-kept c, headed (s .args .store .now) (store-header (s .args .store .now) (s .pre .0)) .few (s .args .k) (s .pre .1 .0 .list))
 
 span-of-requires : tie.Need-span-of-requires Inv-loop μ-loop
-span-of-requires c κs = let o = c .before .before in (start o .pre .0, (room-now o, is-kept o))
+span-of-requires c κs = let o = c .before in (start o .pre .0, (room-now (loop o), is-kept o))
 
-place-at-requires : tie.Need-place-at-requires Inv-loop μ-loop
-place-at-requires c κs =
-    let o = c .before .before .before in
-    let p = o .before .before .before in
+word-place-requires : tie.Need-word-place-requires Inv-loop μ-loop
+word-place-requires c κs =
+    let o = c .before .before in
     let s = start o in
-    (omega (arith, p .capacity .ensures, s .pre .1 .0 .most), s .pre .1 .0 .list, omega (arith, p .capacity .ensures, below o))
+    (omega (arith, loop o .before .capacity .ensures, s .pre .1 .0 .most), s .pre .1 .0 .list, omega arith)
 
 -- where its place goes
-abbrev read : tie.After-place-at Inv-loop μ-loop → tie.After-order-at Inv-loop μ-loop
-read c = c .before .before .before .before
+abbrev read : tie.After-word-place Inv-loop μ-loop → tie.After-word-of Inv-loop μ-loop
+read c = c .before .before .before
 
-goes : (c : tie.After-place-at Inv-loop μ-loop) → c .place-at .result ≡ placePlace (C (start (read c))) (start (read c) .args .k) (cell (read c))
+goes : (c : tie.After-word-place Inv-loop μ-loop) → c .word-place .result ≡ placePlace (C (start (read c))) (start (read c) .args .k) (read c .word-of .result)
 goes c =
     let o = read c in
-    c .place-at .ensures ∙ ap (λ (x : ℕ). placePlace x (start o .args .k) (cell o)) (o .before .before .before .capacity .ensures)
+    c .word-place .ensures ∙ ap (λ (x : ℕ). placePlace x (start o .args .k) (o .word-of .result)) (loop o .before .capacity .ensures)
 
-within : (c : tie.After-place-at Inv-loop μ-loop) → c .place-at .result < length (read c .before .before .loop .scratch)
+within : (c : tie.After-word-place Inv-loop μ-loop) → c .word-place .result < length (loop (read c) .loop .scratch)
 within c =
     let o = read c in
-    omega (arith, goes c, place-room (C (start o)) (start o .args .k) (o .before .before .loop .scratch) (room-now o) (cell o) (below o))
+    omega (arith, goes c, part-room (C (start o)) (start o .args .k) (loop o .loop .scratch) (room-now (loop o)) 30 (o .word-of .result) (omega arith) (below o))
 
 mul-scratch : tie.Need-mul-scratch Inv-loop μ-loop
-mul-scratch c = omega (arith, within c, start (read c) .good .1 .1 .1 .0, read c .before .before .loop .inv .long)
+mul-scratch c = omega (arith, within c, start (read c) .good .1 .1 .1 .0, loop (read c) .loop .inv .long)
 
 slice-write-scratch : tie.Need-slice-write-scratch Inv-loop μ-loop
 slice-write-scratch c = omega (arith, within c)
@@ -118,16 +102,16 @@ slice-write-scratch c = omega (arith, within c)
 add-at : tie.Need-add-at Inv-loop μ-loop
 add-at c =
     let o = read c in
-    omega (arith, c .before .span-of .ensures .1, o .before .before .loop .inv .low, turn o, start o .pre .1 .0 .most)
+    omega (arith, c .before .span-of .ensures .1, loop o .loop .inv .low, o .before .before .loop-test .taken, start o .pre .1 .1 .few, start o .pre .1 .0 .most)
 
 loop-again : tie.Need-loop-again Inv-loop μ-loop
 loop-again c =
     let o = read c in
     let s = start o in
     let a = s .args in
-    let l = o .before .before .loop in
+    let l = loop o .loop in
     let w = c .before .span-of in
-    let done = run-on (keptOf (a .store .now)) (C s) (a .k) (a .n) (a .scratch .now) (l .scratch) (l .at) (l .i) (cell o) (w .result) (l .inv) (o .before .loop-test .taken) (next o) (w .ensures .0) (w .ensures .1) in
+    let done = run-on (keptOf (a .store .now)) (C s) (a .k) (a .n) (a .scratch .now) (l .scratch) (l .at) (l .i) (o .word-of .result) (w .result) (l .inv) (o .before .before .loop-test .taken) (next o) (w .ensures .0) (w .ensures .1) in
     subst (λ (p : ℕ). Run (keptOf (a .store .now)) (C s) (a .k) (a .n) (a .scratch .now) (set (l .scratch) p (l .at)) (l .at + w .result) (l .i + 1)) (sym (goes c)) done
 
 same-length : tie.Need-same-length Inv-loop μ-loop
@@ -148,11 +132,9 @@ place-list-spec =
     μ-loop
     capacity-requires
     loop-holds
-    order-at-requires
-    mul-q
-    slice-read-q
+    word-of-requires
     span-of-requires
-    place-at-requires
+    word-place-requires
     mul-scratch
     slice-write-scratch
     add-at

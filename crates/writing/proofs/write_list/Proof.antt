@@ -12,7 +12,7 @@ use Rattle.laws.proofs.StoreFacts.{store-header}
 use Rattle.order.specs.Scratch.{orderPlace}
 use Rattle.placing.specs.Placing.{orderIn}
 use Rattle.writing.specs.Writing.{recordIn, listIn}
-use Rattle.placing.proofs.Bounds.{order-room, order-at, order-length}
+use Rattle.placing.proofs.Bounds.{order-at, order-length}
 use Rattle.writing.proofs.Behind.{Going, going-first, going-room, going-on, going-none, parts-from, parts-none}
 use Rattle.writing.proofs.write_list.Statement.{statement}
 use Rattle.writing.proofs.write_list.Tie as tie
@@ -48,48 +48,33 @@ capacity-requires c κs = let s = c .before .before .before in store-header (s .
 loop-holds : tie.Need-loop-holds Inv-loop μ-loop
 loop-holds c = let s = c .before .before .before .before in (omega arith, going-first (from s 0) (s .args .at) (s .args .out .now) (room s))
 
-order-at-requires : tie.Need-order-at-requires Inv-loop μ-loop
-order-at-requires c κs =
+word-of-requires : tie.Need-word-of-requires Inv-loop μ-loop
+word-of-requires c κs =
     let p = c .before .before in
     let s = p .before .before .before .before in
-    (omega (arith, p .capacity .ensures, s .pre .1 .0 .most), s .pre .1 .0 .list, omega (arith, p .capacity .ensures, s .pre .1 .1 .0 .few, c .loop-test .taken))
+    (rw (p .capacity .ensures) (s .pre .1 .0), (omega arith, omega (arith, p .capacity .ensures, s .pre .1 .1 .0 .few, c .loop-test .taken)))
 
 -- the cell that is read is the i-th of the order, and kept
-abbrev start : tie.After-order-at Inv-loop μ-loop → tie.Start Inv-loop μ-loop
+abbrev start : tie.After-word-of Inv-loop μ-loop → tie.Start Inv-loop μ-loop
 start c = c .before .before .before .before .before .before .before
 
-there : (c : tie.After-order-at Inv-loop μ-loop) → c .order-at .result ≡ orderPlace (C (start c)) (start c .args .k) (c .before .before .loop .i)
-there c = c .order-at .ensures ∙ ap (λ (x : ℕ). orderPlace x (start c .args .k) (c .before .before .loop .i)) (c .before .before .before .capacity .ensures)
+there : (c : tie.After-word-of Inv-loop μ-loop) → c .word-of .result ≡ getD (start c .args .scratch .now) (orderPlace (C (start c)) (start c .args .k) (c .before .before .loop .i)) 0
+there c =
+    let a = start c .args in
+    c .word-of .ensures ∙ ap (λ (x : ℕ). getD (a .scratch .now) (orderPlace x (a .k) (c .before .before .loop .i)) 0) (c .before .before .before .capacity .ensures)
 
-inside : (c : tie.After-order-at Inv-loop μ-loop) → c .order-at .result < length (start c .args .scratch .now)
-inside c =
-    let s = start c in
-    let a = s .args in
-    let turn : c .before .before .loop .i < C s = omega (arith, s .pre .1 .1 .0 .few, c .before .loop-test .taken) in
-    omega (arith, there c, order-room (C s) (a .k) (a .scratch .now) (s .pre .1 .0) (c .before .before .loop .i) turn)
-
-abbrev cell : tie.After-order-at Inv-loop μ-loop → ℕ
-cell c = getD (start c .args .scratch .now) (c .order-at .result) 0
-
-told : (c : tie.After-order-at Inv-loop μ-loop) → cell c ≡ getD (order (start c)) (c .before .before .loop .i) 0
+told : (c : tie.After-word-of Inv-loop μ-loop) → c .word-of .result ≡ getD (order (start c)) (c .before .before .loop .i) 0
 told c =
     let a = start c .args in
-    ap (λ (x : ℕ). getD (a .scratch .now) x 0) (there c) ∙ sym (order-at (C (start c)) (a .k) (a .n) (a .scratch .now) (c .before .before .loop .i) (c .before .loop-test .taken))
+    there c ∙ sym (order-at (C (start c)) (a .k) (a .n) (a .scratch .now) (c .before .before .loop .i) (c .before .loop-test .taken))
 
-is-kept : (c : tie.After-order-at Inv-loop μ-loop) → cell c < keptCount (start c .args .store .now) (start c .args .k)
+is-kept : (c : tie.After-word-of Inv-loop μ-loop) → c .word-of .result < keptCount (start c .args .store .now) (start c .args .k)
 is-kept c =
     let s = start c in
-    let a = s .args in
-    subst (λ (x : ℕ). getD (a .scratch .now) x 0 < keptCount (a .store .now) (a .k)) (sym (there c)) (s .pre .1 .1 .0 .kept (c .before .before .loop .i) (c .before .loop-test .taken))
-
-mul-write-record : tie.Need-mul-write-record Inv-loop μ-loop
-mul-write-record c = omega (arith, inside c, start c .good .1 .1 .1 .0)
-
-shared-slice-read-write-record : tie.Need-shared-slice-read-write-record Inv-loop μ-loop
-shared-slice-read-write-record c = omega (arith, inside (c .before))
+    subst (λ (q : ℕ). q < keptCount (s .args .store .now) (s .args .k)) (sym (there c)) (s .pre .1 .1 .0 .kept (c .before .before .loop .i) (c .before .loop-test .taken))
 
 -- its record, and those behind it
-next : (c : tie.After-order-at Inv-loop μ-loop) → (let s = start c in let i = c .before .before .loop .i in from s i ≡ one s (cell c) ++ from s (suc i))
+next : (c : tie.After-word-of Inv-loop μ-loop) → (let s = start c in let i = c .before .before .loop .i in from s i ≡ one s (c .word-of .result) ++ from s (suc i))
 next c =
     let s = start c in
     let i = c .before .before .loop .i in
@@ -98,7 +83,7 @@ next c =
 
 write-record-requires : tie.Need-write-record-requires Inv-loop μ-loop
 write-record-requires c κs =
-    let o = c .before .before in
+    let o = c .before in
     let l = o .before .before .loop in
     let s = start o in (
       s .pre .0,
@@ -106,7 +91,7 @@ write-record-requires c κs =
         s .pre .1 .0,
         (
           is-kept o,
-          going-room (one s (cell o)) (from s (suc (l .i))) (from s (l .i)) (l .next) (l .out) (from s 0) (s .args .at) (s .args .out .now) (next o) (l .inv .1),
+          going-room (one s (o .word-of .result)) (from s (suc (l .i))) (from s (l .i)) (l .next) (l .out) (from s 0) (s .args .at) (s .args .out .now) (next o) (l .inv .1),
         ),
       ),
     )
@@ -114,13 +99,13 @@ write-record-requires c κs =
 loop-again : tie.Need-loop-again Inv-loop μ-loop
 loop-again c =
     let w = c .before .before in
-    let o = w .before .before .before in
+    let o = w .before .before in
     let l = o .before .before .loop in
     let s = start o in
     let a = s .args in
     let n = w .write-record .result in
     let out = w .write-record .last .1 .1 .1 .1 .0 in
-    let g = going-on (from s 0) (a .at) (a .out .now) (one s (cell o)) (l .next) (l .out) n out (w .write-record .ensures) (from s (suc (l .i))) (from s (l .i)) (next o) (l .inv .1) in
+    let g = going-on (from s 0) (a .at) (a .out .now) (one s (o .word-of .result)) (l .next) (l .out) n out (w .write-record .ensures) (from s (suc (l .i))) (from s (l .i)) (next o) (l .inv .1) in
     (omega (arith, o .before .loop-test .taken), subst (λ (j : ℕ). Going (from s j) n out (from s 0) (a .at) (a .out .now)) (sym (add-one (l .i))) g)
 
 same-length : tie.Need-same-length Inv-loop μ-loop
@@ -143,9 +128,7 @@ write-list-spec =
     μ-loop
     capacity-requires
     loop-holds
-    order-at-requires
-    mul-write-record
-    shared-slice-read-write-record
+    word-of-requires
     write-record-requires
     (λ c. search needs)
     (λ c. search needs)

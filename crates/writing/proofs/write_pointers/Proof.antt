@@ -83,6 +83,7 @@ write-pointers-spec =
     loop-holds
     (λ c. search needs)
     (λ c. search needs)
+    (λ c. search needs)
     write-pointer-requires
     (λ c. search needs)
     (λ c. search needs)

@@ -1,21 +1,20 @@
 -- `writing::write_record` meets its contract: a leaf's eight bytes, or a header and the pointers behind it. Assumes nothing.
 use mathlib.Core.Path.{_≡_, refl, sym, ap, subst, _∙_}
 use mathlib.Core.List.{List, _++_, map}
-use Prim.Native.Nat.{ℕ, _+_, _-_, _≤_, _<_}
+use Prim.Native.Nat.{ℕ, _-_, _<_}
 use native.Mathlib.Omega.{arith}
 use lib.ListN.{length}
 use borrow.Author.Needs.{needs}
 use Rattle.paper.specs.Numbers.{bytes, flatten}
 use Rattle.paper.specs.Store.{capacityOf, keptCount, keptOf}
 use Rattle.paper.specs.Pack.{pointerBytes}
-use Rattle.laws.proofs.Bytes.{bytes-length}
 use Rattle.laws.proofs.StoreFacts.{store-header}
-use Rattle.numbers.specs.Laid.{reached, writing}
-use Rattle.numbers.proofs.Laying.{writing-number, reached-length}
-use Rattle.placing.specs.Placing.{placesIn}
+use Rattle.numbers.specs.Laid.{writing}
+use Rattle.placing.specs.Placing.{placesIn, Room, Below}
 use Rattle.writing.specs.Writing.{recordIn}
 use Rattle.placing.proofs.Bounds.{room-below}
-use Rattle.writing.proofs.Behind.{Going, going-first, going-room, going-on, going-last, last-long}
+use Rattle.placing.proofs.Codes.{digits-header}
+use Rattle.writing.proofs.Behind.{Going, going-first, number-room, number-first, going-on, going-last, last-long}
 use Rattle.placing.proofs.Runs.{cell-below}
 use Rattle.writing.proofs.KeptWords.{leaf-bytes}
 use Rattle.writing.proofs.Pieces.{record-leaf, record-cell}
@@ -46,36 +45,16 @@ leaf c =
     ∙ leaf-bytes (a .store .now) (store-header (a .store .now) (s .pre .0)) (λ i. w .shared-slice-known .given i .fits) (a .q) (kept-leaf s e)
     ∙ ap (bytes 8) (sym (c .leaf-at .ensures))
 
-leaf-room : (c : tie.After-leaf-at) → c .before .before .before .before .before .before .args .at + 8 ≤ length (c .before .before .before .before .before .before .args .out .now)
-leaf-room c = omega (arith, ap length (leaf c), bytes-length 8 (c .leaf-at .result), c .before .before .before .before .before .before .pre .1 .1 .1)
-
-put-number-requires : tie.Need-put-number-requires
-put-number-requires c κs = leaf-room c
-
-add-result : tie.Need-add-result
-add-result c = omega (arith, leaf-room (c .before .before .before))
-
-leaf-written : (c : tie.After-put-number)
-    → (let l = c .before in let a = l .before .before .before .before .before .before .args in
-    reached (a .at + 8) (c .put-number .last .0) ≡ writing (bytes 8 (l .leaf-at .result)) (a .at) (a .out .now))
-leaf-written c =
-    let l = c .before in
-    let a = l .before .before .before .before .before .before .args in
-    writing-number 8 (l .leaf-at .result) (a .at) (a .out .now) (c .put-number .last .0) (c .put-number .ensures)
-
-same-length : tie.Need-same-length
-same-length c =
-    let p = c .before .before in
-    let l = p .before in
-    let a = l .before .before .before .before .before .before .args in
-    reached-length (bytes 8 (l .leaf-at .result)) (a .at) (a .at + 8) (a .out .now) (p .put-number .last .0) (leaf-written p) (rw (bytes-length 8 (l .leaf-at .result)) (leaf-room l))
+write-number-requires : tie.Need-write-number-requires
+write-number-requires c κs =
+    let s = c .before .before .before .before .before .before in
+    number-room 8 _ (s .args .at) (length (s .args .out .now)) _ (leaf c) (s .pre .1 .1 .1)
 
 returns : tie.Need-returns
 returns c =
     let p = c .before .before in
-    let l = p .before in
-    let a = l .before .before .before .before .before .before .args in
-    leaf-written p ∙ ap (λ (bs : List ℕ). writing bs (a .at) (a .out .now)) (sym (leaf l))
+    let a = p .before .before .before .before .before .before .before .args in
+    p .write-number .ensures ∙ ap (λ (bs : List ℕ). writing bs (a .at) (a .out .now)) (sym (leaf (p .before)))
 
 -- ---- any other cell
 
@@ -87,8 +66,12 @@ cell-at-requires c κs =
     let s = c .before .before .before .before .before in
     (store-header (s .args .store .now) (s .pre .0), ((omega (arith, c .before .if1 .left), s .pre .1 .0 .list), s .pre .1 .1 .0))
 
-header-of-requires : tie.Need-header-of-requires
-header-of-requires c κs =
+-- what its pointers ask, of the header and of themselves
+below : (c : tie.After-cell-at) →
+    let p = c .before in
+    let a = p .before .before .before .before .before .args in
+    Room (p .capacity .result) (a .k - 1) (a .scratch .now) × Below (p .capacity .result) (c .cell-at .result)
+below c =
     let p = c .before in
     let s = p .before .before .before .before .before in
     let a = s .args in (
@@ -96,14 +79,18 @@ header-of-requires c κs =
       rw (p .capacity .ensures, c .cell-at .ensures) (cell-below (a .store .now) (s .pre .0) (a .k) (a .q) (p .before .if1 .left) (s .pre .1 .0 .list) (s .pre .1 .1 .0)),
     )
 
+codes-of-requires : tie.Need-codes-of-requires
+codes-of-requires c κs = (below c .0, (below c .1, omega arith))
+
 -- the pointers behind the header
 abbrev start : tie.After-wider → tie.Start
 start c = c .before .before .before .before .before .before .before .before
 
+abbrev places : tie.After-wider → List ℕ
+places c = placesIn (c .before .before .before .capacity .result) (start c .args .k - 1) (start c .args .scratch .now)
+
 abbrev rest : tie.After-wider → List ℕ
-rest c =
-    let d = c .before .before in
-    flatten (map (pointerBytes (placesIn (d .before .capacity .result) (start c .args .k - 1) (start c .args .scratch .now))) (d .cell-at .result))
+rest c = flatten (map (pointerBytes (places c)) (c .before .before .cell-at .result))
 
 whole : (c : tie.After-wider) → all (start c) ≡ bytes 2 (c .wider .result) ++ rest c
 whole c =
@@ -112,43 +99,29 @@ whole c =
     let a = start c .args in
     ap (λ (x : ℕ). recordIn (keptOf (a .store .now)) x (a .k) (a .scratch .now) (a .q)) (sym (p .capacity .ensures))
     ∙ record-cell (keptOf (a .store .now)) (p .capacity .result) (a .k) (a .scratch .now) (a .q) (c .wider .result) (d .cell-at .result) (p .before .if1 .left) (d .cell-at .ensures)
-    (c .wider .ensures .0 ∙ c .before .header-of .ensures)
+    (c .wider .ensures .0 ∙ c .before .codes-of .ensures .0 ∙ digits-header (places c) (d .cell-at .result))
 
 first : (c : tie.After-wider) → Going (all (start c)) (start c .args .at) (start c .args .out .now) (all (start c)) (start c .args .at) (start c .args .out .now)
 first c = going-first (all (start c)) (start c .args .at) (start c .args .out .now) (start c .pre .1 .1 .1)
 
-put-number-requires-2 : tie.Need-put-number-requires-2
-put-number-requires-2 c κs =
-    let w = c .before in
-    let a = start w .args in
-    rw (bytes-length 2 (w .wider .result)) at (going-room (bytes 2 (w .wider .result)) (rest w) (all (start w)) (a .at) (a .out .now) (all (start w)) (a .at) (a .out .now) (whole w) (first w))
+write-number-requires-2 : tie.Need-write-number-requires-2
+write-number-requires-2 c κs =
+    let s = start (c .before) in
+    number-first 2 _ (s .args .at) (length (s .args .out .now)) _ _ (whole (c .before)) (s .pre .1 .1 .1)
 
-going : (c : tie.After-put-number2)
-    → (let w = c .before .before in Going (rest w) (start w .args .at + 2) (c .put-number2 .last .0) (all (start w)) (start w .args .at) (start w .args .out .now))
+going : (c : tie.After-write-number2)
+    → (let w = c .before .before in Going (rest w) (c .write-number2 .result) (c .write-number2 .last .0) (all (start w)) (start w .args .at) (start w .args .out .now))
 going c =
     let w = c .before .before in
     let a = start w .args in
-    going-on (all (start w)) (a .at) (a .out .now) (bytes 2 (w .wider .result)) (a .at) (a .out .now) (a .at + 2) (c .put-number2 .last .0)
-    (writing-number 2 (w .wider .result) (a .at) (a .out .now) (c .put-number2 .last .0) (c .put-number2 .ensures)) (rest w) (all (start w)) (whole w) (first w)
-
-add-write-pointers : tie.Need-add-write-pointers
-add-write-pointers c =
-    let p = c .before .before .before in
-    omega (arith, going p .room, going p .long, start (p .before .before) .good .1 .1 .1 .1 .0)
+    going-on (all (start w)) (a .at) (a .out .now) (bytes 2 (w .wider .result)) (a .at) (a .out .now) (c .write-number2 .result) (c .write-number2 .last .0) (c .write-number2 .ensures)
+    (rest w) (all (start w)) (whole w) (first w)
 
 write-pointers-requires : tie.Need-write-pointers-requires
 write-pointers-requires c κs =
     let p = c .before .before .before in
     let d = p .before .before .before .before in
-    let q = d .before in
-    let s = q .before .before .before .before .before in
-    let a = s .args in (
-      rw (q .capacity .ensures) (room-below (capacityOf (a .store .now)) (a .k) (a .scratch .now) (s .pre .1 .0)),
-      (
-        rw (q .capacity .ensures, d .cell-at .ensures) (cell-below (a .store .now) (s .pre .0) (a .k) (a .q) (q .before .if1 .left) (s .pre .1 .0 .list) (s .pre .1 .1 .0)),
-        going p .room,
-      ),
-    )
+    (below d .0, (below d .1, going p .room))
 
 same-length-2 : tie.Need-same-length-2
 same-length-2 c =
@@ -156,7 +129,7 @@ same-length-2 c =
     let p = r .before .before .before .before in
     let w = p .before .before in
     let a = start w .args in
-    last-long (all (start w)) (a .at) (a .out .now) (rest w) (a .at + 2) (p .put-number2 .last .0) (r .write-pointers .result) (r .write-pointers .last .1 .1 .1 .1 .0) (r .write-pointers .ensures) (rest w) refl (going p)
+    last-long (all (start w)) (a .at) (a .out .now) (rest w) (p .write-number2 .result) (p .write-number2 .last .0) (r .write-pointers .result) (r .write-pointers .last .1 .1 .1 .1 .0) (r .write-pointers .ensures) (rest w) refl (going p)
 
 returns-2 : tie.Need-returns-2
 returns-2 c =
@@ -164,25 +137,23 @@ returns-2 c =
     let p = r .before .before .before .before in
     let w = p .before .before in
     let a = start w .args in
-    going-last (all (start w)) (a .at) (a .out .now) (rest w) (a .at + 2) (p .put-number2 .last .0) (r .write-pointers .result) (r .write-pointers .last .1 .1 .1 .1 .0) (r .write-pointers .ensures) (rest w) refl (going p)
+    going-last (all (start w)) (a .at) (a .out .now) (rest w) (p .write-number2 .result) (p .write-number2 .last .0) (r .write-pointers .result) (r .write-pointers .last .1 .1 .1 .1 .0) (r .write-pointers .ensures) (rest w) refl (going p)
 
 pub write-record-spec : {M : Type 1} → statement M
 write-record-spec =
     tie.close
     (tie.spec
     leaf-at-requires
-    put-number-requires
-    add-result
-    same-length
+    write-number-requires
+    (λ c. search needs)
     returns
     capacity-requires
     cell-at-requires
     (λ c. search needs)
-    header-of-requires
+    codes-of-requires
     (λ c κs. search needs)
-    put-number-requires-2
+    write-number-requires-2
     (λ c. search needs)
-    add-write-pointers
     write-pointers-requires
     same-length-2
     returns-2)

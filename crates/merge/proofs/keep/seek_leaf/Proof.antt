@@ -1,10 +1,19 @@
 -- `keep::seek_leaf` meets its contract: found where the search says, else kept or refused. Assumes nothing.
 use mathlib.Core.Path.{sym, ap, _∙_}
+use lib.Dec.{lit<}
+use lib.ListN.{length}
+use Rattle.paper.specs.Store.{Cell}
 use Rattle.seek.specs.Sought.{sought}
+use Rattle.merge.specs.Seeking.{keptWith}
 use Rattle.merge.proofs.Ways.{found-at, found-nowhere, leaf-by}
 use borrow.Author.Needs.{needs}
 use Rattle.merge.proofs.keep.seek_leaf.Statement.{statement}
 use Rattle.merge.proofs.keep.seek_leaf.Tie as tie
+
+place-requires : tie.Need-place-requires
+place-requires c κs =
+    let w = c .before .before in
+    (w .before .before .before .before .before .before .before .pre, (lit< tt, ap length (w .leaf-words .ensures)))
 
 returns : tie.Need-returns
 returns c =
@@ -14,9 +23,12 @@ returns c =
 returns-2 : tie.Need-returns-2
 returns-2 c =
     let p = c .before .before in
-    let e = p .before .before in
+    let w = p .before .before .before in
+    let e = w .before in
     let f = e .before .before in
-    p .place-leaf .ensures ∙ sym (found-nowhere _ _ _ _ _ (ap sought (e .enum-told .given .1))) ∙ leaf-by _ _ _ _ (f .find-leaf .ensures) (f .before .before .leaf-mask .ensures)
+    let a = f .before .before .before .before .args in
+    p .place .ensures ∙ ap (λ (l : Cell). keptWith (f .before .before .leaf-mask .result) 0 l (a .store .now)) (w .leaf-words .ensures)
+    ∙ sym (found-nowhere _ _ _ _ _ (ap sought (e .enum-told .given .1))) ∙ leaf-by _ _ _ _ (f .find-leaf .ensures) (f .before .before .leaf-mask .ensures)
 
 pub seek-leaf-spec : {M : Type 1} → statement M
 seek-leaf-spec =
@@ -27,6 +39,8 @@ seek-leaf-spec =
     (λ c. search needs)
     (λ c. search needs)
     (λ c κs. search needs)
+    (λ c. search needs)
+    place-requires
     (λ c. search needs)
     returns
     (λ c. search needs)

@@ -28,7 +28,7 @@ use Rattle.outline_out.proofs.record.+write_children+write_record.Lts-w
 use Rattle.leaf.proofs.mirror_leaf.Reads as mirror-leaf-reads
 use Rattle.outline_out.proofs.record.mask.Reads as mask-reads
 use Rattle.outline_out.proofs.record.turned.Reads as turned-reads
-use Rattle.outline_out.proofs.record.write_leaf.Reads as write-leaf-reads
+use Rattle.numbers.proofs.write_number.Reads as write-number-reads
 use Rattle.store.proofs.cell_at.Reads as cell-at-reads
 use Rattle.store.proofs.leaf_at.Reads as leaf-at-reads
 use Rattle.store.proofs.cell_number.Reads as cell-number-reads
@@ -75,8 +75,8 @@ of-record t = (
   leaf-at-reads.Learnt,
   mirror-leaf-reads.Asked,
   mirror-leaf-reads.Learnt,
-  write-leaf-reads.Asked,
-  write-leaf-reads.Learnt,
+  write-number-reads.Asked,
+  write-number-reads.Learnt,
   cell-at-reads.Asked,
   cell-at-reads.Learnt,
   mask-reads.Asked,
@@ -214,8 +214,8 @@ leaf-at-requires t c κs =
     let q = b .pre .1 in
     (store-header (a .store .now) (q .0), subst (λ (k : ℕ). a .n < keptCount (a .store .now) k) (c .before .if1 .taken) (q .1 .0 .1))
 
-write-leaf-requires : (t : ℕ) → record-lts.Need-write-leaf-requires (of-record t) (record-at t) write-record.Post
-write-leaf-requires t c κs =
+write-number-requires : (t : ℕ) → record-lts.Need-write-number-requires (of-record t) (record-at t) write-record.Post
+write-number-requires t c κs =
     let b = c .before .before .before .before .before .before in
     let a = b .args in
     let K : List (List Cell) = keptOf (a .store .now) in
@@ -228,7 +228,7 @@ returns t c =
     let f = c .before .before .before in
     let a = f .before .before .before .before .before .before .args in
     let K : List (List Cell) = keptOf (a .store .now) in
-    c .before .before .write-leaf .ensures
+    c .before .before .write-number .ensures
     ∙ ap (λ (bs : List ℕ). writing bs (a .at) (a .out .now))
     (ap (bytes 8) (f .mirror-leaf .ensures ∙ ap (mirrorLeaf (a .mirror)) (f .before .leaf-at .ensures)) ∙ sym (record-leaf K (a .k) (a .n) (a .mirror) (f .before .before .before .if1 .taken)))
 
@@ -321,7 +321,7 @@ pub +write-children+write-record-spec : {M : Type 1} → statement M
     write-record.Post
     (leaf-at-requires t)
     (λ c κs. search needs)
-    (write-leaf-requires t)
+    (write-number-requires t)
     (λ c. search needs)
     (returns t)
     (cell-at-requires t)

@@ -6,12 +6,13 @@ use Prim.Native.Nat.{ℕ, _+_, _-_, _<_, _≤_}
 use native.Mathlib.Omega.{arith}
 use lib.ListN.{length, length-append}
 use borrow.Author.Needs.{needs}
+use Rattle.paper.specs.Outline.{outlineFront}
 use Rattle.paper.specs.Store.{Cell, keptCount, keptOf, sceneDepth, sceneRoot}
 use Rattle.laws.proofs.StoreFacts.{store-header, tag-lt}
-use Rattle.numbers.specs.Laid.{reached, writing}
-use Rattle.outline_out.specs.Record.{headOf, recordAt, fileAt}
-use Rattle.numbers.proofs.Laying.{writing-then, reached-at, reached-length}
-use Rattle.outline_out.proofs.Scenes.{Held, held, root-kept, head-length, none-file, there-file, file-least, root-record}
+use Rattle.numbers.specs.Laid.{reached, writing, headOf}
+use Rattle.outline_out.specs.Record.{recordAt, fileAt}
+use Rattle.numbers.proofs.Laying.{writing-then, reached-at, reached-length, head-length}
+use Rattle.outline_out.proofs.Scenes.{Held, held, root-kept, none-file, there-file, file-least, root-record}
 use Rattle.outline_out.proofs.scene.write_scene.Statement.{statement}
 use Rattle.outline_out.proofs.scene.write_scene.Tie as tie
 
@@ -29,7 +30,7 @@ abbrev file : tie.Start → List ℕ
 file c = fileAt (keptOf (c .args .store .now)) (depth c) (root c)
 
 abbrev head : tie.Start → List ℕ
-head c = headOf (length (file c)) (depth c)
+head c = headOf outlineFront (length (file c)) (depth c)
 
 scene-depth-requires : tie.Need-scene-depth-requires
 scene-depth-requires c κs = let s = c .before .before in (store-header (s .args .store .now) (s .pre .0), scene s .few)
@@ -51,10 +52,10 @@ headed : (c : tie.After-write-head) → reached (c .write-head .result) (c .writ
 headed c =
     let d = c .before .before .before in
     let s = d .before .before .before in
-    c .write-head .ensures ∙ ap₂ (λ (n D : ℕ). writing (headOf n D) 0 (s .args .out .now)) (s .pre .1 .1 .0) (d .scene-depth .ensures)
+    c .write-head .ensures ∙ ap₂ (λ (n D : ℕ). writing (headOf outlineFront n D) 0 (s .args .out .now)) (s .pre .1 .1 .0) (d .scene-depth .ensures)
 
 fits : (c : tie.Start) → 0 + length (head c) ≤ length (c .args .out .now)
-fits c = omega (arith, head-length (length (file c)) (depth c), file-least (keptOf (c .args .store .now)) (depth c) (root c), c .pre .1 .1 .0, c .pre .1 .1 .1)
+fits c = omega (arith, head-length outlineFront (length (file c)) (depth c), file-least (keptOf (c .args .store .now)) (depth c) (root c), c .pre .1 .1 .0, c .pre .1 .1 .1)
 
 returns : tie.Need-returns
 returns c =

@@ -24,8 +24,8 @@ returns c =
     let a = c .before .before .args in
     fitted-short (emptyFile (a .depth)) (a .out .now) (omega (arith, size (a .depth), c .if1 .taken))
 
-write-head-requires : tie.Need-write-head-requires
-write-head-requires c κs =
+write-packed-head-requires : tie.Need-write-packed-head-requires
+write-packed-head-requires c κs =
     let s = c .before .before .before in
     let r = depth-range (s .args .depth) (s .pre) in
     (omega (arith, c .before .if1 .left), (omega (arith, r .1), omega arith))
@@ -35,7 +35,7 @@ same-length c =
     let w = c .before .before in
     let t = w .before .before in
     let a = t .before .before .args in
-    reached-length (headOf packedHead (a .depth) 8) 0 (w .write-head .result) (a .out .now) (w .write-head .last .0) (w .write-head .ensures)
+    reached-length (headOf packedHead (a .depth) 8) 0 (w .write-packed-head .result) (a .out .now) (w .write-packed-head .last .0) (w .write-packed-head .ensures)
     (rw (head-length packedHead (a .depth) 8) (omega (arith, t .if1 .left)))
 
 returns-2 : tie.Need-returns-2
@@ -44,9 +44,9 @@ returns-2 c =
     let t = w .before .before in
     let a = t .before .before .args in
     let bs : List ℕ = headOf packedHead (a .depth) 8 in
-    fitted-whole (emptyFile (a .depth)) (a .out .now) packedHead (w .write-head .last .0) (sym (size (a .depth)))
-    (reached-list bs 0 (w .write-head .result) (a .out .now) (w .write-head .last .0) (w .write-head .ensures) ∙ laid-first bs (a .out .now) ∙ ap (λ (x : List ℕ). over x (a .out .now)) (empty-head (a .depth)))
+    fitted-whole (emptyFile (a .depth)) (a .out .now) packedHead (w .write-packed-head .last .0) (sym (size (a .depth)))
+    (reached-list bs 0 (w .write-packed-head .result) (a .out .now) (w .write-packed-head .last .0) (w .write-packed-head .ensures) ∙ laid-first bs (a .out .now) ∙ ap (λ (x : List ℕ). over x (a .out .now)) (empty-head (a .depth)))
     (omega (arith, size (a .depth), t .if1 .left))
 
 pub pack-empty-spec : {M : Type 1} → statement M
-pack-empty-spec = tie.close (tie.spec returns write-head-requires (λ c. search needs) same-length returns-2)
+pack-empty-spec = tie.close (tie.spec returns write-packed-head-requires (λ c. search needs) same-length returns-2)

@@ -2,7 +2,7 @@
 -- Assumes nothing.
 use mathlib.Core.Path.{_≡_, refl, sym, ap₂, _∙_}
 use mathlib.Core.List.{List, _++_}
-use Prim.Native.Nat.{ℕ, _+_, _≤_}
+use Prim.Native.Nat.{ℕ, suc, _+_, _≤_}
 use native.Mathlib.Omega.{arith}
 use lib.ListN.{length, drop}
 use borrow.Author.Needs.{needs}
@@ -109,8 +109,8 @@ returns c =
 file-least : (c : tie.After-place-lists) → 7 ≤ length (file (start c))
 file-least c = omega (arith, seen c .measured)
 
-write-head-requires : tie.Need-write-head-requires
-write-head-requires c κs =
+write-packed-head-requires : tie.Need-write-packed-head-requires
+write-packed-head-requires c κs =
     let t = c .before .before in
     let m = t .before in
     let p = laid-out m in
@@ -125,13 +125,13 @@ abbrev head : tie.After-tag → List ℕ
 head c = headOf (c .before .before .before .file-length .result) (start (placed c) .args .top + 2) (c .tag .result)
 
 abbrev sizes : tie.After-tag → List ℕ
-sizes c = let p = placed c in sizesIn (p .place-lists .result) (start p .args .top)
+sizes c = let p = placed c in sizesIn (p .place-lists .result) (suc (start p .args .top))
 
 abbrev lists : tie.After-tag → List ℕ
 lists c =
     let p = placed c in
     let a = start p .args in
-    bodyIn (keptOf (a .store .now)) (capacityOf (a .store .now)) (earlier p .order-lists .result) (a .top) (scratch p)
+    bodyIn (keptOf (a .store .now)) (capacityOf (a .store .now)) (earlier p .order-lists .result) (suc (a .top)) (scratch p)
 
 whole : (c : tie.After-tag) → file (start (placed c)) ≡ head c ++ (sizes c ++ lists c)
 whole c =
@@ -142,19 +142,19 @@ fits : (c : tie.After-tag) → 0 + length (file (start (placed c))) ≤ length (
 fits c = omega (arith, measured (c .before .before .before), c .before .before .if1 .left)
 
 -- left to write after the header, and after the sizes
-after-head : (c : tie.After-write-head) → (let t = c .before in let s = start (placed t) in Going (sizes t ++ lists t) (c .write-head .result) (c .write-head .last .0) (file s) 0 (s .args .out .now))
+after-head : (c : tie.After-write-packed-head) → (let t = c .before in let s = start (placed t) in Going (sizes t ++ lists t) (c .write-packed-head .result) (c .write-packed-head .last .0) (file s) 0 (s .args .out .now))
 after-head c =
     let t = c .before in
     let s = start (placed t) in
     let o = s .args .out .now in
-    going-on (file s) 0 o (head t) 0 o (c .write-head .result) (c .write-head .last .0) (c .write-head .ensures) (sizes t ++ lists t) (file s) (whole t) (going-first (file s) 0 o (fits t))
+    going-on (file s) 0 o (head t) 0 o (c .write-packed-head .result) (c .write-packed-head .last .0) (c .write-packed-head .ensures) (sizes t ++ lists t) (file s) (whole t) (going-first (file s) 0 o (fits t))
 
 write-sizes-requires : tie.Need-write-sizes-requires
 write-sizes-requires c κs =
     let w = c .before .before .before in
     let t = w .before in
     let s = start (placed t) in
-    (s .pre .1 .0 .0, going-room (sizes t) (lists t) (sizes t ++ lists t) (w .write-head .result) (w .write-head .last .0) (file s) 0 (s .args .out .now) refl (after-head w))
+    (s .pre .1 .0 .0, going-room (sizes t) (lists t) (sizes t ++ lists t) (w .write-packed-head .result) (w .write-packed-head .last .0) (file s) 0 (s .args .out .now) refl (after-head w))
 
 after-sizes : (c : tie.After-write-sizes)
     → (let t = c .before .before .before .before .before in let s = start (placed t) in Going (lists t) (c .write-sizes .result) (c .write-sizes .last .1 .1 .0) (file s) 0 (s .args .out .now))
@@ -162,7 +162,7 @@ after-sizes c =
     let w = c .before .before .before .before in
     let t = w .before in
     let s = start (placed t) in
-    going-on (file s) 0 (s .args .out .now) (sizes t) (w .write-head .result) (w .write-head .last .0) (c .write-sizes .result) (c .write-sizes .last .1 .1 .0) (c .write-sizes .ensures) (lists t) (sizes t ++ lists t) refl (after-head w)
+    going-on (file s) 0 (s .args .out .now) (sizes t) (w .write-packed-head .result) (w .write-packed-head .last .0) (c .write-sizes .result) (c .write-sizes .last .1 .1 .0) (c .write-sizes .ensures) (lists t) (sizes t ++ lists t) refl (after-head w)
 
 write-lists-requires : tie.Need-write-lists-requires
 write-lists-requires c κs =
@@ -219,7 +219,7 @@ pack-root-spec =
     returns
     (λ c. search needs)
     (λ c κs. search needs)
-    write-head-requires
+    write-packed-head-requires
     write-sizes-requires
     write-lists-requires
     cast-t22

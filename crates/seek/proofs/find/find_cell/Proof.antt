@@ -27,31 +27,31 @@ loop-holds c =
 
 first-cell-requires : tie.Need-first-cell-requires Inv-loop μ-loop
 first-cell-requires c κs =
-    let l = c .before .before .before in
+    let l = c .before .before in
     let s = l .before .before .before in
-    (s .pre .0, (s .pre .1, omega (arith, l .loop .inv .1 .within, l .before .kept-count .ensures)))
+    (s .pre .0, (s .pre .1, (omega (arith, l .loop .inv .1 .within, l .before .kept-count .ensures), c .before .loop-test .taken)))
 
 -- what the scan under mirror t finds
 scanned : (c : tie.After-first-cell Inv-loop μ-loop) →
-    let l = c .before .before .before .before in
+    let l = c .before .before .before in
     let a = l .before .before .before .args in
     First (λ q. cellPasses (a .store .now) (a .k) (a .cell) (a .masks) q (l .loop .t)) (l .loop .best .number) (c .first-cell .result)
 scanned c =
-    let l = c .before .before .before .before in
+    let l = c .before .before .before in
     let a = l .before .before .before .args in
-    cell-first (a .store .now) (a .k) (a .cell) (a .masks) (l .loop .t) (l .loop .best .number) (c .before .before .before .loop-test .taken)
-    (c .before .before .image .ensures) (c .before .masks-under .ensures) (c .first-cell .ensures)
+    cell-first (a .store .now) (a .k) (a .cell) (a .masks) (l .loop .t) (l .loop .best .number) (c .before .before .loop-test .taken)
+    (c .before .mirrored .ensures) (c .first-cell .ensures)
 
 loop-again : tie.Need-loop-again Inv-loop μ-loop
 loop-again c =
-    let l = c .before .before .before .before .before in
+    let l = c .before .before .before .before in
     let a = l .before .before .before .args in
     let p = cellPasses (a .store .now) (a .k) (a .cell) (a .masks) in
     let n = l .before .kept-count .result in
     let v = l .loop in (
       omega arith,
       subst (IsBest p n (v .t + 1)) (sym (c .better .ensures))
-          (best-more p n (v .t) (v .best) (c .before .first-cell .result) (v .inv .1) (scanned (c .before)) (c .before .before .before .before .loop-test .taken)),
+          (best-more p n (v .t) (v .best) (c .before .first-cell .result) (v .inv .1) (scanned (c .before)) (c .before .before .before .loop-test .taken)),
     )
 
 found-requires : tie.Need-found-requires Inv-loop μ-loop
@@ -78,7 +78,6 @@ find-cell-spec =
     μ-loop
     (λ c κs. search needs)
     loop-holds
-    (λ c κs. search needs)
     (λ c κs. search needs)
     first-cell-requires
     (λ c κs. search needs)

@@ -1,38 +1,60 @@
 -- `seek::masks::same_cell` meets its contract. The invariant: the pointers from i on match, so the answer is that of the pointers below i.
 -- The measure is i. Assumes nothing.
-use mathlib.Core.Path.{_≡_, sym}
-use mathlib.Core.Bool.{Bool}
-use Prim.Native.Nat.{ℕ, _≤_}
+use mathlib.Core.Path.{_≡_, sym, ap, _∙_}
+use mathlib.Core.Bool.{Bool, not}
+use Prim.Native.Nat.{ℕ, _-_, _≤_, _<_}
 use native.Mathlib.Omega.{arith}
+use lib.Bits.{bitXor}
+use lib.ListN.{getD}
 use borrow.Author.Needs.{needs}
 use Rattle.paper.specs.Numbers.{allBelow}
+use Rattle.laws.proofs.Eight.{xor8-lt}
 use Rattle.laws.proofs.Masks.{maskMatch}
+use Rattle.seek.specs.Sought.{masksUnder}
 use Rattle.store.proofs.Tests.{passed, failed, all-still, all-stop, all-end}
-use Rattle.seek.proofs.MaskWays.{pairAt, match-pairs}
+use Rattle.seek.proofs.MaskWays.{pair, pairAt, match-pairs}
+use Rattle.seek.proofs.MaskImage.{mask-at}
 use Rattle.seek.proofs.masks.same_cell.Statement.{statement}
 use Rattle.seek.proofs.masks.same_cell.Tie as tie
 
 abbrev Inv-loop : tie.InvT-loop
-Inv-loop cell masks other i₀ i = (i ≤ 8) × (maskMatch masks cell other 0 ≡ allBelow i (pairAt masks cell other))
+Inv-loop mirror image masks other turn i₀ i =
+    (i ≤ 8) × (maskMatch (masksUnder mirror masks) image other 0 ≡ allBelow i (pairAt (masksUnder mirror masks) image other))
 
 abbrev μ-loop : tie.MeasureT-loop
-μ-loop cell masks other i₀ i = i
+μ-loop mirror image masks other turn i₀ i = i
 
 loop-holds : tie.Need-loop-holds Inv-loop μ-loop
-loop-holds c = (omega arith, match-pairs (c .args .t2) (c .args .t1) (c .args .t3))
+loop-holds c = (omega arith, match-pairs (masksUnder (c .args .mirror) (c .args .t2)) (c .args .t1) (c .args .t4))
 
 abbrev pairs : tie.Start Inv-loop μ-loop → ℕ → Bool
-pairs s = pairAt (s .args .t2) (s .args .t1) (s .args .t3)
+pairs s = pairAt (masksUnder (s .args .mirror) (s .args .t2)) (s .args .t1) (s .args .t4)
+
+-- the mask that is read is there
+inside : (c : tie.In-loop Inv-loop μ-loop) → bitXor (c .before .loop .i - 1) (c .before .before .args .mirror) < 8
+inside c = xor8-lt (c .before .loop .i - 1) (c .before .before .args .mirror) (omega (arith, c .before .loop .inv .0, c .loop-test .taken)) (c .before .before .pre)
+
+array-read-pointers-differ-3 : tie.Need-array-read-pointers-differ-3 Inv-loop μ-loop
+array-read-pointers-differ-3 c = inside c
+
+-- it is that of the image's child
+tested : (c : tie.After-pointers-differ Inv-loop μ-loop) → c .pointers-differ .result ≡ not (pairs (c .before .before .before) (c .before .before .loop .i - 1))
+tested c =
+    let l = c .before .before in
+    let a = l .before .args in
+    let i : ℕ = l .loop .i - 1 in
+    c .pointers-differ .ensures
+    ∙ ap (λ (m : ℕ). not (pair m (getD (a .t1) i 0) (getD (a .t4) i 0))) (sym (mask-at (a .t2) (a .mirror) i (omega (arith, l .loop .inv .0, c .before .loop-test .taken))))
 
 returns : tie.Need-returns Inv-loop μ-loop
 returns c =
     let l = c .before .before .before in
-    sym (all-stop (pairs (l .before)) (l .loop .i) (l .loop .inv .1) (c .before .before .loop-test .taken) (failed (c .before .pointers-differ .ensures) (c .if1 .taken)))
+    sym (all-stop (pairs (l .before)) (l .loop .i) (l .loop .inv .1) (c .before .before .loop-test .taken) (failed (tested (c .before)) (c .if1 .taken)))
 
 loop-again : tie.Need-loop-again Inv-loop μ-loop
 loop-again c =
     let l = c .before .before .before in
-    (omega arith, all-still (pairs (l .before)) (l .loop .i) (l .loop .inv .1) (c .before .before .loop-test .taken) (passed (c .before .pointers-differ .ensures) (c .if1 .left)))
+    (omega arith, all-still (pairs (l .before)) (l .loop .i) (l .loop .inv .1) (c .before .before .loop-test .taken) (passed (tested (c .before)) (c .if1 .left)))
 
 returns-2 : tie.Need-returns-2 Inv-loop μ-loop
 returns-2 c =
@@ -45,13 +67,14 @@ same-cell-spec =
     (tie.spec
     Inv-loop
     μ-loop
+    (λ c. search needs)
     loop-holds
     (λ c. search needs)
     (λ c. search needs)
     (λ c. search needs)
     (λ c. search needs)
     (λ c. search needs)
-    (λ c. search needs)
+    array-read-pointers-differ-3
     (λ c κs. search needs)
     returns
     (λ c. search needs)
