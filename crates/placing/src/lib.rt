@@ -5,11 +5,11 @@ ghost use Prim.Native.Nat.{ℕ, _+_, _≤_, _<_};
 ghost use lib.Dec.{T};
 ghost use lib.ListN.{getD};
 ghost use Rattle.paper.specs.Store.{mostCapacity, heights, capacityOf, keptCount, keptOf, cellNo, storeOk};
-ghost use Rattle.paper.specs.Packed.{codeFor};
 ghost use Rattle.paper.specs.Pack.{code, width};
 ghost use Rattle.numbers.specs.Laid.{reached};
 ghost use Rattle.order.specs.Scratch.{orderPlace, placePlace};
 ghost use Rattle.placing.specs.Placing.{placesIn, span, placedList, placed, placedLists, Room, Below, Kept};
+use packed::code_for;
 use store::capacity;
 use store::cell_at;
 use store::cell_number;
@@ -21,9 +21,6 @@ pub const CHILDREN: usize = 8;
 const ORDER: usize = 15;
 
 const PLACES: usize = 30;
-
-// A pointer is short where its place is at most this.
-pub const FARTHEST_SHORT: u32 = 8191;
 
 // Where scratch has the i-th cell of list k in the packed order, for a store of capacity c.
 pub fn order_at(c: u32, k: u32, i: u32) -> usize
@@ -50,13 +47,6 @@ pub fn place_of(c: u32, k: u32, q: u32, scratch: &[u32]) -> u32
     ensures { λ r. ⌜ r ≡ getD (placesIn c k (now (scratch .entry))) q 0 ⌝ }
 {
     scratch[place_at(c, k, q)]
-}
-
-// The half-words of a pointer to a place.
-fn code_for(place: u32) -> u32
-    ensures { λ r. ⌜ r ≡ codeFor place ⌝ }
-{
-    if place <= FARTHEST_SHORT { 1 } else { 2 }
 }
 
 // The half-words of a pointer p into list k: 0 for none.

@@ -6,7 +6,7 @@ use mathlib.Core.List.{List, [], _∷_, map}
 use mathlib.Core.Logic.{_⊎_, inl, inr}
 use Prim.Native.Nat.{ℕ, zero, suc, _+_, _-_, _*_, _%_, _^_, _<_, _≤_}
 use native.Mathlib.Nat.{le-of-suc-le-suc, not-suc-le-zero}
-use native.Mathlib.Decide.{ℕ-discrete}
+use native.Mathlib.Decide.{ℕ-discrete, decLt}
 use native.Mathlib.Omega.{arith}
 use borrow.Author.Tests.{eq-eqb, ne-eqb, eqb-true, eqb-false, lt-ltb, ltb-true, ltb-false}
 use lib.Bits.{bitXor}
@@ -19,19 +19,20 @@ use Rattle.paper.specs.Match.{pointerMatch, cellMatch, matches}
 use Rattle.paper.specs.Packed.{packedHead, topOf, rootTag, isEmpty, sizeAt, tailAt, listAt, headerAt, halves, Link, noLink, linksAt, leafAt, recordOk, leafOk, codeFor, startsFrom, placesAt, byNumber, cellsOf, graphOf, linkOk, linksOk, wholeAt, names, popularity, namedOk, apartOk, tagLow, pointerLow, tagsOk, fallingOk, graphOk, sizesOk, topOk, listsOk, rootOk, headOk, packedRules}
 use Rattle.paper.specs.Runs.{Bytes}
 use Rattle.laws.proofs.Tests.{T-true, true-T, iff-eq, and-left, and-right, and-T, and5, and5-T, all-at, all-T, all-same}
-use Rattle.laws.proofs.Lists.{allIn-at, allIn-in, allIn-T, At, isIn-at, isIn-getD, Once, index-getD, length-count, getD-count}
+use Rattle.laws.proofs.Lists.{allIn-at, allIn-isIn, zeros-at, allIn-in, allIn-T, At, isIn-at, isIn-getD, Once, index-getD, length-count, getD-count}
 use Rattle.laws.proofs.Bytes.{bytes-drop}
 use Rattle.laws.proofs.Eight.{xor8-lt}
 use Rattle.laws.proofs.Adding.{pointer-cell, pointer-tag}
 use Rattle.laws.proofs.Matching.{LeafFits, selfAt, fits-at}
 use Rattle.laws.proofs.Masks.{marked, symmetries, mask-bit, mask-same, mask-odd}
 use Rattle.laws.proofs.PackedLists.{num4-lt, Fits, links-fit, halves-one, list-bytes, start-inside, start-small, link-some, graph-cells, record-cell, leaf-cell}
-use Rattle.laws.proofs.PackedWalk.{SoundLists, lists-of}
+use Rattle.laws.proofs.PackedWalk.{First, SoundLists, lists-of, few-leaves, root-first}
+use Rattle.packed.proofs.Lists.{root-small}
 use Rattle.least.specs.Keys.{markOf}
 use Rattle.alike.specs.Matching.{leavesMatch, linkMatch, selfBy, recordsMatch, leafMask, recordMask, lowBy, linkRules, recordRules, apartIn}
 use Rattle.proper.specs.Places.{unitAt, marksAt, listRules, rootLow, namesPlace, timesNamed, popularAt, popularRules, rulesBy, packedBy}
 use Rattle.alike.proofs.Linking.{links-length}
-use Rattle.proper.proofs.Marks.{zeros-read, marks-start, marks-other, list-length, tail-whole, tail-grows}
+use Rattle.proper.proofs.Marks.{marks-start, marks-other, list-length}
 
 -- ---- no place twice
 
@@ -87,11 +88,11 @@ unfolding marksAt
 no-mark bs zero x e =
     marks-other (leafMask (listAt bs 0)) 8 (placesAt bs 0) (replicate (length (listAt bs 0)) 0) (8 * x)
     (λ p t q. subst T e (subst (λ (n : ℕ). T (isIn n (placesAt bs 0))) (sym (unit-inj 0 x p q)) t))
-    ∙ zeros-read (length (listAt bs 0)) (8 * x)
+    ∙ zeros-at (length (listAt bs 0)) (8 * x)
 no-mark bs (suc k) x e =
     marks-other (recordMask (unitAt k) (marksAt bs k) (listAt bs (suc k))) 2 (placesAt bs (suc k)) (replicate (length (listAt bs (suc k))) 0) (2 * x)
     (λ p t q. subst T e (subst (λ (n : ℕ). T (isIn n (placesAt bs (suc k)))) (sym (unit-inj (suc k) x p q)) t))
-    ∙ zeros-read (length (listAt bs (suc k))) (2 * x)
+    ∙ zeros-at (length (listAt bs (suc k))) (2 * x)
 
 pub mark-start : (bs : List ℕ) (k x : ℕ) → 0 < markOf (unitAt k) (marksAt bs k) x → T (isIn x (placesAt bs k))
 mark-start bs k x h = go (isIn x (placesAt bs k)) refl
@@ -117,35 +118,6 @@ link-ok bs k r t = go (eqb (r .code) 0) t
         (mark-start bs k (r .place) (ltb→lt 0 m (and-left (ltb 0 m) (eqb (r .code) (codeFor (r .place))) a)))
         (and-right (ltb 0 m) (eqb (r .code) (codeFor (r .place))) a)
 
--- ---- the first record
-
-record First (ss : List ℕ) : Type 0 where
-  there : T (isIn 0 ss)
-  number : indexIn 0 ss ≡ 0
-
-first-cons : (ss : List ℕ) → First (0 ∷ ss)
-unfolding isIn indexIn
-first-cons ss = record { there = tt; number = refl }
-
-first-leaf : (n : ℕ) → 0 < length (count 0 n) → First (count 0 n)
-unfolding count
-first-leaf zero h = absurd (not-suc-le-zero h)
-first-leaf (suc n) h = first-cons (count 1 n)
-
-first-inner : (l : List ℕ) (n : ℕ) → 0 < length (startsFrom l n 0) → First (startsFrom l n 0)
-unfolding startsFrom
-first-inner l zero = λ h. absurd (not-suc-le-zero h)
-first-inner l (suc n) = go (ltb (2 * 0) (length l)) (startsFrom l n (0 + halves 8 (headerAt l 0)))
-  where
-    go : (b : Bool) (ss : List ℕ) → 0 < length (cond b (0 ∷ ss) []) → First (cond b (0 ∷ ss) [])
-    go true ss h = first-cons ss
-    go false ss h = absurd (not-suc-le-zero h)
-
-first-at : (bs : List ℕ) (k : ℕ) → 0 < length (placesAt bs k) → First (placesAt bs k)
-unfolding placesAt
-first-at bs zero h = first-leaf (sizeAt bs 0) h
-first-at bs (suc k) h = first-inner (listAt bs (suc k)) (sizeAt bs (suc k)) h
-
 -- ---- a file whose lists and pointers are sound
 
 module _ (bs : List ℕ) (by : Bytes bs) (long : T (lengthOk packedHead bs)) (sound : SoundLists bs) where
@@ -160,12 +132,6 @@ module _ (bs : List ℕ) (by : Bytes bs) (long : T (lengthOk packedHead bs)) (so
 
   abbrev marks : ℕ → List ℕ
   marks = marksAt bs
-
-  few-leaves : 8 * sizeAt bs 0 + 8 < 2 ^ 32
-  unfolding tailAt
-  few-leaves =
-      let n : num 4 (drop 1 bs) ≡ length bs = eqb→eq (num 4 (drop 1 bs)) (length bs) (search and-right) in
-      omega (arith, num4-lt (drop 1 bs) (bytes-drop 1 bs by), tail-grows bs 0 (topOf bs) (omega arith), n, tail-whole bs (sound .sizes))
 
   -- a pointer to a start of list k
   record Arrow (k : ℕ) (r : Link) : Type 0 where
@@ -188,14 +154,11 @@ module _ (bs : List ℕ) (by : Bytes bs) (long : T (lengthOk packedHead bs)) (so
           let i : T (isIn (r .place) (ss k)) = search and-left in
           let w : T (eqb (r .code) (codeFor (r .place))) = search and-right in
           let fit : (r .tag < 8) × (r .place < 2 ^ 29) = f (eqb→eq (r .code) (codeFor (r .place)) w) in
-          inr (record { some = eqb-false (r .code) 0 e; at = i; wide = eqb→eq (r .code) (codeFor (r .place)) w; tag = fit .0; small = start-small bs by (sound .whole) few-leaves k (r .place) (omega arith) i (fit .1) })
+          inr (record { some = eqb-false (r .code) 0 e; at = i; wide = eqb→eq (r .code) (codeFor (r .place)) w; tag = fit .0; small = start-small bs by (sound .whole) (few-leaves bs by long sound) k (r .place) (omega arith) i (fit .1) })
 
   links-ok : (k : ℕ) → k < topOf bs → (p : ℕ) → T (isIn p (ss (suc k))) → T (allIn (linkOk (ss k)) (links k p))
   unfolding linksOk
-  links-ok k h p t =
-      let a : At p (ss (suc k)) = isIn-at p (ss (suc k)) t in
-      subst (λ (q : ℕ). T (allIn (linkOk (ss k)) (links k q))) (a .is)
-      (allIn-in (λ q. allIn (linkOk (ss k)) (links k q)) 0 (ss (suc k)) (sound .linked k h) (indexIn p (ss (suc k))) (a .inside))
+  links-ok k h p t = allIn-isIn (λ q. allIn (linkOk (ss k)) (links k q)) (ss (suc k)) p (sound .linked k h) t
 
   points : (k : ℕ) → k < topOf bs → (p : ℕ) → T (isIn p (ss (suc k))) → (i : ℕ) → Points k (getD (links k p) i noLink)
   unfolding linksAt linkOk
@@ -293,24 +256,17 @@ module _ (bs : List ℕ) (by : Bytes bs) (long : T (lengthOk packedHead bs)) (so
 
   leaf-fits : (q : ℕ) → LeafFits 0 (cellAt G 0 q)
   unfolding cellsOf leafAt
-  leaf-fits q = go (ℕ-lt q (length (ss 0)))
+  leaf-fits q = go (decLt q (length (ss 0)))
     where
       l : List ℕ
       l = listAt bs 0
 
-      ℕ-lt : (a b : ℕ) → (a < b) ⊎ (b ≤ a)
-      ℕ-lt a b = less (ltb a b) refl
-        where
-          less : (c : Bool) → ltb a b ≡ c → (a < b) ⊎ (b ≤ a)
-          less true e = inl (ltb-true a b e)
-          less false e = inr (ltb-false a b e)
-
-      go : (q < length (ss 0)) ⊎ (length (ss 0) ≤ q) → leafNo (cellAt G 0 q) < 2 ^ 64
-      go (inl h) =
+      go : Dec (q < length (ss 0)) → leafNo (cellAt G 0 q) < 2 ^ 64
+      go (yes h) =
           let p : ℕ = getD (ss 0) q 0 in
           let e : cellAt G 0 q ≡ leafAt l p = ap (cellAt G 0) (sym (index-getD (ss 0) (once-at bs 0) q h)) ∙ leaf-cell bs p (isIn-getD (ss 0) q h) in
           rw e (omega (arith, num4-lt (drop (8 * p) l) (bytes-drop (8 * p) l (list-bytes bs by 0)), num4-lt (drop (8 * p + 4) l) (bytes-drop (8 * p + 4) l (list-bytes bs by 0))))
-      go (inr h) = rw (List·getD-eq-default (cellsAt G 0) [] {n = q} (rw (cells-length 0 (omega arith)) h)) (lit< tt)
+      go (no h) = rw (List·getD-eq-default (cellsAt G 0) [] {n = q} (rw (cells-length 0 (omega arith)) (omega (arith, h)))) (lit< tt)
 
   -- a start's mark is never 0
   mark-some : (k : ℕ) → k ≤ topOf bs → (x : ℕ) → T (isIn x (ss k)) → 0 < markOf (unitAt k) (marks k) x
@@ -403,16 +359,11 @@ module _ (bs : List ℕ) (by : Bytes bs) (long : T (lengthOk packedHead bs)) (so
 
   -- ---- from the rules of the paper to those by marks, and back
 
-  root-first : First (ss (topOf bs))
-  unfolding topOk
-  root-first =
-      let one : length (ss (topOf bs)) ≡ 1 = eqb→eq (length (ss (topOf bs))) 1 (sound .top) in
-      first-at bs (topOf bs) (omega arith)
-
   root-same : rootTag bs < 8 → rootLow bs ≡ tagLow G (topOf bs) (rootTag bs) 0
   unfolding rootLow
   root-same h =
-      low-same (topOf bs) (rootTag bs) 0 (omega arith) h (root-first .there) ∙ ap (tagLow G (topOf bs) (rootTag bs)) (root-first .number)
+      let top : First (ss (topOf bs)) = root-first bs by long sound in
+      low-same (topOf bs) (rootTag bs) 0 (omega arith) h (top .there) ∙ ap (tagLow G (topOf bs) (rootTag bs)) (top .number)
 
   leaves-rules : listRules bs 0 ≡ apartOk G 0
   unfolding listRules wholeAt
@@ -528,13 +479,6 @@ lists-ok bs s =
     (and-T (topOk bs) (allBelow (suc (topOf bs)) (wholeAt bs)) (s .top) (all-T (suc (topOf bs)) (wholeAt bs) (λ k l. s .whole k (omega arith))))
     (all-T (topOf bs) (linksOk bs) (s .linked))
 
--- unless the scene is empty the root's tag is below 8
-pub tag-small : (bs : List ℕ) → rootOk bs ≡ true → isEmpty bs ≡ false → rootTag bs < 8
-tag-small bs r e =
-    let t : T (rootOk bs) = true-T r in
-    let a : rootTag bs ≤ 8 = leb→le (rootTag bs) 8 (search and-left) in
-    omega (arith, a, eqb-false (rootTag bs) 8 e)
-
 -- a file that keeps the rules by marks has sound lists
 lists-by : (bs : List ℕ) → T (sizesOk bs) → T (rulesBy bs) → SoundLists bs
 unfolding rulesBy
@@ -552,13 +496,13 @@ rules-by-places bs by long = go (rootOk bs) refl (isEmpty bs) refl (sizesOk bs) 
 
     there : rootOk bs ≡ true → isEmpty bs ≡ false → T (sizesOk bs) → T rules → T (rulesBy bs)
     there r e z t =
-        graph-by bs by long (lists-of bs z (and-left (listsOk bs) (graphOk (topOf bs) (rootTag bs) (graphOf bs)) t)) (tag-small bs r e)
+        graph-by bs by long (lists-of bs z (and-left (listsOk bs) (graphOk (topOf bs) (rootTag bs) (graphOf bs)) t)) (root-small bs (true-T r) (eqb-false (rootTag bs) 8 e))
         (and-right (listsOk bs) (graphOk (topOf bs) (rootTag bs) (graphOf bs)) t)
 
     back : rootOk bs ≡ true → isEmpty bs ≡ false → T (sizesOk bs) → T (rulesBy bs) → T rules
     back r e z t =
         let s : SoundLists bs = lists-by bs z t in
-        and-T (listsOk bs) (graphOk (topOf bs) (rootTag bs) (graphOf bs)) (lists-ok bs s) (by-graph bs by long s (tag-small bs r e) t)
+        and-T (listsOk bs) (graphOk (topOf bs) (rootTag bs) (graphOf bs)) (lists-ok bs s) (by-graph bs by long s (root-small bs (true-T r) (eqb-false (rootTag bs) 8 e)) t)
 
     go : (r : Bool) → rootOk bs ≡ r → (e : Bool) → isEmpty bs ≡ e → (z : Bool) → sizesOk bs ≡ z
         → (r && cond e true z) && cond e true rules ≡ (r && cond e true z) && cond e true (rulesBy bs)

@@ -13,7 +13,7 @@ use Rattle.paper.specs.Numbers.{allIn, count, isIn}
 use Rattle.paper.specs.Store.{heights}
 use Rattle.paper.specs.Packed.{topOf, isEmpty, sizeAt, tailAt, startAt, listAt, placesAt, sizesOk, rootOk, headOk, startsOf, startsFrom, leafOk}
 use Rattle.laws.proofs.Tests.{and-right}
-use Rattle.laws.proofs.Lists.{getD-tabulate}
+use Rattle.laws.proofs.Lists.{in-head, in-later, getD-tabulate}
 use Rattle.alike.specs.Matching.{leafMask, recordMask, leavesMatch, recordsMatch, recordRules, apartIn, placesIn, leavesIn}
 use Rattle.proper.specs.Places.{marksOn, unitAt, marksAt, listRules}
 use Rattle.proper.specs.Phases.{leavesRules, leafMarks, innerRules, recordMarks, marksTail, scratchAt, endAt, endIn, Listed}
@@ -31,18 +31,11 @@ module _ (A M R : List ℕ) (a m : ℕ) (ha : length A ≡ a) (hm : length M ≡
 
 -- marks written into the first of two parts
 pub marks-first : (f : ℕ → ℕ) (u : ℕ) (ps z m : List ℕ) → ((p : ℕ) → T (isIn p ps) → u * p < length z) → marksOn f u ps (z ++ m) ≡ marksOn f u ps z ++ m
-unfolding marksOn isIn
+unfolding marksOn
 marks-first f u [] z m h = refl
 marks-first f u (p ∷ ps) z m h =
-    ap (marksOn f u ps) (set-append-left z m (u * p) (f p) (h p (here p)))
-    ∙ marks-first f u ps (set z (u * p) (f p)) m (λ q t. subst (λ (n : ℕ). u * q < n) (sym (length-set z (u * p) (f p))) (h q (later q (eqb p q) t)))
-  where
-    here : (q : ℕ) → T (cond (eqb q q) true (isIn q ps))
-    here q = subst (λ (b : Bool). T (cond b true (isIn q ps))) (sym (eq-eqb q q refl)) tt
-
-    later : (q : ℕ) (b : Bool) → T (isIn q ps) → T (cond b true (isIn q ps))
-    later q true t = tt
-    later q false t = t
+    ap (marksOn f u ps) (set-append-left z m (u * p) (f p) (h p (in-head p ps)))
+    ∙ marks-first f u ps (set z (u * p) (f p)) m (λ q t. subst (λ (n : ℕ). u * q < n) (sym (length-set z (u * p) (f p))) (h q (in-later q p ps t)))
 
 module _ (bs starts : List ℕ) (known : Listed bs starts) where
   pub sized : T (sizesOk bs)

@@ -12,14 +12,10 @@ use lib.ListN.{length, getD, set, drop, replicate, length-set, length-replicate,
 use lib.Seq.{getD-set-same, getD-set-other}
 use Rattle.paper.specs.Numbers.{isIn}
 use Rattle.paper.specs.Packed.{packedHead, topOf, sizeAt, tailAt, startAt, listAt, placesAt, sizesOk}
+use Rattle.laws.proofs.Lists.{in-head, in-later}
+use Rattle.laws.proofs.PackedLists.{sizes-whole, tail-in, leaves-length, inner-length}
 use Rattle.alike.specs.Matching.{leafMask, recordMask}
 use Rattle.proper.specs.Places.{marksOn, unitAt, marksAt}
-
--- zeros read
-pub zeros-read : (n i : ℕ) → _≡_ {A = ℕ} (getD (replicate n 0) i 0) 0
-zeros-read zero i = refl
-zeros-read (suc n) zero = refl
-zeros-read (suc n) (suc i) = zeros-read n i
 
 -- ---- marks written
 
@@ -30,15 +26,11 @@ marks-length f u (p ∷ ps) z = marks-length f u ps (set z (u * p) (f p)) ∙ le
 
 -- a byte that starts no record keeps what it was
 pub marks-other : (f : ℕ → ℕ) (u : ℕ) (ps z : List ℕ) (j : ℕ) → ((p : ℕ) → T (isIn p ps) → j ≡ u * p → ⊥) → getD (marksOn f u ps z) j 0 ≡ getD z j 0
-unfolding marksOn isIn
+unfolding marksOn
 marks-other f u [] z j h = refl
 marks-other f u (p ∷ ps) z j h =
-    marks-other f u ps (set z (u * p) (f p)) j (λ q t e. h q (go q (eqb p q) t) e)
-    ∙ getD-set-other z (u * p) j (f p) 0 (λ e. h p (rw (eq-eqb p p refl) tt) e)
-  where
-    go : (q : ℕ) (b : Bool) → T (isIn q ps) → T (cond b true (isIn q ps))
-    go q true t = tt
-    go q false t = t
+    marks-other f u ps (set z (u * p) (f p)) j (λ q t e. h q (in-later q p ps t) e)
+    ∙ getD-set-other z (u * p) j (f p) 0 (λ e. h p (in-head p ps) e)
 
 -- the first byte of a record has its mask
 pub marks-start : (f : ℕ → ℕ) (u : ℕ) → ((p q : ℕ) → u * p ≡ u * q → p ≡ q) → (ps z : List ℕ) (x : ℕ) → u * x < length z → T (isIn x ps)
@@ -61,32 +53,14 @@ marks-start f u inj (p ∷ ps) z x l t = go (isIn x ps) refl (eqb p x) refl t (m
 
 -- ---- where the lists lie
 
-pub tail-grows : (bs : List ℕ) (j k : ℕ) → j ≤ k → tailAt bs j ≤ tailAt bs k
-unfolding tailAt
-tail-grows bs j zero h = rw (zero-of j h) (omega arith)
-  where
-    zero-of : (n : ℕ) → n ≤ 0 → n ≡ 0
-    zero-of n l = omega arith
-tail-grows bs j (suc k) h = go (ℕ-discrete j (suc k)) (tail-grows bs j k)
-  where
-    go : Dec (j ≡ suc k) → (j ≤ k → tailAt bs j ≤ tailAt bs k) → tailAt bs j ≤ 2 * sizeAt bs (suc k) + tailAt bs k
-    go (yes e) ih = rw e (omega arith)
-    go (no n) ih = omega (arith, ih (omega arith))
-
 module _ (bs : List ℕ) (sized : T (sizesOk bs)) where
-  pub tail-whole : packedHead + 4 * suc (topOf bs) + tailAt bs (topOf bs) ≡ length bs
-  unfolding sizesOk
-  tail-whole = eqb→eq (packedHead + 4 * suc (topOf bs) + tailAt bs (topOf bs)) (length bs) sized
-
   pub tail-inside : (k : ℕ) → k ≤ topOf bs → tailAt bs k ≤ length bs
-  tail-inside k h = omega (arith, tail-grows bs k (topOf bs) h, tail-whole)
+  tail-inside k h = omega (arith, tail-in bs (sizes-whole bs sized) k h)
 
   -- each list has its size
   pub list-length : (k : ℕ) → k ≤ topOf bs → length (listAt bs k) ≡ unitAt k * sizeAt bs k
-  unfolding listAt tailAt
-  list-length zero h = length-drop (startAt bs 0) bs ∙ omega (arith, tail-inside 0 h)
-  list-length (suc k) h =
-      length-take (2 * sizeAt bs (suc k)) (drop (startAt bs (suc k)) bs) ∙ omega (arith, tail-inside (suc k) h, length-drop (startAt bs (suc k)) bs)
+  list-length zero h = leaves-length bs (sizes-whole bs sized)
+  list-length (suc k) h = inner-length bs (sizes-whole bs sized) k h
 
 pub marksAt-length : (bs : List ℕ) (k : ℕ) → length (marksAt bs k) ≡ length (listAt bs k)
 unfolding marksAt

@@ -15,6 +15,7 @@ use lib.Seq.{length-take-le, take-append-le, drop-append-add, take-take, take-ad
 use Rattle.paper.specs.Numbers.{anyBelow, allIn, isIn, bitFor, bytes, be, num}
 use Rattle.paper.specs.Packed.{Link, noLink, linksAt}
 use Rattle.laws.proofs.Tests.{not-not, any-same}
+use Rattle.laws.proofs.Bits.{bitFor-lt}
 use Rattle.laws.proofs.Bytes.{bytes-length}
 use Rattle.laws.proofs.RecordReading.{num-bytes}
 use Rattle.numbers.specs.Laid.{laid}
@@ -203,16 +204,11 @@ module _ (u n : ℕ) (ps : List ℕ) (roomy : Roomy u n ps) where
         let mine : (i : ℕ) → Lands ps (getD rs i noLink) = lands 0 (omega arith) in
         let b : Bool = anyBelow 8 (goesTo x rs) in
         let one : countOf u (countLinks u rs 8 m) x ≡ countOf u m x + bitFor b = links-count rs mine m e x ix (omega arith) 8 in
-        let few : bitFor b ≤ 1 = bit-le b in
         let named : cond (namesPlace x rs) 1 0 ≡ bitFor b =
         ap (λ (c : Bool). cond c 1 0) (names-any x rs ∙ ap (λ (k : ℕ). anyBelow k (goesTo x rs)) (links-length l q)) ∙ bit-is b in
-        records-count qs (λ j h. lands (suc j) (suc-le-suc h)) (countLinks u rs 8 m) (links-length-kept rs mine m e 8) x ix (omega arith)
+        records-count qs (λ j h. lands (suc j) (suc-le-suc h)) (countLinks u rs 8 m) (links-length-kept rs mine m e 8) x ix (omega (arith, bitFor-lt b))
         ∙ omega (arith, one, named)
       where
-        bit-le : (b : Bool) → bitFor b ≤ 1
-        bit-le true = omega arith
-        bit-le false = omega arith
-
         bit-is : (b : Bool) → cond b 1 0 ≡ bitFor b
         bit-is true = refl
         bit-is false = refl

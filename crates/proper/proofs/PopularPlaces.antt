@@ -14,7 +14,7 @@ use Rattle.paper.specs.Numbers.{allBelow, allIn, isIn, indexIn, count}
 use Rattle.paper.specs.Packed.{topOf, sizeAt, tailAt, listAt, headerAt, halves, Link, noLink, linksAt, recordOk, codeFor, startsFrom, placesAt, sizesOk}
 use Rattle.paper.specs.Runs.{Bytes}
 use Rattle.laws.proofs.Tests.{and-left, and-right, and-T, all-at}
-use Rattle.laws.proofs.Lists.{allIn-head, allIn-tail, allIn-at, allIn-in, allIn-T, At, isIn-at, isIn-getD, length-count, getD-count}
+use Rattle.laws.proofs.Lists.{in-nil, in-cons, allIn-isIn, count-below, allIn-head, allIn-tail, allIn-at, allIn-in, allIn-T, At, isIn-at, isIn-getD, length-count, getD-count}
 use Rattle.laws.proofs.PackedLists.{list-bytes}
 use Rattle.least.specs.Keys.{markOf}
 use Rattle.alike.specs.Matching.{lowBy, linkRules, recordRules, apartIn, recordsMatch}
@@ -28,19 +28,6 @@ use Rattle.proper.proofs.PopularFalls.{falls-rules, falling-same}
 
 -- ---- the starts of an inner list
 
--- one of a list is its first, or one of the others
-is-one : (x p : ℕ) (ps : List ℕ) → T (isIn x (p ∷ ps)) → (p ≡ x) ⊎ T (isIn x ps)
-unfolding isIn
-is-one x p ps t = go (eqb p x) refl t
-  where
-    go : (b : Bool) → eqb p x ≡ b → T (cond b true (isIn x ps)) → (p ≡ x) ⊎ T (isIn x ps)
-    go true e s = inl (eqb-true p x e)
-    go false e s = inr s
-
-is-none : (x : ℕ) → T (isIn x []) → ⊥
-unfolding isIn
-is-none x t = t
-
 starts-after : (l : List ℕ) (n p x : ℕ) → T (isIn x (startsFrom l n p)) → p ≤ x
 starts-after l n p x t =
     let a : At x (startsFrom l n p) = isIn-at x (startsFrom l n p) t in
@@ -53,7 +40,7 @@ Clear u x y = (u * x + 4 ≤ u * y) ⊎ (u * y + 4 ≤ u * x)
 starts-apart : (l : List ℕ) → Bytes l → (n p : ℕ) → T (allIn (recordOk l) (startsFrom l n p)) → (x y : ℕ) → T (isIn x (startsFrom l n p)) → T (isIn y (startsFrom l n p))
     → (x ≡ y → ⊥) → Clear 2 x y
 unfolding startsFrom
-starts-apart l b zero p good x y i j ne = absurd (is-none x i)
+starts-apart l b zero p good x y i j ne = absurd (in-nil x i)
 starts-apart l b (suc n) p good x y i j ne = go (ltb (2 * p) (length l)) good i j (starts-apart l b n (p + halves 8 (headerAt l p)))
   where
     ss : List ℕ
@@ -69,8 +56,8 @@ starts-apart l b (suc n) p good x y i j ne = go (ltb (2 * p) (length l)) good i 
     split two rest ih (inr a) (inr c) = ih rest x y a c ne
 
     go : (c : Bool) → T (allIn (recordOk l) (cond c (p ∷ ss) [])) → T (isIn x (cond c (p ∷ ss) [])) → T (isIn y (cond c (p ∷ ss) [])) → Rest → Clear 2 x y
-    go false g i j ih = absurd (is-none x i)
-    go true g i j ih = split (record-two l p b (allIn-head (recordOk l) p ss g)) (allIn-tail (recordOk l) p ss g) ih (is-one x p ss i) (is-one y p ss j)
+    go false g i j ih = absurd (in-nil x i)
+    go true g i j ih = split (record-two l p b (allIn-head (recordOk l) p ss g)) (allIn-tail (recordOk l) p ss g) ih (in-cons x p ss i) (in-cons y p ss j)
 
 pub starts-few : (l : List ℕ) (n p : ℕ) → length (startsFrom l n p) ≤ n
 unfolding startsFrom
@@ -84,27 +71,16 @@ starts-few l (suc n) p = go (ltb (2 * p) (length l)) (starts-few l n (p + halves
     go true h = omega arith
     go false h = omega arith
 
-all-in : (f : ℕ → Bool) (ps : List ℕ) → T (allIn f ps) → (x : ℕ) → T (isIn x ps) → T (f x)
-all-in f ps t x i =
-    let a : At x ps = isIn-at x ps i in
-    subst (λ (y : ℕ). T (f y)) (a .is) (allIn-in f 0 ps t (indexIn x ps) (a .inside))
-
 inner-roomy : (l : List ℕ) → Bytes l → (n : ℕ) → T (allIn (recordOk l) (startsFrom l n 0)) → Roomy 2 (length l) (startsFrom l n 0)
 inner-roomy l b n good = record {
-  room = λ x i. record-wide l x b (all-in (recordOk l) (startsFrom l n 0) good x i);
+  room = λ x i. record-wide l x b (allIn-isIn (recordOk l) (startsFrom l n 0) x good i);
   apart = λ x y i j ne. starts-apart l b n 0 good x y i j ne;
 }
 
 -- ---- leaves
 
-leaf-in : (n x : ℕ) → T (isIn x (count 0 n)) → x < n
-leaf-in n x t =
-    let a : At x (count 0 n) = isIn-at x (count 0 n) t in
-    let i : indexIn x (count 0 n) < n = omega (arith, a .inside, length-count n 0) in
-    omega (arith, i, a .is, getD-count n 0 (indexIn x (count 0 n)) i)
-
 leaf-roomy : (n : ℕ) → Roomy 8 (8 * n) (count 0 n)
-leaf-roomy n = record { room = λ x i. omega (arith, leaf-in n x i); apart = λ x y i j ne. go x y ne (ltb x y) refl }
+leaf-roomy n = record { room = λ x i. omega (arith, count-below n x i); apart = λ x y i j ne. go x y ne (ltb x y) refl }
   where
     go : (x y : ℕ) → (x ≡ y → ⊥) → (b : Bool) → ltb x y ≡ b → Clear 8 x y
     go x y ne true e = inl (omega (arith, ltb-true x y e))

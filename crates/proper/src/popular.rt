@@ -14,14 +14,14 @@ ghost use Rattle.alike.specs.Matching.{placesIn, leavesIn};
 ghost use Rattle.proper.specs.Phases.{linkTo, countLink, countLinks, countRecords, countable, countsFall, startsIn, endAt, Shared, Listed};
 use crate::lists::list_end;
 use crate::lists::unit_of;
-use alike::CHILDREN;
-use alike::HALF;
-use alike::LEAF_UNIT;
-use alike::width;
+use limits::CHILDREN;
+use limits::HALF_BYTES;
+use limits::LEAF_BYTES;
 use numbers::be32;
 use numbers::put_number;
 use packed::Pointer;
 use packed::pointer_at;
+use packed::width;
 
 // The bytes of a counter.
 const COUNTER: usize = 4;
@@ -101,7 +101,7 @@ fn count_records(list: &[u8], counts: &mut [u8], unit: usize)
     ensures { λ _. ⌜ now (counts .exit) ≡ countRecords unit (now (list .entry)) (placesIn (now (list .entry))) (now (counts .entry)) ⌝ }
 {
     let mut place = 0u32;
-    while HALF * (place as usize) < list.len() {
+    while HALF_BYTES * (place as usize) < list.len() {
         count_record(list, place, counts, unit);
         place += width(list, place);
     }
@@ -123,7 +123,7 @@ fn leaves_rise(counts: &[u8]) -> bool
             return true;
         }
         last = n;
-        at += LEAF_UNIT;
+        at += LEAF_BYTES;
     }
     false
 }
@@ -137,8 +137,8 @@ fn records_rise(list: &[u8], counts: &[u8]) -> bool
 {
     let mut last = MOST;
     let mut place = 0u32;
-    while HALF * (place as usize) < list.len() {
-        let n = be32(counts, HALF * (place as usize));
+    while HALF_BYTES * (place as usize) < list.len() {
+        let n = be32(counts, HALF_BYTES * (place as usize));
         if n == 0 {
             return true;
         }
