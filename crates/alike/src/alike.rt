@@ -5,7 +5,7 @@ ghost use Prim.Native.Nat.{_+_, _*_, _/_, _%_, _^_, _≤_, _<_};
 ghost use lib.Dec.{T};
 ghost use lib.ListN.{length, take, drop, replicate};
 ghost use mathlib.Core.List.{map};
-ghost use Rattle.paper.specs.Numbers.{allIn, bitFor};
+ghost use Rattle.paper.specs.Numbers.{allIn};
 ghost use Rattle.paper.specs.Packed.{recordOk};
 ghost use Rattle.packed.specs.Records.{linkIs};
 ghost use Rattle.sorted.specs.Slots.{slotsOf};

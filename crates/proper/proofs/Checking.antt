@@ -9,8 +9,7 @@ use native.Mathlib.Omega.{arith}
 use borrow.Author.Tests.{lt-ltb, le-ltb, ne-eqb}
 use lib.ListN.{length, take, replicate}
 use Rattle.paper.specs.Numbers.{allBelow}
-use Rattle.paper.specs.Rooms.{depthOk}
-use Rattle.paper.specs.Outline.{frontOk, lengthOk, fileDepth}
+use Rattle.paper.specs.Outline.{fileDepth}
 use Rattle.paper.specs.Packed.{packedFront, packedHead, topOf, startAt, isEmpty, topOk, headOk, packedRules}
 use Rattle.paper.specs.Answers.{told, outcome, numberOf, checked}
 use Rattle.paper.specs.Order.{Test, when, firstOf, settled}
@@ -20,8 +19,9 @@ use Rattle.paper.specs.declared.Checked.the-variants.{Refused}
 use Rattle.laws.proofs.Refusals.{settled-refused}
 use Rattle.outline.specs.Heads.{headNumber}
 use Rattle.outline.proofs.HeadTests.{Headed, head-range, head-stops, head-goes-on}
-use Rattle.proper.specs.Places.{listRules, rootLow, popularRules, rulesBy, packedBy}
-use Rattle.proper.specs.Phases.{endAt, scratchAt}
+use Rattle.proper.specs.Places.{listRules, rootLow, rulesBy, packedBy}
+use Rattle.popular.specs.Places.{popularRules, endAt}
+use Rattle.proper.specs.Phases.{scratchAt}
 
 module _ (file scratch : List ℕ) where
   abbrev later : List Test

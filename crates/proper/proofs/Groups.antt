@@ -1,13 +1,12 @@
 -- The marks of a list are bytes, and where the lists up to it keep their rules every mark is a group of mirrors. By what each mark is, list by list
 -- from the leaves up. Assumes nothing.
-use mathlib.Core.Path.{_≡_, refl, sym, _∙_, ap, subst}
-use mathlib.Core.Bool.{Bool, true, false, cond}
+use mathlib.Core.Path.{_≡_, sym, _∙_, ap, subst}
+use mathlib.Core.Bool.{Bool}
 use mathlib.Core.List.{List, [], _∷_}
 use Prim.Native.Nat.{ℕ, zero, suc, _*_, _<_}
 use native.Mathlib.Decide.{ℕ-discrete, decLt}
 use native.Mathlib.Omega.{arith}
-use borrow.Author.Tests.{eq-eqb}
-use lib.Dec.{T, eqb, lit<}
+use lib.Dec.{T, lit<}
 use lib.ListN.{length, getD, set, replicate}
 use lib.Seq.{getD-set-same, getD-set-other, set-out}
 use Rattle.paper.specs.Numbers.{allBelow, allIn, isIn}
@@ -18,7 +17,8 @@ use Rattle.laws.proofs.Masks.{mask-lt}
 use Rattle.laws.proofs.PackedLists.{list-bytes}
 use Rattle.least.specs.Keys.{Group}
 use Rattle.alike.specs.Matching.{leavesMatch, recordsMatch, leafMask, recordMask, recordRules, apartIn, Grouped}
-use Rattle.proper.specs.Places.{marksOn, unitAt, marksAt, listRules}
+use Rattle.proper.specs.Places.{marksOn, marksAt, listRules}
+use Rattle.popular.specs.Places.{unitAt}
 use Rattle.laws.proofs.Lists.{in-head, in-later, allIn-isIn, zeros-at}
 use Rattle.alike.proofs.Keyed.{record-group, record-kept, leaf-group}
 

@@ -3,19 +3,17 @@
 use mathlib.Core.Path.{_≡_, refl, sym, _∙_, ap, subst}
 use mathlib.Core.Bool.{Bool, true, false, cond}
 use mathlib.Core.List.{List, [], _∷_}
-use Prim.Native.Nat.{ℕ, zero, suc, _+_, _*_, _<_, _≤_}
-use native.Mathlib.Decide.{ℕ-discrete}
-use native.Mathlib.Omega.{arith}
-use borrow.Author.Tests.{eq-eqb, eqb-true}
-use lib.Dec.{T, eqb, eqb→eq}
-use lib.ListN.{length, getD, set, drop, replicate, length-set, length-replicate, length-drop, length-take}
+use Prim.Native.Nat.{ℕ, zero, suc, _*_, _<_}
+use borrow.Author.Tests.{eqb-true}
+use lib.Dec.{T, eqb}
+use lib.ListN.{length, getD, set, replicate, length-set, length-replicate}
 use lib.Seq.{getD-set-same, getD-set-other}
 use Rattle.paper.specs.Numbers.{isIn}
-use Rattle.paper.specs.Packed.{packedHead, topOf, sizeAt, tailAt, startAt, listAt, placesAt, sizesOk}
+use Rattle.paper.specs.Packed.{listAt, placesAt}
 use Rattle.laws.proofs.Lists.{in-head, in-later}
-use Rattle.laws.proofs.PackedLists.{sizes-whole, tail-in, leaves-length, inner-length}
 use Rattle.alike.specs.Matching.{leafMask, recordMask}
-use Rattle.proper.specs.Places.{marksOn, unitAt, marksAt}
+use Rattle.proper.specs.Places.{marksOn, marksAt}
+use Rattle.popular.specs.Places.{unitAt}
 
 -- ---- marks written
 
@@ -50,17 +48,6 @@ marks-start f u inj (p ∷ ps) z x l t = go (isIn x ps) refl (eqb p x) refl t (m
         let q : p ≡ x = eqb-true p x e in
         marks-other f u ps z′ (u * x) (λ y m d. subst T c (subst (λ (n : ℕ). T (isIn n ps)) (inj y x (sym d)) m))
         ∙ ap (λ (n : ℕ). getD (set z (u * n) (f n)) (u * x) 0) q ∙ getD-set-same z (u * x) (f x) 0 l
-
--- ---- where the lists lie
-
-module _ (bs : List ℕ) (sized : T (sizesOk bs)) where
-  pub tail-inside : (k : ℕ) → k ≤ topOf bs → tailAt bs k ≤ length bs
-  tail-inside k h = omega (arith, tail-in bs (sizes-whole bs sized) k h)
-
-  -- each list has its size
-  pub list-length : (k : ℕ) → k ≤ topOf bs → length (listAt bs k) ≡ unitAt k * sizeAt bs k
-  list-length zero h = leaves-length bs (sizes-whole bs sized)
-  list-length (suc k) h = inner-length bs (sizes-whole bs sized) k h
 
 pub marksAt-length : (bs : List ℕ) (k : ℕ) → length (marksAt bs k) ≡ length (listAt bs k)
 unfolding marksAt

@@ -8,17 +8,18 @@ use borrow.Author.Tests.{eq-eqb, ne-eqb, eqb-false, ltb-false}
 use lib.Dec.{T, eqb, ltb, eqb→eq, ltb→lt}
 use lib.ListN.{length, getD, take, drop}
 use Rattle.paper.specs.Numbers.{allBelow, allIn, count}
-use Rattle.paper.specs.Packed.{topOf, rootTag, rootOk, sizeAt, startAt, listAt, recordOk, placesAt, sizesOk, headOk, topOk}
-use Rattle.laws.proofs.Tests.{T-true, true-T, iff-eq, all-at, and-left}
+use Rattle.paper.specs.Packed.{topOf, rootTag, sizeAt, startAt, listAt, recordOk, placesAt, sizesOk, topOk}
+use Rattle.laws.proofs.Tests.{true-T, iff-eq, all-at, and-left}
 use Rattle.laws.proofs.Lists.{length-count}
 use Rattle.alike.specs.Matching.{recordRules, lowBy, placesIn}
-use Rattle.proper.specs.Places.{unitAt, marksAt, listRules, rootLow}
-use Rattle.proper.specs.Phases.{scratchAt, endAt, endIn, Listed}
-use Rattle.proper.proofs.Marks.{list-length}
+use Rattle.popular.specs.Places.{unitAt, endAt, endIn, Listed}
+use Rattle.proper.specs.Places.{marksAt, listRules, rootLow}
+use Rattle.proper.specs.Phases.{scratchAt}
+use Rattle.popular.proofs.InFile.{list-length, start-is, end-is, list-in, end-in, cut-is, places-inner, evens, sized}
 use Rattle.packed.proofs.Lists.{root-mirror}
 use Rattle.alike.proofs.Along.{restFrom, widthAt, rest-all, rest-none, rest-more, rest-head, record-inside, rules-all-whole}
-use Rattle.proper.proofs.PopularPlaces.{starts-few}
-use Rattle.proper.proofs.InFile.{start-is, end-is, list-in, end-in, cut-is, places-inner, evens, first-mark, sized}
+use Rattle.popular.proofs.Starts.{starts-few}
+use Rattle.proper.proofs.Scratch.{first-mark}
 
 -- two tests that say the same
 same-test : (a b c d : ℕ) → (a ≡ b → c ≡ d) → (c ≡ d → a ≡ b) → eqb a b ≡ eqb c d

@@ -11,10 +11,9 @@ ghost use Rattle.paper.specs.Answers.{outcome, checked};
 ghost use Rattle.paper.specs.Calls.{checkOutcome};
 ghost use Rattle.packed.specs.Header.{Tested, Opens};
 ghost use Rattle.proper.specs.Places.{listRules, rootLow, rulesBy, packedBy};
-ghost use Rattle.proper.specs.Phases.{scratchAt, Listed};
-use crate::lists::list_end;
+ghost use Rattle.proper.specs.Phases.{scratchAt};
+ghost use Rattle.popular.specs.Places.{Listed};
 use crate::lists::lists_bad;
-use crate::popular::popular_lists_bad;
 use alike::clear;
 use alike::tag_high;
 use limits::DEPTH_PLACE;
@@ -34,6 +33,8 @@ use packed::starts;
 use packed::width;
 use paper::Checked;
 use paper::Refusal;
+use popular::list_end;
+use popular::popular_lists_bad;
 
 // Whether the top list has not exactly one record.
 fn top_bad(file: &[u8], starts: [u32; 15], top: u32) -> bool

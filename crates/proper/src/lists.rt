@@ -7,8 +7,9 @@ ghost use lib.ListN.{length, take, drop, replicate};
 ghost use Rattle.paper.specs.Numbers.{allIn, allBelow};
 ghost use Rattle.paper.specs.Packed.{topOf, recordOk, leafOk};
 ghost use Rattle.alike.specs.Matching.{recordRules, placesIn, leavesIn, Grouped};
-ghost use Rattle.proper.specs.Places.{unitAt, listRules};
-ghost use Rattle.proper.specs.Phases.{endIn, leavesRules, leafMarks, innerRules, recordMarks, scratchAt, Listed};
+ghost use Rattle.popular.specs.Places.{Listed};
+ghost use Rattle.proper.specs.Places.{listRules};
+ghost use Rattle.proper.specs.Phases.{leavesRules, leafMarks, innerRules, recordMarks, scratchAt};
 use alike::links_bad;
 use alike::record_mask;
 use alike::two_leaves_match;
@@ -19,6 +20,8 @@ use limits::LEAF_BYTES;
 use packed::leaf;
 use packed::record_bad;
 use packed::width;
+use popular::list_end;
+use popular::unit_of;
 
 // ---- leaves
 
@@ -130,24 +133,6 @@ fn inner_list_bad(list: &[u8], shares: &mut [u8], unit: usize) -> bool
 }
 
 // ---- all lists
-
-// Where list k ends in the file.
-pub fn list_end(starts: [u32; 15], length: usize, k: u32) -> usize
-    requires { ⌜ k < 15 ⌝ }
-    ensures { λ r. ⌜ r ≡ endIn starts length k ⌝ }
-{
-    if k == 0 {
-        return length;
-    }
-    starts[(k - 1) as usize] as usize
-}
-
-// The bytes that a place of list k counts.
-pub fn unit_of(k: u32) -> usize
-    ensures { λ r. ⌜ (r ≡ unitAt k) × (r ≤ 8) ⌝ }
-{
-    if k == 0 { LEAF_BYTES } else { HALF_BYTES }
-}
 
 // Whether list k breaks a rule, the lists below it being marked; where it doesn't, it is marked too.
 fn list_bad(file: &[u8], scratch: &mut [u8], starts: [u32; 15], k: u32) -> bool

@@ -1,5 +1,5 @@
 -- `record_mask` meets its contract. The invariant: the bits from `mirror` on are gathered (MaskLoop). The measure is `mirror`. Assumes nothing.
-use mathlib.Core.Path.{_≡_, ap, _∙_}
+use mathlib.Core.Path.{_≡_, ap}
 use mathlib.Core.Bool.{Bool}
 use mathlib.Core.List.{List}
 use Prim.Native.Nat.{ℕ, _+_, _-_, _*_, _^_, _≤_, _<_}

@@ -14,7 +14,7 @@ use Rattle.paper.specs.Runs.{Bytes}
 use Rattle.laws.proofs.Tests.{true-T}
 use Rattle.outline.proofs.HeadTests.{Headed, headed, head-range}
 use Rattle.packed.proofs.Ways.{tested}
-use Rattle.proper.proofs.ByPlaces.{rules-by-places}
+use Rattle.proper.proofs.Rules.{rules-by-places}
 use Rattle.proper.proofs.Checking.{way-short, way-bytes, way-rules, way-proper}
 use Rattle.proper.proofs.call.check.Statement.{statement}
 use Rattle.proper.proofs.call.check.Tie as tie
