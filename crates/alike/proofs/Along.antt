@@ -117,9 +117,6 @@ rules-all-whole u m l ps t =
 
 -- ---- what lies in a list
 
-pub allIn-isIn : (f : ℕ → Bool) (l : List ℕ) (x : ℕ) → T (allIn f l) → T (isIn x l) → T (f x)
-allIn-isIn f l x t i = let a : At x l = isIn-at x l i in subst (λ (y : ℕ). T (f y)) (a .is) (allIn-in f 0 l t (indexIn x l) (a .inside))
-
 starts-inside : (l : List ℕ) (n p q : ℕ) → q < length (startsFrom l n p) → 2 * getD (startsFrom l n p) q 0 < length l
 unfolding startsFrom
 starts-inside l zero p = λ q h. absurd (not-suc-le-zero h)

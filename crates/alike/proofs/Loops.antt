@@ -7,13 +7,17 @@ use Prim.Native.Nat.{ℕ, zero, suc, _+_, _-_, _≤_}
 use native.Mathlib.Nat.{le-antisymm}
 use native.Mathlib.Numerals.{add-one}
 use native.Mathlib.Omega.{arith}
+use borrow.Author.Tests.{eq-eqb, ne-eqb}
 use lib.Bits.{bitXor}
+use lib.Dec.{eqb}
 use lib.ListN.{length, getD}
 use Rattle.paper.specs.Numbers.{both, allBelow, anyBelow, allIn, count}
 use Rattle.paper.specs.Packed.{leafOk}
-use Rattle.laws.proofs.Tests.{not-not, any-same}
+use Rattle.laws.proofs.Tests.{not-not, any-at, any-same, none-at}
 use Rattle.laws.proofs.Lists.{length-count, getD-count}
 use Rattle.laws.proofs.Masks.{marked}
+use Rattle.least.specs.Keys.{lowTag}
+use Rattle.least.proofs.Tags.{low-lower, low-own}
 use Rattle.alike.specs.Matching.{lowBy}
 
 -- ---- a search by rising numbers
@@ -60,9 +64,19 @@ not-allIn p d (x ∷ l) = go (p x) (not-allIn p d l) ∙ sym (any-front (length 
     go false ih = refl
 
 -- a tag is not the lowest where a lower one differs from it by a mirror of the mask
-pub high-is : (mask tag : ℕ) → not (lowBy mask tag) ≡ anyBelow tag (λ v. marked mask (bitXor v tag))
+high-is : (mask tag : ℕ) → not (lowBy mask tag) ≡ anyBelow tag (λ v. marked mask (bitXor v tag))
 unfolding lowBy
 high-is mask tag = not-all-not tag (λ v. marked mask (bitXor v tag))
+
+-- so where the lowest with its meaning is another
+pub high-by-low : (mask tag : ℕ) → not (eqb (lowTag mask tag) tag) ≡ not (lowBy mask tag)
+high-by-low mask tag = go (anyBelow tag (λ v. marked mask (bitXor v tag))) refl ∙ sym (high-is mask tag)
+  where
+    go : (b : Bool) → anyBelow tag (λ v. marked mask (bitXor v tag)) ≡ b → not (eqb (lowTag mask tag) tag) ≡ b
+    go true e =
+        let v = any-at tag (λ v. marked mask (bitXor v tag)) e in
+        ap not (ne-eqb (lowTag mask tag) tag (λ z. omega (arith, z, low-lower mask tag (v .0) (v .1) (v .2))))
+    go false e = ap not (eq-eqb (lowTag mask tag) tag (low-own mask tag (none-at tag (λ v. marked mask (bitXor v tag)) e)))
 
 -- a leaf is zero
 pub leaves-bad-is : (l : List ℕ) (n : ℕ) → not (allIn (leafOk l) (count 0 n)) ≡ anyBelow n (λ i. not (leafOk l i))

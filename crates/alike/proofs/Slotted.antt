@@ -25,7 +25,7 @@ use Rattle.sorted.specs.Slots.{slotAt, slotsOf, distinct}
 use Rattle.sorted.proofs.SlotBytes.{slot-laid, slot-laid-other}
 use Rattle.sorted.proofs.Telling.{distinct-once, once-distinct}
 use Rattle.alike.specs.Matching.{leavesMatch, recordsMatch, recordRules, apartIn, placesIn, leavesIn, leafKeyAt, Grouped}
-use Rattle.alike.proofs.Along.{allIn-isIn}
+use Rattle.laws.proofs.Lists.{allIn-isIn}
 use Rattle.alike.proofs.Keyed.{KeptAt, key-match, record-kept, leaf-match}
 
 -- ---- slots

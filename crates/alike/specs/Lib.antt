@@ -1,1 +1,2 @@
+-- Definitions that the contracts cite: matching by places and marks.
 pub mod Matching

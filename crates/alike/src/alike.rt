@@ -5,22 +5,22 @@ ghost use Prim.Native.Nat.{_+_, _*_, _/_, _%_, _^_, _≤_, _<_};
 ghost use lib.Dec.{T};
 ghost use lib.ListN.{length, take, drop, replicate};
 ghost use mathlib.Core.List.{map};
-ghost use Rattle.paper.specs.Numbers.{allIn, bitFor};
+ghost use Rattle.paper.specs.Numbers.{allIn};
 ghost use Rattle.paper.specs.Packed.{recordOk};
 ghost use Rattle.packed.specs.Records.{linkIs};
 ghost use Rattle.sorted.specs.Slots.{slotsOf};
 ghost use Rattle.alike.specs.Matching.{selfBy, leavesMatch, linkMatch, recordsMatch, recordMask, recordRules, apartIn, placesIn, leavesIn, leafKeyAt, Grouped};
-use crate::records::CHILDREN;
-use crate::records::HALF;
-use crate::records::LEAF_UNIT;
-use crate::records::MIRRORS;
-use crate::records::width;
 use least::least_leaf;
 use least::mark;
+use limits::CHILDREN;
+use limits::HALF_BYTES;
+use limits::LEAF_BYTES;
+use limits::MIRRORS;
 use numbers::put_number;
 use packed::Pointer;
 use packed::leaf;
 use packed::pointer_at;
+use packed::width;
 use sorted::two_equal;
 
 // The bytes of a slot that holds a place.
@@ -46,11 +46,11 @@ fn lay_keys(leaves: &[u8], share: &mut [u8])
     requires { ⌜ length (now share) ≡ length (now leaves) ⌝ }
     ensures { λ _. ⌜ (slotsOf 8 (length (now (leaves .entry)) / 8) (now (share .exit)) ≡ map (leafKeyAt (now (leaves .entry))) (leavesIn (now (leaves .entry)))) × (length (now (share .exit)) ≡ length (now (share .entry))) ⌝ }
 {
-    let count = (leaves.len() / LEAF_UNIT) as u32;
+    let count = (leaves.len() / LEAF_BYTES) as u32;
     let mut place = 0u32;
     while place < count {
         let key = least_leaf(leaf(leaves, place));
-        put_number(share, LEAF_UNIT * (place as usize), LEAF_UNIT, key);
+        put_number(share, LEAF_BYTES * (place as usize), LEAF_BYTES, key);
         place += 1;
     }
 }
@@ -62,9 +62,9 @@ pub fn two_leaves_match(leaves: &[u8], share: &mut [u8]) -> bool
     requires { ⌜ now share ≡ replicate (length (now leaves)) 0 ⌝ }
     ensures { λ r. ⌜ (r ≡ not (apartIn (leavesMatch (now (leaves .entry))) (leavesIn (now (leaves .entry))))) × (now (share .exit) ≡ now (share .entry)) ⌝ }
 {
-    let count = leaves.len() / LEAF_UNIT;
+    let count = leaves.len() / LEAF_BYTES;
     lay_keys(leaves, share);
-    let found = two_equal(leaves, share, LEAF_UNIT, LEAF_UNIT, count);
+    let found = two_equal(leaves, share, LEAF_BYTES, LEAF_BYTES, count);
     clear(share);
     found
 }
@@ -124,16 +124,9 @@ pub fn record_mask(list: &[u8], place: u32, marks: &[u8], unit: usize) -> u8
     let mut mask = 0u8;
     while mirror != 0 {
         mirror -= 1;
-        mask = 2 * mask + bit_for(records_match(list, place, place, marks, unit, mirror));
+        mask = 2 * mask + (records_match(list, place, place, marks, unit, mirror) as u8);
     }
     mask
-}
-
-// 1 for true, 0 for false.
-fn bit_for(test: bool) -> u8
-    ensures { λ r. ⌜ r ≡ bitFor test ⌝ }
-{
-    if test { 1 } else { 0 }
 }
 
 // Lays the records' places over the list's own share, and answers how many they are.
@@ -145,7 +138,7 @@ fn lay_places(list: &[u8], shares: &mut [u8]) -> usize
 {
     let mut count = 0usize;
     let mut place = 0u32;
-    while HALF * (place as usize) < list.len() {
+    while HALF_BYTES * (place as usize) < list.len() {
         put_number(shares, SLOT * count, SLOT, place as u64);
         count += 1;
         place += width(list, place);

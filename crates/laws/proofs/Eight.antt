@@ -66,7 +66,7 @@ xor8-turn = eight3 (λ p q t. bitXor (bitXor q t) p) (λ p q t. bitXor (bitXor p
 pub xor8-cancel : (p q t : ℕ) → p < 8 → q < 8 → t < 8 → bitXor (bitXor (bitXor p q) t) p ≡ bitXor q t
 xor8-cancel = eight3 (λ p q t. bitXor (bitXor (bitXor p q) t) p) (λ p q t. bitXor q t) tt
 
-xor8-meet : (p q r : ℕ) → p < 8 → q < 8 → r < 8 → bitXor (bitXor p q) (bitXor q r) ≡ bitXor p r
+pub xor8-meet : (p q r : ℕ) → p < 8 → q < 8 → r < 8 → bitXor (bitXor p q) (bitXor q r) ≡ bitXor p r
 xor8-meet = eight3 (λ p q r. bitXor (bitXor p q) (bitXor q r)) (λ p q r. bitXor p r) tt
 
 -- two turns in a row

@@ -1,8 +1,9 @@
 -- Tests over lists, numbers found in lists, maps and tables: what each says of the list's elements by number. By induction on the list or on the
 -- number of elements. Assumes nothing.
-use mathlib.Core.Path.{_≡_, refl, sym, _∙_, ap, ap₂}
+use mathlib.Core.Path.{_≡_, refl, sym, _∙_, ap, ap₂, subst}
 use mathlib.Core.Bool.{Bool, true, false, cond}
 use mathlib.Core.List.{List, [], _∷_, _++_, map}
+use mathlib.Core.Logic.{_⊎_, inl, inr}
 use Prim.Native.Nat.{ℕ, zero, suc, _+_, _<_}
 use native.Mathlib.Nat.{le-of-suc-le-suc, not-suc-le-zero}
 use native.Mathlib.Omega.{arith}
@@ -62,15 +63,39 @@ isIn-at x (y ∷ l) t = go (eqb y x) refl t (isIn-at x l)
     go true e s ih = record { inside = rw e (omega arith); is = rw e (eqb-true y x e) }
     go false e s ih = record { inside = rw e (omega (arith, ih s .inside)); is = rw e (ih s .is) }
 
-pub isIn-getD : (l : List ℕ) (i : ℕ) → i < length l → T (isIn (getD l i 0) l)
+pub in-nil : (x : ℕ) → T (isIn x []) → ⊥
 unfolding isIn
-isIn-getD [] i h = absurd (not-suc-le-zero h)
-isIn-getD (y ∷ l) zero h = rw (eq-eqb y y refl) tt
-isIn-getD (y ∷ l) (suc i) h = go (eqb y (getD l i 0)) (isIn-getD l i (le-of-suc-le-suc h))
+in-nil x t = t
+
+-- one of a list is its first, or one of the others
+pub in-head : (x : ℕ) (l : List ℕ) → T (isIn x (x ∷ l))
+unfolding isIn
+in-head x l = rw (eq-eqb x x refl) tt
+
+pub in-later : (x y : ℕ) (l : List ℕ) → T (isIn x l) → T (isIn x (y ∷ l))
+unfolding isIn
+in-later x y l t = go (eqb y x)
   where
-    go : (b : Bool) → T (isIn (getD l i 0) l) → T (cond b true (isIn (getD l i 0) l))
-    go true s = tt
-    go false s = s
+    go : (b : Bool) → T (cond b true (isIn x l))
+    go true = tt
+    go false = t
+
+pub in-cons : (x y : ℕ) (l : List ℕ) → T (isIn x (y ∷ l)) → (y ≡ x) ⊎ T (isIn x l)
+unfolding isIn
+in-cons x y l t = go (eqb y x) refl t
+  where
+    go : (b : Bool) → eqb y x ≡ b → T (cond b true (isIn x l)) → (y ≡ x) ⊎ T (isIn x l)
+    go true e s = inl (eqb-true y x e)
+    go false e s = inr s
+
+pub isIn-getD : (l : List ℕ) (i : ℕ) → i < length l → T (isIn (getD l i 0) l)
+isIn-getD [] i h = absurd (not-suc-le-zero h)
+isIn-getD (y ∷ l) zero h = in-head y l
+isIn-getD (y ∷ l) (suc i) h = in-later (getD l i 0) y l (isIn-getD l i (le-of-suc-le-suc h))
+
+-- a test that passes at each passes at one of them
+pub allIn-isIn : (f : ℕ → Bool) (l : List ℕ) (x : ℕ) → T (allIn f l) → T (isIn x l) → T (f x)
+allIn-isIn f l x t i = let a : At x l = isIn-at x l i in subst (λ (y : ℕ). T (f y)) (a .is) (allIn-in f 0 l t (indexIn x l) (a .inside))
 
 -- no number twice: each is found under its own number
 abbrev pub Once : List ℕ → Type 0
@@ -133,7 +158,18 @@ getD-count zero a j h = absurd (not-suc-le-zero h)
 getD-count (suc n) a zero h = omega arith
 getD-count (suc n) a (suc j) h = getD-count n (suc a) j (le-of-suc-le-suc h) ∙ omega arith
 
+pub count-below : (n x : ℕ) → T (isIn x (count 0 n)) → x < n
+count-below n x t =
+    let a : At x (count 0 n) = isIn-at x (count 0 n) t in
+    let i : indexIn x (count 0 n) < n = omega (arith, a .inside, length-count n 0) in
+    omega (arith, i, a .is, getD-count n 0 (indexIn x (count 0 n)) i)
+
 -- ---- zeros
+
+pub zeros-at : (n i : ℕ) → _≡_ {A = ℕ} (getD (replicate n 0) i 0) 0
+zeros-at zero i = refl
+zeros-at (suc n) zero = refl
+zeros-at (suc n) (suc i) = zeros-at n i
 
 pub zeros-of : (l : List ℕ) → T (allIn (eqb 0) l) → l ≡ replicate (length l) 0
 zeros-of [] t = refl

@@ -5,16 +5,17 @@ use mathlib.Core.Bool.{Bool, true, false, cond}
 use mathlib.Core.List.{List, [], _∷_, map}
 use Prim.Native.Nat.{ℕ, zero, suc, _+_, _-_, _*_, _/_, _%_, _^_, _<_, _≤_}
 use native.Mathlib.Nat.{le-of-suc-le-suc, not-suc-le-zero}
+use native.Mathlib.Decide.{ℕ-discrete}
 use native.Mathlib.Omega.{arith}
 use borrow.Author.Tests.{ne-eqb, eqb-true, eqb-false, ltb-true}
-use lib.Dec.{T, eqb, leb, ltb, ltb→lt, lit<}
-use lib.ListN.{length, getD, drop, length-take}
+use lib.Dec.{T, eqb, leb, ltb, eqb→eq, ltb→lt, lit<}
+use lib.ListN.{length, getD, drop, length-take, length-drop}
 use Rattle.paper.specs.Numbers.{be, num, count, allIn, isIn, indexIn}
 use Rattle.paper.specs.Store.{Cell, pointer, cellsAt, cellAt}
-use Rattle.paper.specs.Packed.{topOf, sizeAt, startAt, listAt, headerAt, halves, Link, linkOf, noLink, readLinks, linksAt, leafAt, recordOk, farthestShort, codeFor, startsFrom, placesAt, byNumber, cellsOf, graphOf, wholeAt}
+use Rattle.paper.specs.Packed.{packedHead, topOf, sizeAt, tailAt, startAt, sizesOk, listAt, headerAt, halves, Link, linkOf, noLink, readLinks, linksAt, leafAt, recordOk, farthestShort, codeFor, startsFrom, placesAt, byNumber, cellsOf, graphOf, wholeAt}
 use Rattle.paper.specs.Runs.{Bytes}
 use Rattle.laws.proofs.Tests.{and-left, and-right}
-use Rattle.laws.proofs.Lists.{map-at, allIn-head, allIn-tail, At, isIn-at, getD-tabulate, length-count, getD-count}
+use Rattle.laws.proofs.Lists.{map-at, allIn-head, allIn-tail, At, isIn-at, getD-tabulate, length-count, count-below}
 use Rattle.laws.proofs.Bytes.{bytes-drop, bytes-take}
 
 -- ---- numbers of two and four bytes
@@ -97,6 +98,41 @@ starts-start l b (suc n) p = go (ltb (2 * p) (length l)) refl (starts-start l b 
 
 -- ---- the lists of a file
 
+pub tail-grows : (bs : List ℕ) (j k : ℕ) → j ≤ k → tailAt bs j ≤ tailAt bs k
+unfolding tailAt
+tail-grows bs j zero h = rw (none-below j h) (omega arith)
+  where
+    none-below : (n : ℕ) → n ≤ 0 → n ≡ 0
+    none-below n l = omega arith
+tail-grows bs j (suc k) h = go (ℕ-discrete j (suc k)) (tail-grows bs j k)
+  where
+    go : Dec (j ≡ suc k) → (j ≤ k → tailAt bs j ≤ tailAt bs k) → tailAt bs j ≤ 2 * sizeAt bs (suc k) + tailAt bs k
+    go (yes e) ih = rw e (omega arith)
+    go (no n) ih = omega (arith, ih (omega arith))
+
+-- the sizes add up to the length
+abbrev pub Whole : List ℕ → Type 0
+Whole bs = packedHead + 4 * suc (topOf bs) + tailAt bs (topOf bs) ≡ length bs
+
+pub sizes-whole : (bs : List ℕ) → T (sizesOk bs) → Whole bs
+unfolding sizesOk
+sizes-whole bs t = eqb→eq (packedHead + 4 * suc (topOf bs) + tailAt bs (topOf bs)) (length bs) t
+
+module _ (bs : List ℕ) (whole : Whole bs) where
+  -- list k and all that follow it come after the sizes
+  pub tail-in : (k : ℕ) → k ≤ topOf bs → packedHead + 4 * suc (topOf bs) + tailAt bs k ≤ length bs
+  tail-in k h = omega (arith, whole, tail-grows bs k (topOf bs) h)
+
+  -- each list has its size
+  pub leaves-length : length (listAt bs 0) ≡ 8 * sizeAt bs 0
+  unfolding listAt tailAt
+  leaves-length = length-drop (startAt bs 0) bs ∙ omega (arith, tail-in 0 (omega arith))
+
+  pub inner-length : (k : ℕ) → suc k ≤ topOf bs → length (listAt bs (suc k)) ≡ 2 * sizeAt bs (suc k)
+  unfolding listAt tailAt
+  inner-length k h =
+      length-take (2 * sizeAt bs (suc k)) (drop (startAt bs (suc k)) bs) ∙ omega (arith, tail-in (suc k) h, length-drop (startAt bs (suc k)) bs)
+
 pub list-bytes : (bs : List ℕ) → Bytes bs → (k : ℕ) → Bytes (listAt bs k)
 unfolding listAt
 list-bytes bs by zero = bytes-drop (startAt bs 0) bs by
@@ -110,10 +146,7 @@ module _ (bs : List ℕ) (by : Bytes bs) (whole : (k : ℕ) → k ≤ topOf bs �
   -- a start lies inside its list
   pub start-inside : (k p : ℕ) → k ≤ topOf bs → T (isIn p (placesAt bs k)) → p < sizeAt bs k
   unfolding placesAt listAt
-  start-inside zero p h t =
-      let a : At p (count 0 (sizeAt bs 0)) = isIn-at p (count 0 (sizeAt bs 0)) t in
-      let i : indexIn p (count 0 (sizeAt bs 0)) < sizeAt bs 0 = omega (arith, a .inside, length-count (sizeAt bs 0) 0) in
-      omega (arith, i, a .is, getD-count (sizeAt bs 0) 0 (indexIn p (count 0 (sizeAt bs 0))) i)
+  start-inside zero p h t = count-below (sizeAt bs 0) p t
   start-inside (suc k) p h t =
       let a : At p (placesAt bs (suc k)) = isIn-at p (placesAt bs (suc k)) t in
       omega (arith, starts-at k h (indexIn p (placesAt bs (suc k))) (a .inside) .inside, a .is, length-take (2 * sizeAt bs (suc k)) (drop (startAt bs (suc k)) bs))

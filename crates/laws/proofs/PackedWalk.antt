@@ -18,10 +18,10 @@ use Rattle.paper.specs.Questions.{taken, below, inBelow, entered}
 use Rattle.paper.specs.Packed.{packedHead, topOf, sizeAt, tailAt, listAt, headerAt, halves, Link, noLink, linksAt, recordOk, leafOk, codeFor, startsFrom, placesAt, byNumber, graphOf, sizesOk, topOk, wholeAt, linkOk, linksOk, listsOk, Step, Way, ended, after, unless, packedWay}
 use Rattle.paper.specs.Runs.{Bytes}
 use Rattle.laws.proofs.Tests.{T-true, and-left, and-right, all-at}
-use Rattle.laws.proofs.Lists.{allIn-at, allIn-in, At, isIn-at}
+use Rattle.laws.proofs.Lists.{allIn-at, allIn-isIn}
 use Rattle.laws.proofs.Bytes.{bytes-drop}
 use Rattle.laws.proofs.Adding.{pointer-cell, pointer-tag}
-use Rattle.laws.proofs.PackedLists.{num4-lt, Fits, links-fit, list-bytes, start-inside, start-small, link-some, record-cell, leaf-cell}
+use Rattle.laws.proofs.PackedLists.{num4-lt, Fits, links-fit, list-bytes, sizes-whole, tail-in, start-inside, start-small, link-some, record-cell, leaf-cell}
 
 -- ---- how long a path is
 
@@ -66,9 +66,7 @@ module _ (bs : List ℕ) (by : Bytes bs) (few : 8 * sizeAt bs 0 + 8 < 2 ^ 32) (w
   leaf-right : RightAt 0
   unfolding packedWay cellVoxel entered wholeAt
   leaf-right p t v h =
-      let a : At p (placesAt bs 0) = isIn-at p (placesAt bs 0) h in
-      let o : T (leafOk (listAt bs 0) p) =
-      subst (λ (q : ℕ). T (leafOk (listAt bs 0) q)) (a .is) (allIn-in (leafOk (listAt bs 0)) 0 (placesAt bs 0) (whole 0 (omega arith)) (indexIn p (placesAt bs 0)) (a .inside)) in
+      let o : T (leafOk (listAt bs 0) p) = allIn-isIn (leafOk (listAt bs 0)) (placesAt bs 0) p (whole 0 (omega arith)) h in
       record { path = record { list = 0; place = p; tag = t } ∷ []; is = rw (leaf-cell bs p h, T-true {b = leafOk (listAt bs 0) p} o); long = refl }
 
   -- from a pointer on, if the walk below is right
@@ -112,11 +110,8 @@ module _ (bs : List ℕ) (by : Bytes bs) (few : 8 * sizeAt bs 0 + 8 < 2 ^ 32) (w
       let l : List ℕ = listAt bs (suc k) in
       let w : Point = mirror t (edge (suc k)) v in
       let i : ℕ = childNo (edge k) w in
-      let a : At p ps = isIn-at p ps m in
-      let o : T (recordOk l p) = subst (λ (q : ℕ). T (recordOk l q)) (a .is) (allIn-in (recordOk l) 0 ps (whole (suc k) h) (indexIn p ps) (a .inside)) in
-      let os : T (allIn (linkOk (placesAt bs k)) (linksAt l p)) =
-      subst (λ (q : ℕ). T (allIn (linkOk (placesAt bs k)) (linksAt l q))) (a .is)
-      (allIn-in (λ q. allIn (linkOk (placesAt bs k)) (linksAt l q)) 0 ps (linked k h) (indexIn p ps) (a .inside)) in
+      let o : T (recordOk l p) = allIn-isIn (recordOk l) ps p (whole (suc k) h) m in
+      let os : T (allIn (linkOk (placesAt bs k)) (linksAt l p)) = allIn-isIn (λ q. allIn (linkOk (placesAt bs k)) (linksAt l q)) ps p (linked k h) m in
       rw (path-next G k (recordAt (suc k) p) w, record-cell bs k p h m, T-true {b = recordOk l p} o, List·getD-map (byNumber (placesAt bs k)) (linksAt l p) i noLink)
       (link-right k h ih (record { list = suc k; place = p; tag = t }) (getD (linksAt l p) i noLink)
       (links-fit 8 (headerAt l p) (drop (2 * p + 2) l) (bytes-drop (2 * p + 2) l (list-bytes bs by (suc k))) i)
@@ -156,11 +151,6 @@ unfolding placesAt
 first bs zero h = first-leaf (sizeAt bs 0) h
 first bs (suc k) h = first-inner (listAt bs (suc k)) (sizeAt bs (suc k)) h
 
-tail-least : (bs : List ℕ) (k : ℕ) → 8 * sizeAt bs 0 ≤ tailAt bs k
-unfolding tailAt
-tail-least bs zero = omega arith
-tail-least bs (suc k) = omega (arith, tail-least bs k)
-
 -- what a file that is not empty passes, as far as a walk needs it
 pub record SoundLists (bs : List ℕ) : Type 0 where
   pub sizes : T (sizesOk bs)
@@ -178,15 +168,13 @@ lists-of bs s t = record {
 }
 
 module _ (bs : List ℕ) (by : Bytes bs) (long : T (lengthOk packedHead bs)) (p : SoundLists bs) where
-  few-leaves : 8 * sizeAt bs 0 + 8 < 2 ^ 32
-  unfolding sizesOk
+  pub few-leaves : 8 * sizeAt bs 0 + 8 < 2 ^ 32
+  unfolding tailAt
   few-leaves =
       let n : num 4 (drop 1 bs) ≡ length bs = eqb→eq (num 4 (drop 1 bs)) (length bs) (search and-right) in
-      let m : packedHead + 4 * suc (topOf bs) + tailAt bs (topOf bs) ≡ length bs =
-      eqb→eq (packedHead + 4 * suc (topOf bs) + tailAt bs (topOf bs)) (length bs) (p .sizes) in
-      omega (arith, num4-lt (drop 1 bs) (bytes-drop 1 bs by), tail-least bs (topOf bs), n, m)
+      omega (arith, num4-lt (drop 1 bs) (bytes-drop 1 bs by), n, tail-in bs (sizes-whole bs (p .sizes)) 0 (omega arith))
 
-  root-first : First (placesAt bs (topOf bs))
+  pub root-first : First (placesAt bs (topOf bs))
   unfolding topOk
   root-first =
       let one : length (placesAt bs (topOf bs)) ≡ 1 = eqb→eq (length (placesAt bs (topOf bs))) 1 (p .top) in

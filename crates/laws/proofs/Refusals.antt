@@ -2,7 +2,7 @@
 -- ends in 0. By cases on the tests. Assumes nothing.
 use mathlib.Core.Path.{_≡_, refl, sym, _∙_, ap}
 use mathlib.Core.Bool.{Bool, true, false, false≢true, cond, not, _&&_}
-use mathlib.Core.List.{List, [], _∷_, map}
+use mathlib.Core.List.{List, [], _∷_, _++_, map}
 use Prim.Native.Nat.{ℕ}
 use native.Mathlib.Nat.{suc-ne-zero}
 use borrow.Author.Tests.{eq-eqb, ne-eqb, eqb-true, eqb-false, not-true}
@@ -15,6 +15,17 @@ use Rattle.paper.specs.Order.{Test, when, firstOf, settled}
 use Rattle.paper.specs.Calls.{scenesFull, cellsFull, noScene, addOrder, questionOrder}
 use Rattle.laws.proofs.Tests.{T-true, and-left, and-right}
 use Rattle.laws.proofs.Outlines.{Accepted}
+
+-- ---- orders one after the other
+
+pub first-before : (ts us : List Test) → (firstOf ts ≡ 0 → ⊥) → firstOf (ts ++ us) ≡ firstOf ts
+unfolding firstOf
+first-before [] us ne = absurd (ne refl)
+first-before (when b n ∷ ts) us ne = go b ne (first-before ts us)
+  where
+    go : (b : Bool) → (cond b n (firstOf ts) ≡ 0 → ⊥) → ((firstOf ts ≡ 0 → ⊥) → firstOf (ts ++ us) ≡ firstOf ts) → cond b n (firstOf (ts ++ us)) ≡ cond b n (firstOf ts)
+    go true h ih = refl
+    go false h ih = ih h
 
 -- ---- the outcome from the number
 

@@ -12,7 +12,7 @@ use borrow.Author.Tests.{leb-true, leb-false}
 use lib.Dec.{T, eqb, leb, eqb→eq}
 use Rattle.laws.proofs.Tests.{all-at, T-true, true-T}
 use Rattle.laws.proofs.Masks.{marked}
-use Rattle.laws.proofs.Eight.{eight3, xor8-lt}
+use Rattle.laws.proofs.Eight.{eight3, xor8-lt, xor8-meet}
 use Rattle.least.specs.Keys.{Group, firstFrom, lowTag}
 
 pub le-or-lt : (a b : ℕ) → (a ≤ b) ⊎ (b < a)
@@ -70,7 +70,20 @@ module _ (p : ℕ → Bool) (d : ℕ) where
           apart (inl l) = let s : x ≡ u = omega arith in absurd (true-T {b = false} (sym q ∙ ap p (sym s) ∙ e))
           apart (inr l) = l
 
+  -- where none passes
+  first-else : (n u : ℕ) → ((x : ℕ) → u ≤ x → x < u + n → p x ≡ false) → firstFrom p d n u ≡ d
+  unfolding firstFrom
+  first-else zero u h = refl
+  first-else (suc n) u h = rw (h u (omega arith) (omega arith)) (first-else n (suc u) (λ x a b. h x (omega arith) (omega arith)))
+
 -- ---- the lowest tag
+
+-- below a tag that a lower one shares its meaning with, and the tag itself where none does
+pub low-lower : (mask tag v : ℕ) → v < tag → marked mask (bitXor v tag) ≡ true → lowTag mask tag < tag
+low-lower mask tag v l e = omega (arith, l, first-lowest (λ u. marked mask (bitXor u tag)) tag tag 0 v (omega arith) (omega (arith, l)) e)
+
+pub low-own : (mask tag : ℕ) → ((v : ℕ) → v < tag → marked mask (bitXor v tag) ≡ false) → lowTag mask tag ≡ tag
+low-own mask tag h = first-else (λ u. marked mask (bitXor u tag)) tag tag 0 (λ x a b. h x (omega (arith, b)))
 
 pub low-le : (mask tag : ℕ) → lowTag mask tag ≤ tag
 low-le mask tag = first-le (λ u. marked mask (bitXor u tag)) tag tag 0 (omega arith)
@@ -81,9 +94,6 @@ unfolding firstFrom
 low-one tag h = eqb→eq (lowTag 1 tag) tag (all-at 8 (λ v. eqb (lowTag 1 v) v) tt tag h)
 
 -- ---- by a group
-
-xor8-through : (x a b : ℕ) → x < 8 → a < 8 → b < 8 → bitXor (bitXor x a) (bitXor a b) ≡ bitXor x b
-xor8-through = eight3 (λ x a b. bitXor (bitXor x a) (bitXor a b)) (λ x a b. bitXor x b) tt
 
 xor8-across : (x a b : ℕ) → x < 8 → a < 8 → b < 8 → bitXor (bitXor x a) (bitXor x b) ≡ bitXor a b
 xor8-across = eight3 (λ x a b. bitXor (bitXor x a) (bitXor x b)) (λ x a b. bitXor a b) tt
@@ -98,7 +108,7 @@ module _ (mask : ℕ) (group : Group mask) where
       let x : ℕ = lowTag mask a in
       let hx : x < 8 = omega (arith, low-le mask a) in
       let m : T (marked mask (bitXor x b)) =
-      subst (λ (n : ℕ). T (marked mask n)) (xor8-through x a b hx ha hb) (group .closed (bitXor x a) (bitXor a b) (xor8-lt x a hx ha) (xor8-lt a b ha hb) (low-passes a) t) in
+      subst (λ (n : ℕ). T (marked mask n)) (xor8-meet x a b hx ha hb) (group .closed (bitXor x a) (bitXor a b) (xor8-lt x a hx ha) (xor8-lt a b ha hb) (low-passes a) t) in
       go x m (le-or-lt b x)
     where
       go : (x : ℕ) → T (marked mask (bitXor x b)) → (b ≤ x) ⊎ (x < b) → lowTag mask b ≤ x

@@ -1,1 +1,2 @@
+-- Definitions that the contracts cite: the keys of leaves and records.
 pub mod Keys

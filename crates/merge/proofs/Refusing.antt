@@ -1,7 +1,7 @@
 -- The refusals of adding before a cell is taken, in their order: the store is damaged, the file is refused by itself, 64 scenes are held. Each by the
 -- number of the first test that passes. Assumes nothing.
 use mathlib.Core.Path.{_≡_, refl, sym, _∙_, ap}
-use mathlib.Core.Bool.{Bool, true, false, cond, not}
+use mathlib.Core.Bool.{Bool, true, false, not}
 use mathlib.Core.List.{List, [], _∷_, _++_}
 use Prim.Native.Nat.{ℕ, _≤_}
 use native.Mathlib.Nat.{suc-ne-zero}
@@ -19,18 +19,9 @@ use Rattle.paper.specs.Calls.{nextScene, scenesFull, cellsFull, outlineOrder, a
 use Rattle.laws.proofs.Tests.{T-true}
 use Rattle.laws.proofs.Outlines.{Accepted}
 use Rattle.laws.proofs.OutlineClaim.{file-accepted}
-use Rattle.laws.proofs.Refusals.{settled-refused}
+use Rattle.laws.proofs.Refusals.{first-before, settled-refused}
 
--- ---- orders one after the other
-
-first-before : (ts us : List Test) → (firstOf ts ≡ 0 → ⊥) → firstOf (ts ++ us) ≡ firstOf ts
-unfolding firstOf
-first-before [] us ne = absurd (ne refl)
-first-before (when b n ∷ ts) us ne = go b ne (first-before ts us)
-  where
-    go : (b : Bool) → (cond b n (firstOf ts) ≡ 0 → ⊥) → ((firstOf ts ≡ 0 → ⊥) → firstOf (ts ++ us) ≡ firstOf ts) → cond b n (firstOf (ts ++ us)) ≡ cond b n (firstOf ts)
-    go true h ih = refl
-    go false h ih = ih h
+-- ---- the file's order
 
 -- a file's refusal is 3 to 6
 four : (a b c d : Bool) → (firstOf (when a 3 ∷ when b 4 ∷ when c 5 ∷ when d 6 ∷ []) ≡ 0 → ⊥)

@@ -1,10 +1,10 @@
 // The call: a file's scene added to a store, or refused with the store as it was.
 ghost use mathlib.Core.Path.{_≡_};
 ghost use mathlib.Core.List.{[], _∷_};
-ghost use Prim.Native.Nat.{_≤_, _<_};
+ghost use Prim.Native.Nat.{_<_};
 ghost use lib.Dec.{T};
 ghost use Rattle.paper.specs.Store.{mostScenes, scenesHeld, headerOk, storeOk};
-ghost use Rattle.paper.specs.Answers.{numberOf, outcome, added};
+ghost use Rattle.paper.specs.Answers.{outcome, added};
 ghost use Rattle.paper.specs.Order.{firstOf};
 ghost use Rattle.paper.specs.Calls.{outlineOrder, addOutcome};
 ghost use Rattle.merge.specs.Taking.{taking, takeRoot};
@@ -15,29 +15,13 @@ use keeping::cut_back;
 use keeping::hold_scene;
 use limits::OUTLINE_HEAD;
 use outline::depth;
+use outline::file_refusal;
 use outline::refusal;
 use paper::Added;
 use paper::Refusal;
 use store::MOST_SCENES;
 use store::scenes_held;
 use store::store_bad;
-
-// The refusal of a file by itself, 3 to 6.
-fn file_refusal(number: u32) -> Refusal
-    requires { ⌜ (3 ≤ number) × (number ≤ 6) ⌝ }
-    ensures { λ r. ⌜ numberOf r ≡ number ⌝ }
-{
-    if number == 3 {
-        return Refusal::BadVersion;
-    }
-    if number == 4 {
-        return Refusal::BadLength;
-    }
-    if number == 5 {
-        return Refusal::BadDepth;
-    }
-    Refusal::BrokenRules
-}
 
 // The root's record, or none for an empty scene.
 fn take_root(file: &[u8], store: &mut [u32]) -> Taken

@@ -1,17 +1,16 @@
--- The ways through an opening and a question on bytes held beside numbers, in the code's words: the refusals 3, 4, 5, 6 in their order, what an
--- opening reads and holds, and when bytes don't open to numbers. By the value of each test in turn. Assumes nothing.
+-- The ways through an opening and a question on bytes held beside numbers, in the code's words: what an opening refused by none says of the file, what
+-- it reads and holds, and when bytes don't open to numbers. By the value of each test in turn. Assumes nothing.
 use mathlib.Core.Path.{_≡_, refl, sym, _∙_, ap, ap₂}
 use mathlib.Core.Bool.{Bool, true, false, not, cond, _&&_, _||_}
 use mathlib.Core.List.{List, [], _∷_, map}
 use Prim.Native.Nat.{ℕ, _+_, _<_, _≤_}
-use native.Mathlib.Nat.{suc-ne-zero}
 use native.Mathlib.Numerals.{add-one}
-use borrow.Author.Tests.{eq-eqb, ne-eqb, eqb-true, eqb-false}
+use borrow.Author.Tests.{eq-eqb, ne-eqb, eqb-true, eqb-false, not-false}
 use lib.Dec.{T, eqb, eqb→eq, leb}
 use lib.ListN.{length, drop, getD, replicate, length-replicate, drop-of-length-le}
 use lib.Seq.{drop-cons}
 use Rattle.paper.specs.Numbers.{sameList, tabulate}
-use Rattle.paper.specs.Rooms.{Point, depthOk}
+use Rattle.paper.specs.Rooms.{Point}
 use Rattle.paper.specs.Outline.{fileDepth, frontOk, lengthOk}
 use Rattle.paper.specs.Store.{heights}
 use Rattle.paper.specs.Packed.{packedFront, packedHead, isEmpty, topOf, startAt, headOk, startsOf}
@@ -21,9 +20,10 @@ use Rattle.paper.specs.Calls.{openOrder, openOutcome, opensTo, packedVoxelOrder
 use Rattle.paper.specs.Runs.{Bytes}
 use Rattle.paper.specs.declared.Refusal.the-variants.{BrokenRules}
 use Rattle.paper.specs.declared.Found.the-variants.{Refused}
-use Rattle.laws.proofs.Tests.{T-true, true-T, and-left}
+use Rattle.laws.proofs.Tests.{true-T, and-left}
 use Rattle.laws.proofs.Lists.{length-tabulate}
 use Rattle.laws.proofs.Refusals.{settled-accepted, settled-refused, settled-number}
+use Rattle.outline.proofs.HeadTests.{Headed, headed, none-broken}
 use Rattle.packed.specs.Header.{Opens}
 use Rattle.packed.proofs.Ways.{tested}
 use Rattle.opened.specs.declared.Header.{Header}
@@ -64,54 +64,20 @@ pub same-end : (a b : List ℕ) (k : ℕ) → length a ≤ k → length b ≤ k 
 unfolding sameList
 same-end a b k ha hb = rw (drop-of-length-le a {i = k} ha, drop-of-length-le b {i = k} hb) refl
 
--- ---- the refusals of an opening
+-- ---- an opening that is refused by none
 
-module _ (file : List ℕ) where
-  -- the first test that passes, each law under the tests before its own
-  pub refused-by-3 : not (frontOk packedFront file) ≡ true → firstOf (openOrder file) ≡ 3
-  unfolding firstOf
-  refused-by-3 e = rw e
+module _ (file : List ℕ) (e : firstOf (openOrder file) ≡ 0) where
+  abbrev later : Bool
+  later = not (headOk file)
 
-  module _ (three : not (frontOk packedFront file) ≡ false) where
-    pub refused-by-4 : not (lengthOk packedHead file) ≡ true → firstOf (openOrder file) ≡ 4
-    unfolding firstOf
-    refused-by-4 e = rw (three, e)
+  known : Headed packedFront packedHead file
+  known = headed packedFront packedHead file (when later 6 ∷ []) e
 
-    module _ (four : not (lengthOk packedHead file) ≡ false) where
-      pub refused-by-5 : not (depthOk (fileDepth file)) ≡ true → firstOf (openOrder file) ≡ 5
-      unfolding firstOf
-      refused-by-5 e = rw (three, four, e)
+  pub opens : Bytes file → Opens file
+  opens bytes = record { tested = tested file bytes known; head = true-T (not-false (headOk file) (none-broken packedFront packedHead file later e)) }
 
-      module _ (five : not (depthOk (fileDepth file)) ≡ false) where
-        pub refused-by-6 : not (headOk file) ≡ true → firstOf (openOrder file) ≡ 6
-        unfolding firstOf
-        refused-by-6 e = rw (three, four, five, e)
-
-        pub accepted : not (headOk file) ≡ false → firstOf (openOrder file) ≡ 0
-        unfolding firstOf
-        accepted e = rw (three, four, five, e)
-
--- refused by none
-abbrev by-tests : Bool → Bool → Bool → Bool → ℕ
-by-tests a b c d = firstOf (when (not a) 3 ∷ when (not b) 4 ∷ when (not c) 5 ∷ when (not d) 6 ∷ [])
-
-four-pass : (a b c d : Bool) → by-tests a b c d ≡ 0 → T a × T b × T c × T d
-unfolding firstOf
-four-pass false b c d e = absurd (suc-ne-zero 2 e)
-four-pass true false c d e = absurd (suc-ne-zero 3 e)
-four-pass true true false d e = absurd (suc-ne-zero 4 e)
-four-pass true true true false e = absurd (suc-ne-zero 5 e)
-four-pass true true true true e = (tt, tt, tt, tt)
-
-pub opens : (file : List ℕ) → Bytes file → firstOf (openOrder file) ≡ 0 → Opens file
-opens file bytes e =
-    let p = four-pass (frontOk packedFront file) (lengthOk packedHead file) (depthOk (fileDepth file)) (headOk file) e in
-    record { tested = tested file bytes (T-true {b = lengthOk packedHead file} (p .1)) (T-true {b = depthOk (fileDepth file)} (p .2)); head = p .3 }
-
-pub opens-front : (file : List ℕ) → firstOf (openOrder file) ≡ 0 → (frontOk packedFront file ≡ true) × (lengthOk packedHead file ≡ true)
-opens-front file e =
-    let p = four-pass (frontOk packedFront file) (lengthOk packedHead file) (depthOk (fileDepth file)) (headOk file) e in
-    (T-true {b = frontOk packedFront file} (p .0), T-true {b = lengthOk packedHead file} (p .1))
+  pub opens-front : (frontOk packedFront file ≡ true) × (lengthOk packedHead file ≡ true)
+  opens-front = (known .front-ok, known .length-ok)
 
 -- bytes that open to numbers are not refused
 pub opens-number : (file starts : List ℕ) (D : ℕ) → opensTo file D starts ≡ true → firstOf (openOrder file) ≡ 0

@@ -1,1 +1,2 @@
+-- Definitions that the contracts cite: what an opening tells and holds.
 pub mod Opens

@@ -9,21 +9,16 @@ ghost use Rattle.paper.specs.Order.{firstOf};
 ghost use Rattle.paper.specs.Answers.{outcome, found, opened, holds};
 ghost use Rattle.paper.specs.Calls.{openOrder, openOutcome, opensTo, askOutcome};
 ghost use Rattle.opened.specs.Opens.{toldBy, openTold, partOf, askedOf};
+use limits::PACKED_FRONT;
+use limits::PACKED_HEAD;
 use outline::depth;
-use outline::depth_bad;
-use outline::front_bad;
-use outline::length_bad;
+use outline::head_number;
 use packed::head_bad;
 use packed::starts;
 use paper::Found;
 use paper::Opened;
 use paper::Opening;
 use paper::Refusal;
-
-// A packed file's first byte, and its bytes before the sizes.
-const FRONT: u8 = 0x21;
-
-const HEAD: usize = 7;
 
 // What an opening reads: the refusal's number or 0, the depth, and where each list starts; zeros where it is refused.
 pub struct Header {
@@ -38,14 +33,9 @@ pub struct Header {
 pub fn open_number(file: &[u8]) -> u32
     ensures { λ r. ⌜ r ≡ firstOf (openOrder (now (file .entry))) ⌝ }
 {
-    if front_bad(file, FRONT) {
-        return 3;
-    }
-    if length_bad(file, HEAD) {
-        return 4;
-    }
-    if depth_bad(depth(file)) {
-        return 5;
+    let number = head_number(file, PACKED_FRONT, PACKED_HEAD);
+    if number != 0 {
+        return number;
     }
     if head_bad(file) {
         return 6;

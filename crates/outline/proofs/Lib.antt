@@ -2,4 +2,5 @@
 pub mod Fronts
 pub mod Records
 pub mod Agreeing
+pub mod HeadTests
 pub mod Refusals

@@ -1,5 +1,5 @@
--- The rules of a whole file by the position at which its root's record ends, and the refusals of a file by itself in their order.
--- From the agreement of the readers, and by the value of each test in turn. Assumes nothing.
+-- The rules of a whole file by the position at which its root's record ends. From the agreement of the readers.
+-- Assumes nothing.
 use mathlib.Core.Path.{_≡_, refl, sym, ap, _∙_}
 use mathlib.Core.Bool.{Bool, true, false, not}
 use mathlib.Core.List.{List, [], _∷_}
@@ -9,11 +9,7 @@ use borrow.Author.Tests.{eq-eqb, ne-eqb}
 use lib.Dec.{eqb}
 use lib.ListN.{length, drop, length-drop, drop-of-length-le}
 use lib.Seq.{drop-cons}
-use Rattle.paper.specs.Rooms.{depthOk}
-use Rattle.paper.specs.Outline.{outlineFront, outlineHead, Tree, Read, bad, ok, readRecord, readRoot, readWhole}
-use Rattle.paper.specs.Outline.{frontOk, lengthOk, fileDepth, outlineRules}
-use Rattle.paper.specs.Order.{firstOf}
-use Rattle.paper.specs.Calls.{outlineOrder}
+use Rattle.paper.specs.Outline.{outlineHead, fileDepth, Tree, Read, bad, ok, readRecord, readRoot, readWhole, outlineRules}
 use Rattle.outline.specs.declared.Reading.{Reading}
 use Rattle.outline.specs.declared.Reading.the-variants.{Broken, EndsAt}
 use Rattle.outline.specs.Positions.{recordAt, Agrees}
@@ -53,27 +49,3 @@ module _ (file : List ℕ) where
 
     pub rules-end : (p : ℕ) → recordAt file (D - 2) outlineHead ≡ EndsAt p → not (outlineRules file) ≡ not (eqb p (length file))
     rules-end p e = ap not (rules-by-end ∙ ap endsThere e)
-
-  -- the first test that passes, each law under the tests before its own
-  pub refused-by-3 : not (frontOk outlineFront file) ≡ true → firstOf (outlineOrder file) ≡ 3
-  unfolding firstOf
-  refused-by-3 e = rw e
-
-  module _ (three : not (frontOk outlineFront file) ≡ false) where
-    pub refused-by-4 : not (lengthOk outlineHead file) ≡ true → firstOf (outlineOrder file) ≡ 4
-    unfolding firstOf
-    refused-by-4 e = rw (three, e)
-
-    module _ (four : not (lengthOk outlineHead file) ≡ false) where
-      pub refused-by-5 : not (depthOk (fileDepth file)) ≡ true → firstOf (outlineOrder file) ≡ 5
-      unfolding firstOf
-      refused-by-5 e = rw (three, four, e)
-
-      module _ (five : not (depthOk (fileDepth file)) ≡ false) where
-        pub refused-by-6 : not (outlineRules file) ≡ true → firstOf (outlineOrder file) ≡ 6
-        unfolding firstOf
-        refused-by-6 e = rw (three, four, five, e)
-
-        pub accepted : not (outlineRules file) ≡ false → firstOf (outlineOrder file) ≡ 0
-        unfolding firstOf
-        accepted e = rw (three, four, five, e)

@@ -8,10 +8,13 @@ ghost use Rattle.paper.specs.Rooms.{least, deepest, depthOk};
 ghost use Rattle.paper.specs.Outline.{outlineHead, frontOk, lengthOk, fileDepth, outlineRules};
 ghost use Rattle.paper.specs.Order.{firstOf};
 ghost use Rattle.paper.specs.Calls.{outlineOrder};
+ghost use Rattle.paper.specs.Answers.{numberOf};
+ghost use Rattle.outline.specs.Heads.{headNumber};
 ghost use Rattle.outline.specs.Positions.{leafAt, childrenAt, recordAt};
 use numbers::be32;
 use numbers::be64;
 use numbers::wide;
+use paper::Refusal;
 
 // An outline's first byte, and the bytes before the root's record.
 const FRONT: u8 = 0x11;
@@ -37,7 +40,7 @@ fn field(x: u32) -> usize
 }
 
 // Whether a file is empty or begins with another version byte.
-pub fn front_bad(file: &[u8], front: u8) -> bool
+fn front_bad(file: &[u8], front: u8) -> bool
     ensures { λ r. ⌜ r ≡ not (frontOk front (now (file .entry))) ⌝ }
 {
     if file.len() == 0 {
@@ -47,7 +50,7 @@ pub fn front_bad(file: &[u8], front: u8) -> bool
 }
 
 // Whether a file has fewer bytes than its kind begins with, or another length than its length field says.
-pub fn length_bad(file: &[u8], head: usize) -> bool
+fn length_bad(file: &[u8], head: usize) -> bool
     requires { ⌜ 5 ≤ head ⌝ }
     ensures { λ r. ⌜ r ≡ not (lengthOk head (now (file .entry))) ⌝ }
 {
@@ -141,21 +144,52 @@ pub fn rules_bad(file: &[u8]) -> bool
     }
 }
 
-// The refusal of a file by itself: 3, 4, 5, 6 in this order, or 0.
-pub fn refusal(file: &[u8]) -> u32
-    ensures { λ r. ⌜ r ≡ firstOf (outlineOrder (now (file .entry))) ⌝ }
+// ---- refusals
+
+// The refusal of a file of this front byte and this head by its front byte, its length and its depth: 3, 4, 5 in this order, or 0.
+pub fn head_number(file: &[u8], front: u8, head: usize) -> u32
+    requires { ⌜ 6 ≤ head ⌝ }
+    ensures { λ r. ⌜ r ≡ headNumber front head (now (file .entry)) ⌝ }
 {
-    if front_bad(file, FRONT) {
+    if front_bad(file, front) {
         return 3;
     }
-    if length_bad(file, HEAD) {
+    if length_bad(file, head) {
         return 4;
     }
     if depth_bad(depth(file)) {
         return 5;
     }
+    0
+}
+
+// The refusal of an outline by itself: 3, 4, 5, 6 in this order, or 0.
+pub fn refusal(file: &[u8]) -> u32
+    ensures { λ r. ⌜ r ≡ firstOf (outlineOrder (now (file .entry))) ⌝ }
+{
+    let number = head_number(file, FRONT, HEAD);
+    if number != 0 {
+        return number;
+    }
     if rules_bad(file) {
         return 6;
     }
     0
+}
+
+// The refusal of a file by itself, 3 to 6.
+pub fn file_refusal(number: u32) -> Refusal
+    requires { ⌜ (3 ≤ number) × (number ≤ 6) ⌝ }
+    ensures { λ r. ⌜ numberOf r ≡ number ⌝ }
+{
+    if number == 3 {
+        return Refusal::BadVersion;
+    }
+    if number == 4 {
+        return Refusal::BadLength;
+    }
+    if number == 5 {
+        return Refusal::BadDepth;
+    }
+    Refusal::BrokenRules
 }

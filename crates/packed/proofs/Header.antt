@@ -4,12 +4,12 @@ use mathlib.Core.Path.{_≡_, refl, sym, _∙_, ap, ap₂}
 use mathlib.Core.Bool.{Bool, true, false, not, cond}
 use mathlib.Core.List.{List}
 use Prim.Native.Nat.{ℕ, zero, suc, _+_, _-_, _*_, _%_, _^_, _≤_, _<_}
-use native.Mathlib.Nat.{mod-eq-of-lt, add-zero, zero-add}
+use native.Mathlib.Nat.{mod-eq-of-lt, zero-add}
 use native.Mathlib.Decide.{decLt}
 use native.Mathlib.Numerals.{add-one}
 use native.Mathlib.Omega.{arith}
 use borrow.Author.Tests.{lt-ltb, le-ltb, le-leb, lt-leb, eq-eqb, ne-eqb, eqb-true, eqb-false}
-use lib.Dec.{T, eqb, leb, ltb, eqb→eq, eqb·suc-zero}
+use lib.Dec.{T, eqb, leb, ltb, eqb·suc-zero}
 use lib.ListN.{length, getD, set, replicate}
 use lib.Pow.{pow-mono}
 use lib.Seq.{getD-set-same, getD-set-other, ext-getD}
@@ -20,7 +20,8 @@ use Rattle.paper.specs.Store.{heights}
 use Rattle.paper.specs.Packed.{packedHead, emptyMark, rootTag, isEmpty, topOf, sizeAt, tailAt, startAt, sizesOk, rootOk, headOk, startsOf}
 use Rattle.paper.specs.Calls.{packedOutside}
 use Rattle.laws.proofs.Tests.{and-true, and-right}
-use Rattle.laws.proofs.Lists.{getD-tabulate, length-tabulate}
+use Rattle.laws.proofs.Lists.{getD-tabulate, length-tabulate, zeros-at}
+use Rattle.laws.proofs.PackedLists.{Whole, sizes-whole, tail-in}
 use Rattle.packed.specs.Header.{frontOf, shareAt, lastLists}
 use Rattle.packed.proofs.Reading.{leb-not, ltb-suc}
 
@@ -102,29 +103,19 @@ module _ (bs : List ℕ) where
 -- ---- the lists in the file
 
 -- what the sizes say, of a file that opens and is not empty
-pub sizes-sum : (bs : List ℕ) → T (headOk bs) → (rootTag bs ≡ emptyMark → ⊥) → frontOf bs + tailAt bs (topOf bs) ≡ length bs
-unfolding headOk sizesOk
-sizes-sum bs t n =
-    eqb→eq (frontOf bs + tailAt bs (topOf bs)) (length bs) (rw (ne-eqb (rootTag bs) emptyMark n) at (and-right (rootOk bs) (cond (isEmpty bs) true (sizesOk bs)) t))
+pub sizes-sum : (bs : List ℕ) → T (headOk bs) → (rootTag bs ≡ emptyMark → ⊥) → Whole bs
+unfolding headOk
+sizes-sum bs t n = sizes-whole bs (rw (ne-eqb (rootTag bs) emptyMark n) at (and-right (rootOk bs) (cond (isEmpty bs) true (sizesOk bs)) t))
 
-module _ (bs : List ℕ) (sum : frontOf bs + tailAt bs (topOf bs) ≡ length bs) where
-  tail-le : (d k : ℕ) → k + d ≡ topOf bs → tailAt bs k ≤ tailAt bs (topOf bs)
-  unfolding tailAt
-  tail-le zero k e = rw (sym e, add-zero k) (omega arith)
-  tail-le (suc d) k e = omega (arith, tail-le d (suc k) (omega arith))
-
-  -- list k and all that follow it come after the sizes
-  pub tail-in : (k : ℕ) → k ≤ topOf bs → frontOf bs + tailAt bs k ≤ length bs
-  tail-in k h = omega (arith, sum, tail-le (topOf bs - k) k (omega arith))
-
+module _ (bs : List ℕ) (sum : Whole bs) where
   -- one list more, from the end of the file: where it starts
   pub start-more : (k e : ℕ) → k ≤ topOf bs → e + lastLists bs k ≡ length bs → e - shareAt bs k ≡ startAt bs k
   unfolding lastLists
-  start-more k e h p = omega (arith, lists-tail bs k, tail-in k h)
+  start-more k e h p = omega (arith, lists-tail bs k, tail-in bs sum k h)
 
   pub share-in : (k e : ℕ) → k ≤ topOf bs → e + lastLists bs k ≡ length bs → shareAt bs k ≤ e
   unfolding lastLists
-  share-in k e h p = omega (arith, lists-tail bs k, tail-in k h)
+  share-in k e h p = omega (arith, lists-tail bs k, tail-in bs sum k h)
 
   pub rest-more : (k e : ℕ) → k ≤ topOf bs → e + lastLists bs k ≡ length bs → (e - shareAt bs k) + lastLists bs (k + 1) ≡ length bs
   unfolding lastLists
@@ -138,12 +129,7 @@ abbrev pub noStarts : List ℕ
 noStarts = replicate heights 0
 
 pub starts-none : (bs : List ℕ) (j : ℕ) → getD noStarts j 0 ≡ startsTo bs 0 j
-starts-none bs j = rw (le-ltb j 0 (omega arith)) (zeros heights j)
-  where
-    zeros : (n j : ℕ) → getD {A = ℕ} (replicate n 0) j 0 ≡ 0
-    zeros zero j = refl
-    zeros (suc n) zero = refl
-    zeros (suc n) (suc j) = zeros n j
+starts-none bs j = rw (le-ltb j 0 (omega arith)) (zeros-at heights j)
 
 pub starts-more : (bs out : List ℕ) (k : ℕ) → k < length out → ((j : ℕ) → getD out j 0 ≡ startsTo bs k j) → (j : ℕ)
     → getD (set out k (startAt bs k)) j 0 ≡ startsTo bs (k + 1) j

@@ -18,11 +18,11 @@ use Rattle.paper.specs.Store.{leafNo}
 use Rattle.paper.specs.Packed.{emptyMark, rootTag, isEmpty, topOf, sizeAt, tailAt, startAt, listAt, headOk, rootOk, sizesOk, Link, noLink, linksAt, leafAt, recordOk, leafOk, Step, Way, broken, ended, after, unless, packedWay, wayIn}
 use Rattle.paper.specs.Calls.{packedOutside}
 use Rattle.laws.proofs.Tests.{T-true, true-T, and-left, and-right}
+use Rattle.laws.proofs.PackedLists.{Whole, tail-in, leaves-length}
 use Rattle.packed.specs.declared.Reached.the-variants.{Solid, Empty}
 use Rattle.packed.specs.Header.{frontOf}
 use Rattle.packed.specs.Records.{takenOk}
 use Rattle.packed.specs.Walk.{reached, plus, if-ok, seenAt, leafEnd, wayAt}
-use Rattle.packed.proofs.Header.{tail-in}
 use Rattle.packed.proofs.Steps.{less-one}
 
 -- ---- the paper's walk, as the code answers it
@@ -83,7 +83,7 @@ seen-whole k m v i =
 
 -- ---- the lists in the file
 
-module _ (bs : List ℕ) (sum : frontOf bs + tailAt bs (topOf bs) ≡ length bs) where
+module _ (bs : List ℕ) (sum : Whole bs) where
   -- the top list follows the sizes, each other starts where the one above it ends, and the leaves end the file
   pub start-top : frontOf bs ≡ startAt bs (topOf bs)
   start-top = omega (arith, sum)
@@ -99,10 +99,6 @@ module _ (bs : List ℕ) (sum : frontOf bs + tailAt bs (topOf bs) ≡ length bs)
   pub start-in : (k : ℕ) → startAt bs k ≤ length bs
   start-in k = omega arith
 
-  start-leaves : startAt bs 0 + 8 * sizeAt bs 0 ≡ length bs
-  unfolding tailAt
-  start-leaves = omega (arith, tail-in bs sum 0 (omega arith))
-
   -- the bytes of a list, as code cuts them
   pub list-cut : (k s n : ℕ) → 0 < k → s ≡ startAt bs k → n ≡ sizeAt bs k → take (s + 2 * n - s) (drop s bs) ≡ listAt bs k
   unfolding listAt
@@ -116,8 +112,7 @@ module _ (bs : List ℕ) (sum : frontOf bs + tailAt bs (topOf bs) ≡ length bs)
   leaves-cut s e = take-all (length bs - s) (drop s bs) (rw (length-drop s bs) (omega arith)) ∙ ap (λ (n : ℕ). drop n bs) e
 
   pub leaves-eights : length (listAt bs 0) % 8 ≡ 0
-  unfolding listAt
-  leaves-eights = let e : length (drop (startAt bs 0) bs) ≡ 8 * sizeAt bs 0 = length-drop (startAt bs 0) bs ∙ omega (arith, start-leaves) in omega (arith, e)
+  leaves-eights = omega (arith, leaves-length bs sum)
 
 -- the walk over the lists is the paper's
 pub lists-way : (bs : List ℕ) (v : Point) → least ≤ fileDepth bs → (rootTag bs ≡ emptyMark → ⊥) → T (headOk bs) → packedOutside bs v ≡ false
@@ -133,10 +128,11 @@ unfolding wayIn
 way-empty bs v t e = rw (T-true {b = headOk bs} t, eq-eqb (rootTag bs) emptyMark e) refl
 
 -- byte 6 of a file that is not empty is a mirror
+pub root-small : (bs : List ℕ) → T (rootOk bs) → (rootTag bs ≡ emptyMark → ⊥) → rootTag bs < 8
+root-small bs t n =
+    let l : rootTag bs ≤ 8 = leb→le (rootTag bs) emptyMark (and-left (leb (rootTag bs) emptyMark) (cond (isEmpty bs) (eqb (length bs) 7) true) t) in
+    omega (arith, l, n)
+
 pub root-mirror : (bs : List ℕ) → T (headOk bs) → (rootTag bs ≡ emptyMark → ⊥) → rootTag bs < 8
 unfolding headOk
-root-mirror bs t n =
-    let a : Bool = leb (rootTag bs) emptyMark in
-    let b : Bool = cond (isEmpty bs) (eqb (length bs) 7) true in
-    let l : rootTag bs ≤ 8 = leb→le (rootTag bs) emptyMark (and-left a b (and-left (rootOk bs) (cond (isEmpty bs) true (sizesOk bs)) t)) in
-    omega (arith, l, n)
+root-mirror bs t n = root-small bs (and-left (rootOk bs) (cond (isEmpty bs) true (sizesOk bs)) t) n

@@ -13,9 +13,10 @@ use lib.ListN.{length, drop, getD, drop-of-length-le}
 use lib.Seq.{drop-drop}
 use Rattle.paper.specs.Numbers.{be, num, bitFor}
 use Rattle.paper.specs.Store.{leafNo}
-use Rattle.paper.specs.Packed.{Link, linkOf, noLink, headerAt, halves, codesOk, readLinks, linksAt, recordOk, leafAt, farthestShort}
+use Rattle.paper.specs.Packed.{Link, linkOf, noLink, headerAt, halves, codesOk, readLinks, linksAt, recordOk, leafAt, codeFor}
 use Rattle.laws.proofs.Tests.{and-left, and-right, all-at, all-at2}
 pub use Rattle.laws.proofs.PackedLists.{halves-one}
+use Rattle.numbers.proofs.Sums.{eight-bytes}
 use Rattle.packed.specs.Records.{codeAt, takenOk}
 use Rattle.packed.proofs.Reading.{ltb-not}
 
@@ -161,6 +162,10 @@ record-good l p t =
     let d : Bool = leb (2 * (p + halves 8 h)) (length l) in
     record { codes = and-right a b (and-left (a && b) d t); room = leb→le (2 * (p + halves 8 h)) (length l) (and-right (a && b) d t) }
 
+-- its header lies in the list
+pub header-room : (l : List ℕ) (p : ℕ) → T (recordOk l p) → 2 * p + 2 ≤ length l
+header-room l p t = omega (arith, record-good l p t .room, halves-one 8 (headerAt l p))
+
 -- ---- the ways through a record's tests
 
 module _ (l : List ℕ) (p : ℕ) where
@@ -189,24 +194,22 @@ module _ (l : List ℕ) (p : ℕ) where
       let s : 2 * p + 2 * halves 8 (headerAt l p) ≡ 2 * (p + halves 8 (headerAt l p)) = omega arith in
       rw (lt-ltb 0 (headerAt l p) (omega (arith, n)), e, s) (ltb-not (length l) (2 * (p + halves 8 (headerAt l p))))
 
--- ---- a pointer by its code: the ways through `pointer_at`
+-- ---- a pointer by its code: the ways through `pointer_from`
 
-module _ (l : List ℕ) (p i : ℕ) (m : i < 8) where
-  -- the pointer's first byte
-  abbrev from : ℕ
-  from = 2 * p + 2 * halves i (headerAt l p)
+module _ (l : List ℕ) (from code : ℕ) where
+  -- the pointer that the bytes from there on write
+  abbrev there : Link
+  there = linkOf code (num (2 * code) (drop from l))
 
-  pub pointer-none : codeAt i (headerAt l p) ≡ 0 → noLink ≡ getD (linksAt l p) i noLink
+  pub pointer-none : code ≡ 0 → noLink ≡ there
   unfolding be
-  pointer-none e = sym (link-at l p i m ∙ rw e refl)
+  pointer-none e = rw e refl
 
-  pub pointer-short : (v : ℕ) → codeAt i (headerAt l p) ≡ 1 → v ≡ num 2 (drop from l)
-      → record { code = 1; tag = v / 8192; place = v % 8192 } ≡ getD (linksAt l p) i noLink
-  pointer-short v e f = sym (link-at l p i m ∙ rw (e, sym f) refl)
+  pub pointer-short : (v : ℕ) → code ≡ 1 → v ≡ num 2 (drop from l) → record { code = 1; tag = v / 8192; place = v % 8192 } ≡ there
+  pointer-short v e f = rw (e, f) refl
 
-  pub pointer-long : (v : ℕ) → codeAt i (headerAt l p) ≡ 2 → v ≡ num 4 (drop from l)
-      → record { code = 2; tag = v / 536870912; place = v % 536870912 } ≡ getD (linksAt l p) i noLink
-  pointer-long v e f = sym (link-at l p i m ∙ rw (e, sym f) refl)
+  pub pointer-long : (v : ℕ) → code ≡ 2 → v ≡ num 4 (drop from l) → record { code = 2; tag = v / 536870912; place = v % 536870912 } ≡ there
+  pointer-long v e f = rw (e, f) refl
 
 -- ---- the pointer taken
 
@@ -214,11 +217,8 @@ module _ (size : ℕ) (q : Link) where
   pub taken-outside : size ≤ q .place → true ≡ not (takenOk size q)
   taken-outside h = rw (le-ltb (q .place) size h) refl
 
-  pub taken-near : q .place < size → q .place ≤ farthestShort → not (eqb (q .code) 1) ≡ not (takenOk size q)
-  taken-near h l = rw (lt-ltb (q .place) size h, le-leb (q .place) farthestShort l) refl
-
-  pub taken-far : q .place < size → farthestShort < q .place → not (eqb (q .code) 2) ≡ not (takenOk size q)
-  taken-far h l = rw (lt-ltb (q .place) size h, lt-leb (q .place) farthestShort l) refl
+  pub taken-inside : q .place < size → not (eqb (q .code) (codeFor (q .place))) ≡ not (takenOk size q)
+  taken-inside h = rw (lt-ltb (q .place) size h) refl
 
 -- ---- a leaf
 
@@ -226,6 +226,6 @@ pub leaf-none : (l : List ℕ) (p : ℕ) → length l ≤ 8 * p → 0 ≡ leafNo
 unfolding leafAt be
 leaf-none l p h = rw (drop-of-length-le l {i = 8 * p} h, drop-of-length-le l {i = 8 * p + 4} (omega arith)) refl
 
-pub leaf-words : (l : List ℕ) (p a b : ℕ) → a ≡ num 4 (drop (8 * p) l) → b ≡ num 4 (drop (8 * p + 4) l) → a * 4294967296 + b ≡ leafNo (leafAt l p)
+pub leaf-words : (l : List ℕ) (p : ℕ) → 8 * p + 8 ≤ length l → num 8 (drop (8 * p) l) ≡ leafNo (leafAt l p)
 unfolding leafAt
-leaf-words l p a b e f = ap₂ (λ (m n : ℕ). m * 4294967296 + n) e f
+leaf-words l p h = eight-bytes l (8 * p) h

@@ -10,37 +10,41 @@ ghost use Rattle.paper.specs.Rooms.{point, flip};
 ghost use Rattle.paper.specs.Leaf.{leafVoxel};
 ghost use Rattle.paper.specs.Outline.{frontOk, lengthOk};
 ghost use Rattle.paper.specs.Store.{leafNo};
-ghost use Rattle.paper.specs.Packed.{packedFront, packedHead, emptyMark, rootTag, topOf, sizeAt, listAt, headOk, startsOf, halves, codesOk, recordOk, linksAt, noLink, leafAt, wayIn};
+ghost use Rattle.paper.specs.Packed.{packedFront, packedHead, emptyMark, rootTag, topOf, sizeAt, listAt, headOk, startsOf, halves, codesOk, headerAt, recordOk, linkOf, linksAt, noLink, codeFor, leafAt, wayIn};
 ghost use Rattle.paper.specs.Answers.{outcome, found};
 ghost use Rattle.paper.specs.Calls.{packedOutside, packedVoxelOutcome};
 ghost use Rattle.packed.specs.Header.{Tested, Sized, Opens, shareAt, lastLists};
 ghost use Rattle.packed.specs.Records.{linkIs, takenOk};
 ghost use Rattle.packed.specs.Walk.{foundAt, reached, plus, leafEnd, seenAt, octant, wayAt};
+use limits::CHILDREN;
+use limits::DEPTH_PLACE;
+use limits::EMPTY_MARK;
+use limits::FARTHEST_SHORT;
+use limits::HALF_BYTES;
+use limits::LEAF_BYTES;
+use limits::LEAF_HEIGHT;
+use limits::MIRROR_PLACE;
+use limits::PACKED_FRONT;
+use limits::PACKED_HEAD;
 use numbers::be32;
+use numbers::be64;
 use numbers::wide;
 use numbers::wider;
-use outline::depth;
-use outline::depth_bad;
-use outline::front_bad;
-use outline::length_bad;
+use outline::file_refusal;
+use outline::head_number;
 use paper::Found;
 use paper::Refusal;
-
-// The front byte of a packed file, its bytes before the sizes, and byte 6 of an empty scene.
-const FRONT: u8 = 0x21;
-
-const HEAD: usize = 7;
-
-const EMPTY_MARK: u8 = 8;
-
-// The farthest place of a 2-byte pointer.
-const FARTHEST_SHORT: u32 = 8191;
 
 // The low bit of each of a header's eight codes.
 const LOW_BITS: u32 = 0x5555;
 
 // The bytes of a record of eight 4-byte pointers: no record is longer.
 const LONGEST: usize = 34;
+
+// The places that a pointer of 2 and one of 4 bytes can name: its mirror bits stand above them.
+const SHORT_PLACES: u32 = FARTHEST_SHORT + 1;
+
+const LONG_PLACES: u32 = 536870912;
 
 // A child's pointer: its code (0 none, 1 of 2 bytes, 2 of 4), its mirror, and the child's place.
 pub struct Pointer {
@@ -59,7 +63,7 @@ pub enum Reached {
 // ---- numbers, high byte first
 
 // The number of the two bytes at a place.
-fn two(s: &[u8], at: usize) -> u32
+pub fn two(s: &[u8], at: usize) -> u32
     requires { ⌜ at + 2 ≤ length (now s) ⌝ }
     ensures { λ r. ⌜ (r ≡ num 2 (drop at (now (s .entry)))) × (r < 65536) ⌝ }
 {
@@ -91,8 +95,8 @@ fn size(file: &[u8], k: u32) -> u32
     requires { ⌜ k ≤ topOf (now file) ⌝ }
     ensures { λ r. ⌜ r ≡ sizeAt (now (file .entry)) k ⌝ }
 {
-    let top = wide(file[5]) - 2;
-    be32(file, (7 + 4 * (top - k)) as usize)
+    let top = wide(file[DEPTH_PLACE]) - LEAF_HEIGHT;
+    be32(file, PACKED_HEAD + 4 * ((top - k) as usize))
 }
 
 // The bytes of list k.
@@ -125,15 +129,15 @@ pub fn head_bad(file: &[u8]) -> bool
     requires { ⌜ Tested (now file) ⌝ }
     ensures { λ r. ⌜ r ≡ not (headOk (now (file .entry))) ⌝ }
 {
-    let mark = file[6];
+    let mark = file[MIRROR_PLACE];
     if mark == EMPTY_MARK {
-        return file.len() != HEAD;
+        return file.len() != PACKED_HEAD;
     }
     if EMPTY_MARK < mark {
         return true;
     }
-    let lists = wide(file[5]) - 1;
-    let front = 7 + 4 * (lists as usize);
+    let lists = wide(file[DEPTH_PLACE]) - 1;
+    let front = PACKED_HEAD + 4 * (lists as usize);
     if file.len() < front {
         return true;
     }
@@ -146,10 +150,10 @@ pub fn starts(file: &[u8]) -> [u32; 15]
     ensures { λ r. ⌜ r ≡ startsOf (now (file .entry)) ⌝ }
 {
     let mut out = [0u32; 15];
-    if file[6] == EMPTY_MARK {
+    if file[MIRROR_PLACE] == EMPTY_MARK {
         return out;
     }
-    let lists = wide(file[5]) - 1;
+    let lists = wide(file[DEPTH_PLACE]) - 1;
     let mut end = file.len() as u64;
     let mut k = 0u32;
     while k < lists {
@@ -185,8 +189,8 @@ fn codes_bad(header: u32) -> bool
 pub fn record_bad(list: &[u8], place: u32) -> bool
     ensures { λ r. ⌜ r ≡ not (recordOk (now (list .entry)) place) ⌝ }
 {
-    let at = 2 * (place as usize);
-    if list.len() < at + 2 {
+    let at = HALF_BYTES * (place as usize);
+    if list.len() < at + HALF_BYTES {
         return true;
     }
     let header = two(list, at);
@@ -199,19 +203,22 @@ pub fn record_bad(list: &[u8], place: u32) -> bool
     if at + LONGEST <= list.len() {
         return false;
     }
-    list.len() < at + 2 * (halves(8, header) as usize)
+    list.len() < at + HALF_BYTES * (halves(CHILDREN, header) as usize)
 }
 
-// The pointer of child i of the record at a place.
-pub fn pointer_at(list: &[u8], place: u32, i: u32) -> Pointer
+// The half-words of a record that keeps its rules: its header's and those of its pointers.
+pub fn width(list: &[u8], place: u32) -> u32
     requires { ⌜ T (recordOk (now list) place) ⌝ }
-    requires { ⌜ i < 8 ⌝ }
-    ensures { λ r. ⌜ (linkIs r ≡ getD (linksAt (now (list .entry)) place) i noLink) × (r .tag < 8) ⌝ }
+    ensures { λ r. ⌜ (r ≡ halves 8 (headerAt (now (list .entry)) place)) × (r ≤ 25) ⌝ }
 {
-    let at = 2 * (place as usize);
-    let header = two(list, at);
-    let code = (header >> (2 * i)) % 4;
-    let from = at + 2 * (halves(i, header) as usize);
+    halves(CHILDREN, two(list, HALF_BYTES * (place as usize)))
+}
+
+// The pointer of this code whose bytes begin at a position.
+pub fn pointer_from(list: &[u8], from: usize, code: u32) -> Pointer
+    requires { ⌜ (code < 3) × (from + 2 * code ≤ length (now list)) ⌝ }
+    ensures { λ r. ⌜ (linkIs r ≡ linkOf code (num (2 * code) (drop from (now (list .entry))))) × (r .tag < 8) × (r .place < 2 ^ 29) ⌝ }
+{
     if code == 0 {
         return Pointer {
             code: 0,
@@ -223,16 +230,35 @@ pub fn pointer_at(list: &[u8], place: u32, i: u32) -> Pointer
         let short = two(list, from);
         return Pointer {
             code: 1,
-            tag: short / 8192,
-            place: short % 8192,
+            tag: short / SHORT_PLACES,
+            place: short % SHORT_PLACES,
         };
     }
     let long = be32(list, from);
     Pointer {
         code: 2,
-        tag: long / 536870912,
-        place: long % 536870912,
+        tag: long / LONG_PLACES,
+        place: long % LONG_PLACES,
     }
+}
+
+// The pointer of child i of the record at a place.
+pub fn pointer_at(list: &[u8], place: u32, i: u32) -> Pointer
+    requires { ⌜ T (recordOk (now list) place) ⌝ }
+    requires { ⌜ i < 8 ⌝ }
+    ensures { λ r. ⌜ (linkIs r ≡ getD (linksAt (now (list .entry)) place) i noLink) × (r .tag < 8) ⌝ }
+{
+    let at = HALF_BYTES * (place as usize);
+    let header = two(list, at);
+    let from = at + HALF_BYTES * (halves(i, header) as usize);
+    pointer_from(list, from, (header >> (2 * i)) % 4)
+}
+
+// The code of a pointer to a place.
+pub fn code_for(place: u32) -> u32
+    ensures { λ r. ⌜ r ≡ codeFor place ⌝ }
+{
+    if place <= FARTHEST_SHORT { 1 } else { 2 }
 }
 
 // Whether a pointer leads outside a list of this size, or has the other width.
@@ -242,10 +268,7 @@ fn taken_bad(size: u32, taken: Pointer) -> bool
     if size <= taken.place {
         return true;
     }
-    if taken.place <= FARTHEST_SHORT {
-        return taken.code != 1;
-    }
-    taken.code != 2
+    taken.code != code_for(taken.place)
 }
 
 // Leaf `place` of the leaf part, 0 where there is none.
@@ -253,11 +276,11 @@ pub fn leaf(leaves: &[u8], place: u32) -> u64
     requires { ⌜ length (now leaves) % 8 ≡ 0 ⌝ }
     ensures { λ r. ⌜ r ≡ leafNo (leafAt (now (leaves .entry)) place) ⌝ }
 {
-    let at = 8 * (place as usize);
+    let at = LEAF_BYTES * (place as usize);
     if leaves.len() <= at {
         return 0;
     }
-    wider(be32(leaves, at)) * 4294967296 + wider(be32(leaves, at + 4))
+    be64(leaves, at)
 }
 
 // ---- the walk
@@ -310,13 +333,13 @@ fn walk(file: &[u8], x: u32, y: u32, z: u32) -> Reached
     requires { ⌜ (rootTag (now file) ≡ emptyMark → ⊥) ⌝ }
     ensures { λ r. ⌜ r ≡ wayAt (listAt (now (file .entry))) (sizeAt (now (file .entry))) (topOf (now (file .entry))) 0 (seenAt (topOf (now (file .entry))) (rootTag (now (file .entry))) (point x y z)) ⌝ }
 {
-    let top = wide(file[5]) - 2;
+    let top = wide(file[DEPTH_PLACE]) - LEAF_HEIGHT;
     let mut k = top;
-    let mut start = HEAD + 4 * ((top + 1) as usize);
+    let mut start = PACKED_HEAD + 4 * ((top + 1) as usize);
     let mut place = 0u32;
-    let mut mirror = wide(file[6]);
+    let mut mirror = wide(file[MIRROR_PLACE]);
     while 0 < k {
-        let end = start + 2 * (size(file, k) as usize);
+        let end = start + HALF_BYTES * (size(file, k) as usize);
         let list = &file[start..end];
         if record_bad(list, place) {
             return Reached::Broken;
@@ -343,7 +366,7 @@ fn way_in(file: &[u8], x: u32, y: u32, z: u32) -> Reached
     requires { ⌜ packedOutside (now file) (point x y z) ≡ false ⌝ }
     ensures { λ r. ⌜ r ≡ reached (wayIn (now (file .entry)) (point x y z)) ⌝ }
 {
-    if file[6] == EMPTY_MARK {
+    if file[MIRROR_PLACE] == EMPTY_MARK {
         return Reached::Empty(0);
     }
     walk(file, x, y, z)
@@ -364,14 +387,9 @@ fn answer(end: Reached) -> Found
 pub fn packed_voxel(file: &[u8], x: u32, y: u32, z: u32) -> Found
     ensures { λ r. ⌜ outcome (found r) [] ≡ packedVoxelOutcome (now (file .entry)) (point x y z) ⌝ }
 {
-    if front_bad(file, FRONT) {
-        return Found::Refused(Refusal::BadVersion);
-    }
-    if length_bad(file, HEAD) {
-        return Found::Refused(Refusal::BadLength);
-    }
-    if depth_bad(depth(file)) {
-        return Found::Refused(Refusal::BadDepth);
+    let number = head_number(file, PACKED_FRONT, PACKED_HEAD);
+    if number != 0 {
+        return Found::Refused(file_refusal(number));
     }
     if outside(file, x, y, z) {
         return Found::Refused(Refusal::Outside);

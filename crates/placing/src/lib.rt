@@ -5,7 +5,6 @@ ghost use Prim.Native.Nat.{ℕ, _+_, _*_, _≤_, _<_};
 ghost use lib.Dec.{T};
 ghost use lib.ListN.{getD};
 ghost use Rattle.paper.specs.Store.{capacityOf, keptCount, keptOf, cellNo, storeOk};
-ghost use Rattle.paper.specs.Packed.{codeFor};
 ghost use Rattle.paper.specs.Pack.{code};
 ghost use Rattle.numbers.specs.Laid.{reached};
 ghost use Rattle.placing.specs.Placing.{placesIn, digits, span, placedList, placed, placedLists, Room, Below, Kept};
@@ -13,12 +12,10 @@ use limits::CHILDREN;
 use order::ORDERS;
 use order::PLACES;
 use order::word_place;
+use packed::code_for;
 use store::capacity;
 use store::cell_at;
 use store::cell_number;
-
-// A pointer is short where its place is at most this.
-pub const FARTHEST_SHORT: u32 = 8191;
 
 // A pointer's code is its half-words: to base 1 the codes of a cell are counted together.
 const COUNTED: u32 = 1;
@@ -39,13 +36,6 @@ pub fn place_of(c: u32, k: u32, q: u32, scratch: &[u32]) -> u32
     ensures { λ r. ⌜ r ≡ getD (placesIn c k (now (scratch .entry))) q 0 ⌝ }
 {
     word_of(c, PLACES, k, q, scratch)
-}
-
-// The half-words of a pointer to a place.
-fn code_for(place: u32) -> u32
-    ensures { λ r. ⌜ r ≡ codeFor place ⌝ }
-{
-    if place <= FARTHEST_SHORT { 1 } else { 2 }
 }
 
 // The half-words of a pointer p into list k: 0 for none.

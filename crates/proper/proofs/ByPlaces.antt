@@ -1,150 +1,39 @@
--- The rules by places and marks are the rules of a proper file. A start's mark is the mask of the graph's cell there, by induction on the list; so
--- pointers match, tags are lowest and records are named by places just where they are by numbers. Assumes nothing.
-use mathlib.Core.Path.{_≡_, refl, sym, _∙_, subst, ap, ap₂}
+-- The rules by places and marks, where lists and pointers are sound, are the graph's. A start's mark is the mask of the graph's cell there, by induction
+-- on the list; so pointers match, tags are lowest and records are named by places just where they are by numbers. Assumes nothing.
+use mathlib.Core.Path.{_≡_, refl, sym, _∙_, ap, ap₂}
 use mathlib.Core.Bool.{Bool, true, false, cond, not, _&&_}
 use mathlib.Core.List.{List, [], _∷_, map}
 use mathlib.Core.Logic.{_⊎_, inl, inr}
 use Prim.Native.Nat.{ℕ, zero, suc, _+_, _-_, _*_, _%_, _^_, _<_, _≤_}
-use native.Mathlib.Nat.{le-of-suc-le-suc, not-suc-le-zero}
-use native.Mathlib.Decide.{ℕ-discrete}
+use native.Mathlib.Decide.{ℕ-discrete, decLt}
 use native.Mathlib.Omega.{arith}
-use borrow.Author.Tests.{eq-eqb, ne-eqb, eqb-true, eqb-false, lt-ltb, ltb-true, ltb-false}
+use borrow.Author.Tests.{eq-eqb, ne-eqb, eqb-true, eqb-false, lt-ltb}
 use lib.Bits.{bitXor}
-use lib.Dec.{T, eqb, leb, ltb, eqb→eq, ltb→lt, leb→le, lit<}
+use lib.Dec.{T, eqb, leb, ltb, eqb→eq, lit<}
 use lib.ListN.{length, getD, drop, replicate, List·getD-map, List·getD-eq-default, length-map, length-replicate}
-use Rattle.paper.specs.Numbers.{allBelow, num, count, allIn, isIn, indexIn}
+use Rattle.paper.specs.Numbers.{allBelow, allIn, isIn, indexIn}
 use Rattle.paper.specs.Outline.{lengthOk}
 use Rattle.paper.specs.Store.{Cell, cellNo, tagOf, pointer, leafNo, cellsAt, cellAt}
 use Rattle.paper.specs.Match.{pointerMatch, cellMatch, matches}
-use Rattle.paper.specs.Packed.{packedHead, topOf, rootTag, isEmpty, sizeAt, tailAt, listAt, headerAt, halves, Link, noLink, linksAt, leafAt, recordOk, leafOk, codeFor, startsFrom, placesAt, byNumber, cellsOf, graphOf, linkOk, linksOk, wholeAt, names, popularity, namedOk, apartOk, tagLow, pointerLow, tagsOk, fallingOk, graphOk, sizesOk, topOk, listsOk, rootOk, headOk, packedRules}
+use Rattle.paper.specs.Packed.{packedHead, topOf, rootTag, listAt, headerAt, Link, noLink, linksAt, leafAt, recordOk, codeFor, placesAt, byNumber, cellsOf, graphOf, linkOk, linksOk, wholeAt, names, popularity, namedOk, apartOk, tagLow, pointerLow, tagsOk, fallingOk, graphOk, topOk}
 use Rattle.paper.specs.Runs.{Bytes}
-use Rattle.laws.proofs.Tests.{T-true, true-T, iff-eq, and-left, and-right, and-T, and5, and5-T, all-at, all-T, all-same}
-use Rattle.laws.proofs.Lists.{allIn-at, allIn-in, allIn-T, At, isIn-at, isIn-getD, Once, index-getD, length-count, getD-count}
+use Rattle.laws.proofs.Tests.{T-true, true-T, and-left, and-right, and-T, and5, and5-T, all-at, all-T, all-same}
+use Rattle.laws.proofs.Lists.{allIn-at, allIn-isIn, allIn-in, allIn-T, isIn-at, isIn-getD, index-getD}
 use Rattle.laws.proofs.Bytes.{bytes-drop}
 use Rattle.laws.proofs.Eight.{xor8-lt}
 use Rattle.laws.proofs.Adding.{pointer-cell, pointer-tag}
 use Rattle.laws.proofs.Matching.{LeafFits, selfAt, fits-at}
 use Rattle.laws.proofs.Masks.{marked, symmetries, mask-bit, mask-same, mask-odd}
-use Rattle.laws.proofs.PackedLists.{num4-lt, Fits, links-fit, halves-one, list-bytes, start-inside, start-small, link-some, graph-cells, record-cell, leaf-cell}
-use Rattle.laws.proofs.PackedWalk.{SoundLists, lists-of}
+use Rattle.laws.proofs.PackedLists.{num4-lt, Fits, links-fit, list-bytes, start-inside, start-small, link-some, graph-cells, record-cell, leaf-cell}
+use Rattle.laws.proofs.PackedWalk.{First, SoundLists, few-leaves, root-first}
 use Rattle.least.specs.Keys.{markOf}
 use Rattle.alike.specs.Matching.{leavesMatch, linkMatch, selfBy, recordsMatch, leafMask, recordMask, lowBy, linkRules, recordRules, apartIn}
-use Rattle.proper.specs.Places.{unitAt, marksAt, listRules, rootLow, namesPlace, timesNamed, popularAt, popularRules, rulesBy, packedBy}
+use Rattle.popular.specs.Places.{unitAt, namesPlace, timesNamed, popularAt, popularRules}
+use Rattle.proper.specs.Places.{marksAt, listRules, rootLow, rulesBy}
 use Rattle.alike.proofs.Linking.{links-length}
-use Rattle.proper.proofs.Marks.{zeros-read, marks-start, marks-other, list-length, tail-whole, tail-grows}
-
--- ---- no place twice
-
-pub starts-late : (l : List ℕ) (n p q : ℕ) → q < length (startsFrom l n p) → p ≤ getD (startsFrom l n p) q 0
-unfolding startsFrom
-starts-late l zero p = λ q h. absurd (not-suc-le-zero h)
-starts-late l (suc n) p = go (ltb (2 * p) (length l)) (starts-late l n (p + halves 8 (headerAt l p)))
-  where
-    ss : List ℕ
-    ss = startsFrom l n (p + halves 8 (headerAt l p))
-
-    go : (b : Bool) → ((q : ℕ) → q < length ss → p + halves 8 (headerAt l p) ≤ getD ss q 0)
-        → (q : ℕ) → q < length (cond b (p ∷ ss) []) → p ≤ getD (cond b (p ∷ ss) []) q 0
-    go false ih q h = absurd (not-suc-le-zero h)
-    go true ih zero h = omega arith
-    go true ih (suc q) h = omega (arith, ih q (le-of-suc-le-suc h))
-
-cons-once : (x : ℕ) (l : List ℕ) → ((q : ℕ) → q < length l → suc x ≤ getD l q 0) → Once l → Once (x ∷ l)
-cons-once x l late once zero zero hi hj e = refl
-cons-once x l late once zero (suc j) hi hj e = absurd (omega (arith, e, late j (le-of-suc-le-suc hj)))
-cons-once x l late once (suc i) zero hi hj e = absurd (omega (arith, e, late i (le-of-suc-le-suc hi)))
-cons-once x l late once (suc i) (suc j) hi hj e = ap suc (once i j (le-of-suc-le-suc hi) (le-of-suc-le-suc hj) e)
-
-starts-once : (l : List ℕ) (n p : ℕ) → Once (startsFrom l n p)
-unfolding startsFrom
-starts-once l zero p = λ i j h g e. absurd (not-suc-le-zero h)
-starts-once l (suc n) p = go (ltb (2 * p) (length l)) (starts-once l n (p + halves 8 (headerAt l p))) (starts-late l n (p + halves 8 (headerAt l p)))
-  where
-    ss : List ℕ
-    ss = startsFrom l n (p + halves 8 (headerAt l p))
-
-    go : (b : Bool) → Once ss → ((q : ℕ) → q < length ss → p + halves 8 (headerAt l p) ≤ getD ss q 0) → Once (cond b (p ∷ ss) [])
-    go false once late = λ i j h g e. absurd (not-suc-le-zero h)
-    go true once late = cons-once p ss (λ q h. omega (arith, late q h, halves-one 8 (headerAt l p))) once
-
-pub once-at : (bs : List ℕ) (k : ℕ) → Once (placesAt bs k)
-unfolding placesAt
-once-at bs zero = λ i j hi hj e.
-    let n : ℕ = sizeAt bs 0 in
-    let a : i < n = omega (arith, length-count n 0) in
-    let b : j < n = omega (arith, length-count n 0) in
-    omega (arith, e, getD-count n 0 i a, getD-count n 0 j b)
-once-at bs (suc k) = starts-once (listAt bs (suc k)) (sizeAt bs (suc k)) 0
-
--- ---- a mark above 0 is that of a start
-
-unit-inj : (k p q : ℕ) → unitAt k * p ≡ unitAt k * q → p ≡ q
-unit-inj zero p q e = omega arith
-unit-inj (suc k) p q e = omega arith
-
-pub no-mark : (bs : List ℕ) (k x : ℕ) → isIn x (placesAt bs k) ≡ false → markOf (unitAt k) (marksAt bs k) x ≡ 0
-unfolding marksAt
-no-mark bs zero x e =
-    marks-other (leafMask (listAt bs 0)) 8 (placesAt bs 0) (replicate (length (listAt bs 0)) 0) (8 * x)
-    (λ p t q. subst T e (subst (λ (n : ℕ). T (isIn n (placesAt bs 0))) (sym (unit-inj 0 x p q)) t))
-    ∙ zeros-read (length (listAt bs 0)) (8 * x)
-no-mark bs (suc k) x e =
-    marks-other (recordMask (unitAt k) (marksAt bs k) (listAt bs (suc k))) 2 (placesAt bs (suc k)) (replicate (length (listAt bs (suc k))) 0) (2 * x)
-    (λ p t q. subst T e (subst (λ (n : ℕ). T (isIn n (placesAt bs (suc k)))) (sym (unit-inj (suc k) x p q)) t))
-    ∙ zeros-read (length (listAt bs (suc k))) (2 * x)
-
-pub mark-start : (bs : List ℕ) (k x : ℕ) → 0 < markOf (unitAt k) (marksAt bs k) x → T (isIn x (placesAt bs k))
-mark-start bs k x h = go (isIn x (placesAt bs k)) refl
-  where
-    go : (b : Bool) → isIn x (placesAt bs k) ≡ b → T (isIn x (placesAt bs k))
-    go true e = rw e tt
-    go false e = absurd (omega (arith, h, no-mark bs k x e))
-
--- so a pointer that keeps the rules by marks keeps rule 4
-link-ok : (bs : List ℕ) (k : ℕ) (r : Link) → T (linkRules (unitAt k) (marksAt bs k) r) → T (linkOk (placesAt bs k) r)
-unfolding linkRules linkOk
-link-ok bs k r t = go (eqb (r .code) 0) t
-  where
-    m : ℕ
-    m = markOf (unitAt k) (marksAt bs k) (r .place)
-
-    go : (b : Bool) → T (cond b true (ltb 0 m && eqb (r .code) (codeFor (r .place)) && lowBy m (r .tag)))
-        → T (cond b true (isIn (r .place) (placesAt bs k) && eqb (r .code) (codeFor (r .place))))
-    go true s = tt
-    go false s =
-        let a : T (ltb 0 m && eqb (r .code) (codeFor (r .place))) = and-left (ltb 0 m && eqb (r .code) (codeFor (r .place))) (lowBy m (r .tag)) s in
-        and-T (isIn (r .place) (placesAt bs k)) (eqb (r .code) (codeFor (r .place)))
-        (mark-start bs k (r .place) (ltb→lt 0 m (and-left (ltb 0 m) (eqb (r .code) (codeFor (r .place))) a)))
-        (and-right (ltb 0 m) (eqb (r .code) (codeFor (r .place))) a)
-
--- ---- the first record
-
-record First (ss : List ℕ) : Type 0 where
-  there : T (isIn 0 ss)
-  number : indexIn 0 ss ≡ 0
-
-first-cons : (ss : List ℕ) → First (0 ∷ ss)
-unfolding isIn indexIn
-first-cons ss = record { there = tt; number = refl }
-
-first-leaf : (n : ℕ) → 0 < length (count 0 n) → First (count 0 n)
-unfolding count
-first-leaf zero h = absurd (not-suc-le-zero h)
-first-leaf (suc n) h = first-cons (count 1 n)
-
-first-inner : (l : List ℕ) (n : ℕ) → 0 < length (startsFrom l n 0) → First (startsFrom l n 0)
-unfolding startsFrom
-first-inner l zero = λ h. absurd (not-suc-le-zero h)
-first-inner l (suc n) = go (ltb (2 * 0) (length l)) (startsFrom l n (0 + halves 8 (headerAt l 0)))
-  where
-    go : (b : Bool) (ss : List ℕ) → 0 < length (cond b (0 ∷ ss) []) → First (cond b (0 ∷ ss) [])
-    go true ss h = first-cons ss
-    go false ss h = absurd (not-suc-le-zero h)
-
-first-at : (bs : List ℕ) (k : ℕ) → 0 < length (placesAt bs k) → First (placesAt bs k)
-unfolding placesAt
-first-at bs zero h = first-leaf (sizeAt bs 0) h
-first-at bs (suc k) h = first-inner (listAt bs (suc k)) (sizeAt bs (suc k)) h
+use Rattle.proper.proofs.Marks.{marks-start}
+use Rattle.popular.proofs.InFile.{list-length}
+use Rattle.proper.proofs.Starting.{once-at, unit-inj}
 
 -- ---- a file whose lists and pointers are sound
 
@@ -160,12 +49,6 @@ module _ (bs : List ℕ) (by : Bytes bs) (long : T (lengthOk packedHead bs)) (so
 
   abbrev marks : ℕ → List ℕ
   marks = marksAt bs
-
-  few-leaves : 8 * sizeAt bs 0 + 8 < 2 ^ 32
-  unfolding tailAt
-  few-leaves =
-      let n : num 4 (drop 1 bs) ≡ length bs = eqb→eq (num 4 (drop 1 bs)) (length bs) (search and-right) in
-      omega (arith, num4-lt (drop 1 bs) (bytes-drop 1 bs by), tail-grows bs 0 (topOf bs) (omega arith), n, tail-whole bs (sound .sizes))
 
   -- a pointer to a start of list k
   record Arrow (k : ℕ) (r : Link) : Type 0 where
@@ -188,14 +71,11 @@ module _ (bs : List ℕ) (by : Bytes bs) (long : T (lengthOk packedHead bs)) (so
           let i : T (isIn (r .place) (ss k)) = search and-left in
           let w : T (eqb (r .code) (codeFor (r .place))) = search and-right in
           let fit : (r .tag < 8) × (r .place < 2 ^ 29) = f (eqb→eq (r .code) (codeFor (r .place)) w) in
-          inr (record { some = eqb-false (r .code) 0 e; at = i; wide = eqb→eq (r .code) (codeFor (r .place)) w; tag = fit .0; small = start-small bs by (sound .whole) few-leaves k (r .place) (omega arith) i (fit .1) })
+          inr (record { some = eqb-false (r .code) 0 e; at = i; wide = eqb→eq (r .code) (codeFor (r .place)) w; tag = fit .0; small = start-small bs by (sound .whole) (few-leaves bs by long sound) k (r .place) (omega arith) i (fit .1) })
 
   links-ok : (k : ℕ) → k < topOf bs → (p : ℕ) → T (isIn p (ss (suc k))) → T (allIn (linkOk (ss k)) (links k p))
   unfolding linksOk
-  links-ok k h p t =
-      let a : At p (ss (suc k)) = isIn-at p (ss (suc k)) t in
-      subst (λ (q : ℕ). T (allIn (linkOk (ss k)) (links k q))) (a .is)
-      (allIn-in (λ q. allIn (linkOk (ss k)) (links k q)) 0 (ss (suc k)) (sound .linked k h) (indexIn p (ss (suc k))) (a .inside))
+  links-ok k h p t = allIn-isIn (λ q. allIn (linkOk (ss k)) (links k q)) (ss (suc k)) p (sound .linked k h) t
 
   points : (k : ℕ) → k < topOf bs → (p : ℕ) → T (isIn p (ss (suc k))) → (i : ℕ) → Points k (getD (links k p) i noLink)
   unfolding linksAt linkOk
@@ -293,24 +173,17 @@ module _ (bs : List ℕ) (by : Bytes bs) (long : T (lengthOk packedHead bs)) (so
 
   leaf-fits : (q : ℕ) → LeafFits 0 (cellAt G 0 q)
   unfolding cellsOf leafAt
-  leaf-fits q = go (ℕ-lt q (length (ss 0)))
+  leaf-fits q = go (decLt q (length (ss 0)))
     where
       l : List ℕ
       l = listAt bs 0
 
-      ℕ-lt : (a b : ℕ) → (a < b) ⊎ (b ≤ a)
-      ℕ-lt a b = less (ltb a b) refl
-        where
-          less : (c : Bool) → ltb a b ≡ c → (a < b) ⊎ (b ≤ a)
-          less true e = inl (ltb-true a b e)
-          less false e = inr (ltb-false a b e)
-
-      go : (q < length (ss 0)) ⊎ (length (ss 0) ≤ q) → leafNo (cellAt G 0 q) < 2 ^ 64
-      go (inl h) =
+      go : Dec (q < length (ss 0)) → leafNo (cellAt G 0 q) < 2 ^ 64
+      go (yes h) =
           let p : ℕ = getD (ss 0) q 0 in
           let e : cellAt G 0 q ≡ leafAt l p = ap (cellAt G 0) (sym (index-getD (ss 0) (once-at bs 0) q h)) ∙ leaf-cell bs p (isIn-getD (ss 0) q h) in
           rw e (omega (arith, num4-lt (drop (8 * p) l) (bytes-drop (8 * p) l (list-bytes bs by 0)), num4-lt (drop (8 * p + 4) l) (bytes-drop (8 * p + 4) l (list-bytes bs by 0))))
-      go (inr h) = rw (List·getD-eq-default (cellsAt G 0) [] {n = q} (rw (cells-length 0 (omega arith)) h)) (lit< tt)
+      go (no h) = rw (List·getD-eq-default (cellsAt G 0) [] {n = q} (rw (cells-length 0 (omega arith)) (omega (arith, h)))) (lit< tt)
 
   -- a start's mark is never 0
   mark-some : (k : ℕ) → k ≤ topOf bs → (x : ℕ) → T (isIn x (ss k)) → 0 < markOf (unitAt k) (marks k) x
@@ -403,16 +276,11 @@ module _ (bs : List ℕ) (by : Bytes bs) (long : T (lengthOk packedHead bs)) (so
 
   -- ---- from the rules of the paper to those by marks, and back
 
-  root-first : First (ss (topOf bs))
-  unfolding topOk
-  root-first =
-      let one : length (ss (topOf bs)) ≡ 1 = eqb→eq (length (ss (topOf bs))) 1 (sound .top) in
-      first-at bs (topOf bs) (omega arith)
-
   root-same : rootTag bs < 8 → rootLow bs ≡ tagLow G (topOf bs) (rootTag bs) 0
   unfolding rootLow
   root-same h =
-      low-same (topOf bs) (rootTag bs) 0 (omega arith) h (root-first .there) ∙ ap (tagLow G (topOf bs) (rootTag bs)) (root-first .number)
+      let top : First (ss (topOf bs)) = root-first bs by long sound in
+      low-same (topOf bs) (rootTag bs) 0 (omega arith) h (top .there) ∙ ap (tagLow G (topOf bs) (rootTag bs)) (top .number)
 
   leaves-rules : listRules bs 0 ≡ apartOk G 0
   unfolding listRules wholeAt
@@ -471,7 +339,7 @@ module _ (bs : List ℕ) (by : Bytes bs) (long : T (lengthOk packedHead bs)) (so
       (and-left (allIn (recordRules (unitAt k) (marks k) (listAt bs (suc k))) (ss (suc k))) (apartIn (recordsMatch (unitAt k) (marks k) (listAt bs (suc k))) (ss (suc k))) u)
 
   -- the rules on records, by the graph and by marks
-  graph-by : rootTag bs < 8 → T (graphOk top (rootTag bs) G) → T (rulesBy bs)
+  pub graph-by : rootTag bs < 8 → T (graphOk top (rootTag bs) G) → T (rulesBy bs)
   unfolding graphOk rulesBy
   graph-by h t =
       let five = and5 (allBelow top (namedOk G)) (allBelow (suc top) (apartOk G)) (allBelow top (tagsOk G)) (tagLow G top (rootTag bs) 0) (allBelow top (fallingOk G)) t in
@@ -483,7 +351,7 @@ module _ (bs : List ℕ) (by : Bytes bs) (long : T (lengthOk packedHead bs)) (so
       (all-T top (popularRules bs) (λ k l.
       true-T (popular-rules k l ∙ T-true {b = namedOk G k && fallingOk G k} (and-T (namedOk G k) (fallingOk G k) (all-at top (namedOk G) (five .0) k l) (all-at top (fallingOk G) (five .4) k l)))))
 
-  by-graph : rootTag bs < 8 → T (rulesBy bs) → T (graphOk top (rootTag bs) G)
+  pub by-graph : rootTag bs < 8 → T (rulesBy bs) → T (graphOk top (rootTag bs) G)
   unfolding graphOk rulesBy
   by-graph h t =
       let lists : (k : ℕ) → k ≤ top → T (listRules bs k) = λ k l. all-at (suc top) (listRules bs) (search (and-left, and-right)) k (omega arith) in
@@ -495,74 +363,3 @@ module _ (bs : List ℕ) (by : Bytes bs) (long : T (lengthOk packedHead bs)) (so
       (all-T top (tagsOk G) (λ k l. tags-by k l (lists (suc k) l)))
       (true-T (sym (root-same h) ∙ T-true {b = rootLow bs} (search (and-left, and-right))))
       (all-T top (fallingOk G) (λ k l. and-right (namedOk G k) (fallingOk G k) (popular k l)))
-
--- ---- all rules
-
-whole-by : (bs : List ℕ) (k : ℕ) → T (listRules bs k) → T (wholeAt bs k)
-unfolding listRules wholeAt recordRules
-whole-by bs zero t = and-left (allIn (leafOk (listAt bs 0)) (placesAt bs 0)) (apartIn (leavesMatch (listAt bs 0)) (placesAt bs 0)) t
-whole-by bs (suc k) t =
-    let l : List ℕ = listAt bs (suc k) in
-    let r : T (allIn (recordRules (unitAt k) (marksAt bs k) l) (placesAt bs (suc k))) = search and-left in
-    allIn-T (recordOk l) 0 (placesAt bs (suc k)) (λ n h.
-    and-left (recordOk l (getD (placesAt bs (suc k)) n 0)) (allIn (linkRules (unitAt k) (marksAt bs k)) (linksAt l (getD (placesAt bs (suc k)) n 0)))
-    (allIn-in (recordRules (unitAt k) (marksAt bs k) l) 0 (placesAt bs (suc k)) r n h))
-
-linked-by : (bs : List ℕ) (k : ℕ) → T (listRules bs (suc k)) → T (linksOk bs k)
-unfolding listRules linksOk recordRules
-linked-by bs k t =
-    let l : List ℕ = listAt bs (suc k) in
-    let ps : List ℕ = placesAt bs (suc k) in
-    let r : T (allIn (recordRules (unitAt k) (marksAt bs k) l) (placesAt bs (suc k))) = search and-left in
-    allIn-T (λ p. allIn (linkOk (placesAt bs k)) (linksAt l p)) 0 ps (λ n h.
-    allIn-T (linkOk (placesAt bs k)) noLink (linksAt l (getD ps n 0)) (λ i m.
-    link-ok bs k (getD (linksAt l (getD ps n 0)) i noLink)
-    (allIn-in (linkRules (unitAt k) (marksAt bs k)) noLink (linksAt l (getD ps n 0))
-    (and-right (recordOk l (getD ps n 0)) (allIn (linkRules (unitAt k) (marksAt bs k)) (linksAt l (getD ps n 0)))
-    (allIn-in (recordRules (unitAt k) (marksAt bs k) l) 0 ps r n h)) i m)))
-
-lists-ok : (bs : List ℕ) → SoundLists bs → T (listsOk bs)
-unfolding listsOk
-lists-ok bs s =
-    and-T (topOk bs && allBelow (suc (topOf bs)) (wholeAt bs)) (allBelow (topOf bs) (linksOk bs))
-    (and-T (topOk bs) (allBelow (suc (topOf bs)) (wholeAt bs)) (s .top) (all-T (suc (topOf bs)) (wholeAt bs) (λ k l. s .whole k (omega arith))))
-    (all-T (topOf bs) (linksOk bs) (s .linked))
-
--- unless the scene is empty the root's tag is below 8
-pub tag-small : (bs : List ℕ) → rootOk bs ≡ true → isEmpty bs ≡ false → rootTag bs < 8
-tag-small bs r e =
-    let t : T (rootOk bs) = true-T r in
-    let a : rootTag bs ≤ 8 = leb→le (rootTag bs) 8 (search and-left) in
-    omega (arith, a, eqb-false (rootTag bs) 8 e)
-
--- a file that keeps the rules by marks has sound lists
-lists-by : (bs : List ℕ) → T (sizesOk bs) → T (rulesBy bs) → SoundLists bs
-unfolding rulesBy
-lists-by bs sized t =
-    let lists : (k : ℕ) → k ≤ topOf bs → T (listRules bs k) = λ k l. all-at (suc (topOf bs)) (listRules bs) (search (and-left, and-right)) k (omega arith) in
-    record { sizes = sized; top = search (and-left, and-right); whole = λ k l. whole-by bs k (lists k l); linked = λ k l. linked-by bs k (lists (suc k) l) }
-
--- under: the length field is right. So refusal 6 of a check is given where the rules by marks fail
-pub rules-by-places : (bs : List ℕ) → Bytes bs → T (lengthOk packedHead bs) → packedRules bs ≡ packedBy bs
-unfolding packedRules packedBy headOk
-rules-by-places bs by long = go (rootOk bs) refl (isEmpty bs) refl (sizesOk bs) refl
-  where
-    rules : Bool
-    rules = listsOk bs && graphOk (topOf bs) (rootTag bs) (graphOf bs)
-
-    there : rootOk bs ≡ true → isEmpty bs ≡ false → T (sizesOk bs) → T rules → T (rulesBy bs)
-    there r e z t =
-        graph-by bs by long (lists-of bs z (and-left (listsOk bs) (graphOk (topOf bs) (rootTag bs) (graphOf bs)) t)) (tag-small bs r e)
-        (and-right (listsOk bs) (graphOk (topOf bs) (rootTag bs) (graphOf bs)) t)
-
-    back : rootOk bs ≡ true → isEmpty bs ≡ false → T (sizesOk bs) → T (rulesBy bs) → T rules
-    back r e z t =
-        let s : SoundLists bs = lists-by bs z t in
-        and-T (listsOk bs) (graphOk (topOf bs) (rootTag bs) (graphOf bs)) (lists-ok bs s) (by-graph bs by long s (tag-small bs r e) t)
-
-    go : (r : Bool) → rootOk bs ≡ r → (e : Bool) → isEmpty bs ≡ e → (z : Bool) → sizesOk bs ≡ z
-        → (r && cond e true z) && cond e true rules ≡ (r && cond e true z) && cond e true (rulesBy bs)
-    go false r e q z w = refl
-    go true r true q z w = refl
-    go true r false q false w = refl
-    go true r false q true w = iff-eq rules (rulesBy bs) (there r q (true-T w)) (back r q (true-T w))

@@ -1,50 +1,65 @@
 -- The ways through a check: each test refuses by its number, in document 01's order; the scratch is zero after 0 and 6. And the rules one after the
 -- other. By the tests passed. Assumes nothing.
-use mathlib.Core.Path.{_≡_, sym, _∙_, ap, subst}
-use mathlib.Core.Bool.{true, false, not}
+use mathlib.Core.Path.{_≡_, sym, _∙_, ap, ap₂, subst}
+use mathlib.Core.Bool.{Bool, true, false, cond, not}
 use mathlib.Core.List.{List, [], _∷_}
 use Prim.Native.Nat.{ℕ, suc, _+_, _<_, _≤_}
 use native.Mathlib.Numerals.{add-one}
-use borrow.Author.Tests.{lt-ltb, le-ltb}
+use native.Mathlib.Omega.{arith}
+use borrow.Author.Tests.{lt-ltb, le-ltb, ne-eqb}
 use lib.ListN.{length, take, replicate}
 use Rattle.paper.specs.Numbers.{allBelow}
-use Rattle.paper.specs.Rooms.{depthOk}
-use Rattle.paper.specs.Outline.{frontOk, lengthOk, fileDepth}
+use Rattle.paper.specs.Outline.{fileDepth}
 use Rattle.paper.specs.Packed.{packedFront, packedHead, topOf, startAt, isEmpty, topOk, headOk, packedRules}
-use Rattle.paper.specs.Answers.{told, outcome}
-use Rattle.paper.specs.Order.{firstOf, settled}
-use Rattle.paper.specs.Calls.{cleared, checkOutcome}
-use Rattle.proper.specs.Places.{listRules, rootLow, popularRules, rulesBy, packedBy}
-use Rattle.proper.specs.Phases.{endAt, scratchAt}
+use Rattle.paper.specs.Answers.{told, outcome, numberOf, checked}
+use Rattle.paper.specs.Order.{Test, when, firstOf, settled}
+use Rattle.paper.specs.Calls.{cleared, packedOrder, checkOrder, checkScratchAfter, checkOutcome}
+use Rattle.paper.specs.declared.Refusal.{Refusal}
+use Rattle.paper.specs.declared.Checked.the-variants.{Refused}
+use Rattle.laws.proofs.Refusals.{settled-refused}
+use Rattle.outline.specs.Heads.{headNumber}
+use Rattle.outline.proofs.HeadTests.{Headed, head-range, head-stops, head-goes-on}
+use Rattle.proper.specs.Places.{listRules, rootLow, rulesBy, packedBy}
+use Rattle.popular.specs.Places.{popularRules, endAt}
+use Rattle.proper.specs.Phases.{scratchAt}
 
 module _ (file scratch : List ℕ) where
+  abbrev later : List Test
+  later = when (not (packedRules file)) 6 ∷ []
+
   pub way-short : length scratch < length file → outcome (told 11 (0 ∷ [])) (scratch ∷ []) ≡ checkOutcome file scratch
   unfolding checkOutcome firstOf settled
   way-short h = rw (lt-ltb (length scratch) (length file) h)
 
   module _ (enough : length file ≤ length scratch) where
-    pub way-front : not (frontOk packedFront file) ≡ true → outcome (told 3 (0 ∷ [])) (scratch ∷ []) ≡ checkOutcome file scratch
-    unfolding checkOutcome firstOf settled
-    way-front e = rw (le-ltb (length scratch) (length file) enough, e)
+    -- the tests after that of the scratch
+    goes-on : firstOf (checkOrder file scratch) ≡ firstOf (packedOrder file later)
+    unfolding firstOf
+    goes-on = rw (le-ltb (length scratch) (length file) enough)
 
-    module _ (front : not (frontOk packedFront file) ≡ false) where
-      pub way-length : not (lengthOk packedHead file) ≡ true → outcome (told 4 (0 ∷ [])) (scratch ∷ []) ≡ checkOutcome file scratch
-      unfolding checkOutcome firstOf settled
-      way-length e = rw (le-ltb (length scratch) (length file) enough, front, e)
+    pub way-bytes : (r : Refusal) (n : ℕ) → numberOf r ≡ n → n ≡ headNumber packedFront packedHead file → (n ≡ 0 → ⊥)
+        → outcome (checked (Refused r)) (scratch ∷ []) ≡ checkOutcome file scratch
+    unfolding checkOutcome
+    way-bytes r n e f ne =
+        let stops : firstOf (checkOrder file scratch) ≡ n = goes-on ∙ head-stops packedFront packedHead file later (λ z. ne (f ∙ z)) ∙ sym f in
+        let low : n ≤ 5 = head-range packedFront packedHead file n f ne .1 in
+        let kept : checkScratchAfter (firstOf (checkOrder file scratch)) file scratch ≡ scratch =
+        ap (λ (m : ℕ). checkScratchAfter m file scratch) stops ∙ ap (λ (b : Bool). cond b (cleared (length file) scratch) scratch) (ne-eqb n 6 (λ z. omega (arith, z))) in
+        ap₂ (λ (m : ℕ) (l : List ℕ). outcome (told m (0 ∷ [])) (l ∷ [])) (e ∙ sym stops) (sym kept)
+        ∙ sym (settled-refused (firstOf (checkOrder file scratch)) (fileDepth file ∷ []) (cleared (length file) scratch ∷ []) (checkScratchAfter (firstOf (checkOrder file scratch)) file scratch ∷ []) (λ z. ne (sym stops ∙ z)))
 
-      module _ (long : not (lengthOk packedHead file) ≡ false) where
-        pub way-depth : not (depthOk (fileDepth file)) ≡ true → outcome (told 5 (0 ∷ [])) (scratch ∷ []) ≡ checkOutcome file scratch
-        unfolding checkOutcome firstOf settled
-        way-depth e = rw (le-ltb (length scratch) (length file) enough, front, long, e)
+    module _ (h : Headed packedFront packedHead file) where
+      rules : (b : Bool) → not (packedRules file) ≡ b → firstOf (checkOrder file scratch) ≡ cond b 6 0
+      unfolding firstOf
+      rules b e = goes-on ∙ head-goes-on packedFront packedHead file later h ∙ rw e
 
-        module _ (deep : not (depthOk (fileDepth file)) ≡ false) where
-          pub way-rules : not (packedRules file) ≡ true → outcome (told 6 (0 ∷ [])) (cleared (length file) scratch ∷ []) ≡ checkOutcome file scratch
-          unfolding checkOutcome firstOf settled
-          way-rules e = rw (le-ltb (length scratch) (length file) enough, front, long, deep, e)
+      pub way-rules : not (packedRules file) ≡ true → outcome (told 6 (0 ∷ [])) (cleared (length file) scratch ∷ []) ≡ checkOutcome file scratch
+      unfolding checkOutcome settled
+      way-rules e = rw (rules true e)
 
-          pub way-proper : not (packedRules file) ≡ false → outcome (told 0 (fileDepth file ∷ [])) (cleared (length file) scratch ∷ []) ≡ checkOutcome file scratch
-          unfolding checkOutcome firstOf settled
-          way-proper e = rw (le-ltb (length scratch) (length file) enough, front, long, deep, e)
+      pub way-proper : not (packedRules file) ≡ false → outcome (told 0 (fileDepth file ∷ [])) (cleared (length file) scratch ∷ []) ≡ checkOutcome file scratch
+      unfolding checkOutcome settled
+      way-proper e = rw (rules false e)
 
 -- ---- byte 6 and the sizes, an empty scene, the rules
 

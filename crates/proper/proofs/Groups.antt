@@ -1,13 +1,12 @@
 -- The marks of a list are bytes, and where the lists up to it keep their rules every mark is a group of mirrors. By what each mark is, list by list
 -- from the leaves up. Assumes nothing.
-use mathlib.Core.Path.{_≡_, refl, sym, _∙_, ap, subst}
-use mathlib.Core.Bool.{Bool, true, false, cond}
+use mathlib.Core.Path.{_≡_, sym, _∙_, ap, subst}
+use mathlib.Core.Bool.{Bool}
 use mathlib.Core.List.{List, [], _∷_}
 use Prim.Native.Nat.{ℕ, zero, suc, _*_, _<_}
 use native.Mathlib.Decide.{ℕ-discrete, decLt}
 use native.Mathlib.Omega.{arith}
-use borrow.Author.Tests.{eq-eqb}
-use lib.Dec.{T, eqb, lit<}
+use lib.Dec.{T, lit<}
 use lib.ListN.{length, getD, set, replicate}
 use lib.Seq.{getD-set-same, getD-set-other, set-out}
 use Rattle.paper.specs.Numbers.{allBelow, allIn, isIn}
@@ -18,31 +17,27 @@ use Rattle.laws.proofs.Masks.{mask-lt}
 use Rattle.laws.proofs.PackedLists.{list-bytes}
 use Rattle.least.specs.Keys.{Group}
 use Rattle.alike.specs.Matching.{leavesMatch, recordsMatch, leafMask, recordMask, recordRules, apartIn, Grouped}
-use Rattle.proper.specs.Places.{marksOn, unitAt, marksAt, listRules}
-use Rattle.proper.proofs.Marks.{zeros-read}
-use Rattle.alike.proofs.Along.{allIn-isIn}
+use Rattle.proper.specs.Places.{marksOn, marksAt, listRules}
+use Rattle.popular.specs.Places.{unitAt}
+use Rattle.laws.proofs.Lists.{in-head, in-later, allIn-isIn, zeros-at}
 use Rattle.alike.proofs.Keyed.{record-group, record-kept, leaf-group}
 
 -- what holds of every mark written and of what was there holds of the marks
 marks-each : (P : ℕ → Type 0) (f : ℕ → ℕ) (u : ℕ) (ps z : List ℕ) → ((p : ℕ) → T (isIn p ps) → P (f p)) → ((j : ℕ) → P (getD z j 0))
     → (j : ℕ) → P (getD (marksOn f u ps z) j 0)
-unfolding marksOn isIn
+unfolding marksOn
 marks-each P f u [] z hf hz j = hz j
 marks-each P f u (p ∷ ps) z hf hz j =
-    marks-each P f u ps (set z (u * p) (f p)) (λ q t. hf q (later q (eqb p q) t)) (λ i. put i (ℕ-discrete i (u * p)) (decLt (u * p) (length z))) j
+    marks-each P f u ps (set z (u * p) (f p)) (λ q t. hf q (in-later q p ps t)) (λ i. put i (ℕ-discrete i (u * p)) (decLt (u * p) (length z))) j
   where
-    later : (q : ℕ) (b : Bool) → T (isIn q ps) → T (cond b true (isIn q ps))
-    later q true t = tt
-    later q false t = t
-
     put : (i : ℕ) → Dec (i ≡ u * p) → Dec (u * p < length z) → P (getD (set z (u * p) (f p)) i 0)
     put i (no n) d = subst P (sym (getD-set-other z (u * p) i (f p) 0 n)) (hz i)
     put i (yes e) (yes l) =
-        subst P (sym (ap (λ (k : ℕ). getD (set z (u * p) (f p)) k 0) e ∙ getD-set-same z (u * p) (f p) 0 l)) (hf p (rw (eq-eqb p p refl) tt))
+        subst P (sym (ap (λ (k : ℕ). getD (set z (u * p) (f p)) k 0) e ∙ getD-set-same z (u * p) (f p) 0 l)) (hf p (in-head p ps))
     put i (yes e) (no l) = subst P (sym (ap (λ (s : List ℕ). getD s i 0) (set-out z (u * p) (f p) (omega (arith, l))))) (hz i)
 
 zero-byte : (n j : ℕ) → getD (replicate n 0) j 0 < 256
-zero-byte n j = rw (zeros-read n j) (lit< tt)
+zero-byte n j = rw (zeros-at n j) (lit< tt)
 
 pub marks-bytes : (bs : List ℕ) (k : ℕ) → Bytes (marksAt bs k)
 unfolding marksAt leafMask recordMask
@@ -57,7 +52,7 @@ abbrev Good : ℕ → Type 0
 Good m = (m ≡ 0 → ⊥) → Group m
 
 zero-good : (n j : ℕ) → Good (getD (replicate n 0) j 0)
-zero-good n j ne = absurd (ne (zeros-read n j))
+zero-good n j ne = absurd (ne (zeros-at n j))
 
 -- the rules of a record of list k + 1
 rules-in : (bs : List ℕ) (k p : ℕ) → T (listRules bs (suc k)) → T (isIn p (placesAt bs (suc k))) → T (recordRules (unitAt k) (marksAt bs k) (listAt bs (suc k)) p)

@@ -1,12 +1,10 @@
+-- Laws that belong to no one function.
 pub mod Marks
+pub mod Starting
 pub mod ByPlaces
+pub mod Rules
 pub mod Along
 pub mod Groups
 pub mod Checking
-pub mod InFile
-pub mod PopularPlaces
-pub mod PopularCounts
-pub mod PopularFalls
-pub mod PopularLoops
-pub mod PopularShares
+pub mod Scratch
 pub mod Top

@@ -3,23 +3,17 @@
 use mathlib.Core.Path.{_≡_, refl, sym, _∙_, ap, subst}
 use mathlib.Core.Bool.{Bool, true, false, cond}
 use mathlib.Core.List.{List, [], _∷_}
-use Prim.Native.Nat.{ℕ, zero, suc, _+_, _*_, _<_, _≤_}
-use native.Mathlib.Decide.{ℕ-discrete}
-use native.Mathlib.Omega.{arith}
-use borrow.Author.Tests.{eq-eqb, eqb-true}
-use lib.Dec.{T, eqb, eqb→eq}
-use lib.ListN.{length, getD, set, drop, replicate, length-set, length-replicate, length-drop, length-take}
+use Prim.Native.Nat.{ℕ, zero, suc, _*_, _<_}
+use borrow.Author.Tests.{eqb-true}
+use lib.Dec.{T, eqb}
+use lib.ListN.{length, getD, set, replicate, length-set, length-replicate}
 use lib.Seq.{getD-set-same, getD-set-other}
 use Rattle.paper.specs.Numbers.{isIn}
-use Rattle.paper.specs.Packed.{packedHead, topOf, sizeAt, tailAt, startAt, listAt, placesAt, sizesOk}
+use Rattle.paper.specs.Packed.{listAt, placesAt}
+use Rattle.laws.proofs.Lists.{in-head, in-later}
 use Rattle.alike.specs.Matching.{leafMask, recordMask}
-use Rattle.proper.specs.Places.{marksOn, unitAt, marksAt}
-
--- zeros read
-pub zeros-read : (n i : ℕ) → _≡_ {A = ℕ} (getD (replicate n 0) i 0) 0
-zeros-read zero i = refl
-zeros-read (suc n) zero = refl
-zeros-read (suc n) (suc i) = zeros-read n i
+use Rattle.proper.specs.Places.{marksOn, marksAt}
+use Rattle.popular.specs.Places.{unitAt}
 
 -- ---- marks written
 
@@ -30,15 +24,11 @@ marks-length f u (p ∷ ps) z = marks-length f u ps (set z (u * p) (f p)) ∙ le
 
 -- a byte that starts no record keeps what it was
 pub marks-other : (f : ℕ → ℕ) (u : ℕ) (ps z : List ℕ) (j : ℕ) → ((p : ℕ) → T (isIn p ps) → j ≡ u * p → ⊥) → getD (marksOn f u ps z) j 0 ≡ getD z j 0
-unfolding marksOn isIn
+unfolding marksOn
 marks-other f u [] z j h = refl
 marks-other f u (p ∷ ps) z j h =
-    marks-other f u ps (set z (u * p) (f p)) j (λ q t e. h q (go q (eqb p q) t) e)
-    ∙ getD-set-other z (u * p) j (f p) 0 (λ e. h p (rw (eq-eqb p p refl) tt) e)
-  where
-    go : (q : ℕ) (b : Bool) → T (isIn q ps) → T (cond b true (isIn q ps))
-    go q true t = tt
-    go q false t = t
+    marks-other f u ps (set z (u * p) (f p)) j (λ q t e. h q (in-later q p ps t) e)
+    ∙ getD-set-other z (u * p) j (f p) 0 (λ e. h p (in-head p ps) e)
 
 -- the first byte of a record has its mask
 pub marks-start : (f : ℕ → ℕ) (u : ℕ) → ((p q : ℕ) → u * p ≡ u * q → p ≡ q) → (ps z : List ℕ) (x : ℕ) → u * x < length z → T (isIn x ps)
@@ -58,35 +48,6 @@ marks-start f u inj (p ∷ ps) z x l t = go (isIn x ps) refl (eqb p x) refl t (m
         let q : p ≡ x = eqb-true p x e in
         marks-other f u ps z′ (u * x) (λ y m d. subst T c (subst (λ (n : ℕ). T (isIn n ps)) (inj y x (sym d)) m))
         ∙ ap (λ (n : ℕ). getD (set z (u * n) (f n)) (u * x) 0) q ∙ getD-set-same z (u * x) (f x) 0 l
-
--- ---- where the lists lie
-
-pub tail-grows : (bs : List ℕ) (j k : ℕ) → j ≤ k → tailAt bs j ≤ tailAt bs k
-unfolding tailAt
-tail-grows bs j zero h = rw (zero-of j h) (omega arith)
-  where
-    zero-of : (n : ℕ) → n ≤ 0 → n ≡ 0
-    zero-of n l = omega arith
-tail-grows bs j (suc k) h = go (ℕ-discrete j (suc k)) (tail-grows bs j k)
-  where
-    go : Dec (j ≡ suc k) → (j ≤ k → tailAt bs j ≤ tailAt bs k) → tailAt bs j ≤ 2 * sizeAt bs (suc k) + tailAt bs k
-    go (yes e) ih = rw e (omega arith)
-    go (no n) ih = omega (arith, ih (omega arith))
-
-module _ (bs : List ℕ) (sized : T (sizesOk bs)) where
-  pub tail-whole : packedHead + 4 * suc (topOf bs) + tailAt bs (topOf bs) ≡ length bs
-  unfolding sizesOk
-  tail-whole = eqb→eq (packedHead + 4 * suc (topOf bs) + tailAt bs (topOf bs)) (length bs) sized
-
-  pub tail-inside : (k : ℕ) → k ≤ topOf bs → tailAt bs k ≤ length bs
-  tail-inside k h = omega (arith, tail-grows bs k (topOf bs) h, tail-whole)
-
-  -- each list has its size
-  pub list-length : (k : ℕ) → k ≤ topOf bs → length (listAt bs k) ≡ unitAt k * sizeAt bs k
-  unfolding listAt tailAt
-  list-length zero h = length-drop (startAt bs 0) bs ∙ omega (arith, tail-inside 0 h)
-  list-length (suc k) h =
-      length-take (2 * sizeAt bs (suc k)) (drop (startAt bs (suc k)) bs) ∙ omega (arith, tail-inside (suc k) h, length-drop (startAt bs (suc k)) bs)
 
 pub marksAt-length : (bs : List ℕ) (k : ℕ) → length (marksAt bs k) ≡ length (listAt bs k)
 unfolding marksAt

@@ -4,21 +4,22 @@ use mathlib.Core.Bool.{Bool, true, false, not}
 use mathlib.Core.List.{List}
 use Prim.Native.Nat.{ℕ, zero, suc, _+_, _-_, _*_, _%_, _<_, _≤_}
 use native.Mathlib.Omega.{arith}
-use borrow.Author.Tests.{eq-eqb, ne-eqb, ltb-false}
+use borrow.Author.Tests.{eq-eqb, ne-eqb, eqb-false, ltb-false}
 use lib.Dec.{T, eqb, ltb, eqb→eq, ltb→lt}
 use lib.ListN.{length, getD, take, drop}
 use Rattle.paper.specs.Numbers.{allBelow, allIn, count}
-use Rattle.paper.specs.Packed.{topOf, rootTag, rootOk, sizeAt, startAt, listAt, recordOk, placesAt, sizesOk, headOk, topOk}
-use Rattle.laws.proofs.Tests.{T-true, true-T, iff-eq, all-at, and-left}
+use Rattle.paper.specs.Packed.{topOf, rootTag, sizeAt, startAt, listAt, recordOk, placesAt, sizesOk, topOk}
+use Rattle.laws.proofs.Tests.{true-T, iff-eq, all-at, and-left}
 use Rattle.laws.proofs.Lists.{length-count}
 use Rattle.alike.specs.Matching.{recordRules, lowBy, placesIn}
-use Rattle.proper.specs.Places.{unitAt, marksAt, listRules, rootLow}
-use Rattle.proper.specs.Phases.{scratchAt, endAt, endIn, Listed}
-use Rattle.proper.proofs.Marks.{list-length}
-use Rattle.proper.proofs.ByPlaces.{tag-small}
+use Rattle.popular.specs.Places.{unitAt, endAt, endIn, Listed}
+use Rattle.proper.specs.Places.{marksAt, listRules, rootLow}
+use Rattle.proper.specs.Phases.{scratchAt}
+use Rattle.popular.proofs.InFile.{list-length, start-is, end-is, list-in, end-in, cut-is, places-inner, evens, sized}
+use Rattle.packed.proofs.Lists.{root-mirror}
 use Rattle.alike.proofs.Along.{restFrom, widthAt, rest-all, rest-none, rest-more, rest-head, record-inside, rules-all-whole}
-use Rattle.proper.proofs.PopularPlaces.{starts-few}
-use Rattle.proper.proofs.InFile.{start-is, end-is, list-in, end-in, cut-is, places-inner, evens, first-mark, sized}
+use Rattle.popular.proofs.Starts.{starts-few}
+use Rattle.proper.proofs.Scratch.{first-mark}
 
 -- two tests that say the same
 same-test : (a b c d : ℕ) → (a ≡ b → c ≡ d) → (c ≡ d → a ≡ b) → eqb a b ≡ eqb c d
@@ -133,8 +134,7 @@ module _ (bs starts : List ℕ) (known : Listed bs starts) where
   -- ---- the root's tag
 
   pub tag-in : rootTag bs < 8
-  unfolding headOk
-  tag-in = let t : T (rootOk bs) = search (known .opens .head, and-left) in tag-small bs (T-true {b = rootOk bs} t) (known .solid)
+  tag-in = root-mirror bs (known .opens .head) (eqb-false (rootTag bs) 8 (known .solid))
 
   module _ (one : T (topOk bs)) where
     top-some : 0 < length (listAt bs (topOf bs))

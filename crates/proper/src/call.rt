@@ -11,31 +11,30 @@ ghost use Rattle.paper.specs.Answers.{outcome, checked};
 ghost use Rattle.paper.specs.Calls.{checkOutcome};
 ghost use Rattle.packed.specs.Header.{Tested, Opens};
 ghost use Rattle.proper.specs.Places.{listRules, rootLow, rulesBy, packedBy};
-ghost use Rattle.proper.specs.Phases.{scratchAt, Listed};
-use crate::lists::list_end;
+ghost use Rattle.proper.specs.Phases.{scratchAt};
+ghost use Rattle.popular.specs.Places.{Listed};
 use crate::lists::lists_bad;
-use crate::popular::popular_lists_bad;
-use alike::HALF;
-use alike::LEAF_UNIT;
 use alike::clear;
 use alike::tag_high;
-use alike::width;
+use limits::DEPTH_PLACE;
+use limits::EMPTY_MARK;
+use limits::HALF_BYTES;
+use limits::LEAF_BYTES;
+use limits::LEAF_HEIGHT;
+use limits::MIRROR_PLACE;
+use limits::PACKED_FRONT;
+use limits::PACKED_HEAD;
 use numbers::wide;
 use outline::depth;
-use outline::depth_bad;
-use outline::front_bad;
-use outline::length_bad;
+use outline::file_refusal;
+use outline::head_number;
 use packed::head_bad;
 use packed::starts;
+use packed::width;
 use paper::Checked;
 use paper::Refusal;
-
-// The front byte of a packed file, its bytes before the sizes, and byte 6 of an empty scene.
-const FRONT: u8 = 0x21;
-
-const HEAD: usize = 7;
-
-const EMPTY_MARK: u8 = 8;
+use popular::list_end;
+use popular::popular_lists_bad;
 
 // Whether the top list has not exactly one record.
 fn top_bad(file: &[u8], starts: [u32; 15], top: u32) -> bool
@@ -48,12 +47,12 @@ fn top_bad(file: &[u8], starts: [u32; 15], top: u32) -> bool
     let b = list_end(starts, file.len(), top);
     let list = &file[a..b];
     if top == 0 {
-        return list.len() != LEAF_UNIT;
+        return list.len() != LEAF_BYTES;
     }
     if list.len() == 0 {
         return true;
     }
-    HALF * (width(list, 0) as usize) != list.len()
+    HALF_BYTES * (width(list, 0) as usize) != list.len()
 }
 
 // Whether the root's tag is not the lowest with its meaning.
@@ -65,7 +64,7 @@ fn root_high(file: &[u8], scratch: &[u8], starts: [u32; 15], top: u32) -> bool
     ensures { λ r. ⌜ r ≡ not (rootLow (now (file .entry))) ⌝ }
 {
     let a = starts[top as usize] as usize;
-    tag_high(wide(scratch[a]), wide(file[6]))
+    tag_high(wide(scratch[a]), wide(file[MIRROR_PLACE]))
 }
 
 // Whether a file that is not empty breaks a rule on its records.
@@ -76,7 +75,7 @@ fn records_broken(file: &[u8], scratch: &mut [u8]) -> bool
     ensures { λ r. ⌜ r ≡ not (rulesBy (now (file .entry))) ⌝ }
 {
     let begins = starts(file);
-    let top = wide(file[5]) - 2;
+    let top = wide(file[DEPTH_PLACE]) - LEAF_HEIGHT;
     clear(scratch);
     if lists_bad(file, scratch, begins, top) {
         return true;
@@ -100,7 +99,7 @@ fn broken(file: &[u8], scratch: &mut [u8]) -> bool
     if head_bad(file) {
         return true;
     }
-    if file[6] == EMPTY_MARK {
+    if file[MIRROR_PLACE] == EMPTY_MARK {
         return false;
     }
     records_broken(file, scratch)
@@ -126,18 +125,12 @@ pub fn check(file: &[u8], scratch: &mut [u8]) -> Checked
     if scratch.len() < n {
         return Checked::Refused(Refusal::ScratchShort);
     }
-    if front_bad(file, FRONT) {
-        return Checked::Refused(Refusal::BadVersion);
-    }
-    if length_bad(file, HEAD) {
-        return Checked::Refused(Refusal::BadLength);
-    }
-    let deep = depth(file);
-    if depth_bad(deep) {
-        return Checked::Refused(Refusal::BadDepth);
+    let number = head_number(file, PACKED_FRONT, PACKED_HEAD);
+    if number != 0 {
+        return Checked::Refused(file_refusal(number));
     }
     if rules_bad(file, &mut scratch[..n]) {
         return Checked::Refused(Refusal::BrokenRules);
     }
-    Checked::Depth(deep)
+    Checked::Depth(depth(file))
 }

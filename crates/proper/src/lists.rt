@@ -7,18 +7,21 @@ ghost use lib.ListN.{length, take, drop, replicate};
 ghost use Rattle.paper.specs.Numbers.{allIn, allBelow};
 ghost use Rattle.paper.specs.Packed.{topOf, recordOk, leafOk};
 ghost use Rattle.alike.specs.Matching.{recordRules, placesIn, leavesIn, Grouped};
-ghost use Rattle.proper.specs.Places.{unitAt, listRules};
-ghost use Rattle.proper.specs.Phases.{endIn, leavesRules, leafMarks, innerRules, recordMarks, scratchAt, Listed};
-use alike::HALF;
-use alike::LEAF_UNIT;
+ghost use Rattle.popular.specs.Places.{Listed};
+ghost use Rattle.proper.specs.Places.{listRules};
+ghost use Rattle.proper.specs.Phases.{leavesRules, leafMarks, innerRules, recordMarks, scratchAt};
 use alike::links_bad;
 use alike::record_mask;
 use alike::two_leaves_match;
 use alike::two_match;
-use alike::width;
 use leaf::leaf_mask;
+use limits::HALF_BYTES;
+use limits::LEAF_BYTES;
 use packed::leaf;
 use packed::record_bad;
+use packed::width;
+use popular::list_end;
+use popular::unit_of;
 
 // ---- leaves
 
@@ -28,7 +31,7 @@ fn leaves_bad(leaves: &[u8]) -> bool
     requires { ⌜ length (now leaves) < 2 ^ 32 ⌝ }
     ensures { λ r. ⌜ r ≡ not (allIn (leafOk (now (leaves .entry))) (leavesIn (now (leaves .entry)))) ⌝ }
 {
-    let count = (leaves.len() / LEAF_UNIT) as u32;
+    let count = (leaves.len() / LEAF_BYTES) as u32;
     let mut place = 0u32;
     while place < count {
         if leaf(leaves, place) == 0 {
@@ -46,10 +49,10 @@ fn mark_leaves(leaves: &[u8], share: &mut [u8])
     requires { ⌜ length (now share) ≡ length (now leaves) ⌝ }
     ensures { λ _. ⌜ now (share .exit) ≡ leafMarks (now (leaves .entry)) (now (share .entry)) ⌝ }
 {
-    let count = (leaves.len() / LEAF_UNIT) as u32;
+    let count = (leaves.len() / LEAF_BYTES) as u32;
     let mut place = 0u32;
     while place < count {
-        share[LEAF_UNIT * (place as usize)] = leaf_mask(leaf(leaves, place));
+        share[LEAF_BYTES * (place as usize)] = leaf_mask(leaf(leaves, place));
         place += 1;
     }
 }
@@ -80,7 +83,7 @@ fn records_bad(list: &[u8], marks: &[u8], unit: usize) -> bool
     ensures { λ r. ⌜ r ≡ not (allIn (recordRules unit (now (marks .entry)) (now (list .entry))) (placesIn (now (list .entry)))) ⌝ }
 {
     let mut place = 0u32;
-    while HALF * (place as usize) < list.len() {
+    while HALF_BYTES * (place as usize) < list.len() {
         if record_bad(list, place) {
             return true;
         }
@@ -102,9 +105,9 @@ fn mark_records(list: &[u8], shares: &mut [u8], unit: usize)
 {
     let own = list.len();
     let mut place = 0u32;
-    while HALF * (place as usize) < list.len() {
+    while HALF_BYTES * (place as usize) < list.len() {
         let mask = record_mask(list, place, &shares[own..], unit);
-        shares[HALF * (place as usize)] = mask;
+        shares[HALF_BYTES * (place as usize)] = mask;
         place += width(list, place);
     }
 }
@@ -130,24 +133,6 @@ fn inner_list_bad(list: &[u8], shares: &mut [u8], unit: usize) -> bool
 }
 
 // ---- all lists
-
-// Where list k ends in the file.
-pub fn list_end(starts: [u32; 15], length: usize, k: u32) -> usize
-    requires { ⌜ k < 15 ⌝ }
-    ensures { λ r. ⌜ r ≡ endIn starts length k ⌝ }
-{
-    if k == 0 {
-        return length;
-    }
-    starts[(k - 1) as usize] as usize
-}
-
-// The bytes that a place of list k counts.
-pub fn unit_of(k: u32) -> usize
-    ensures { λ r. ⌜ (r ≡ unitAt k) × (r ≤ 8) ⌝ }
-{
-    if k == 0 { LEAF_UNIT } else { HALF }
-}
 
 // Whether list k breaks a rule, the lists below it being marked; where it doesn't, it is marked too.
 fn list_bad(file: &[u8], scratch: &mut [u8], starts: [u32; 15], k: u32) -> bool

@@ -1,1 +1,2 @@
+-- Definitions that the contracts cite: what C passes and is told.
 pub mod Exports

@@ -25,7 +25,7 @@ voxel-in-requires : tie.Need-voxel-in-requires
 voxel-in-requires c κs =
     let s = c .before .before .before in
     let e = opens-number (s .args .bytes .now) (s .args .starts) (s .args .depth) (to-numbers c) in
-    (opens (s .args .bytes .now) (λ i. omega (arith, c .before .before .shared-slice-known .given i)) e, opens-front (s .args .bytes .now) e)
+    (opens (s .args .bytes .now) e (λ i. omega (arith, c .before .before .shared-slice-known .given i)), opens-front (s .args .bytes .now) e)
 
 returns-2 : tie.Need-returns-2
 returns-2 c =

@@ -1,75 +1,41 @@
--- `opened::open_number` meets its contract: each test is the paper's, so the code stops at the first that passes.
--- By what the calls promise of their tests, then the law of each way. Assumes nothing.
-use mathlib.Core.Path.{_≡_, sym, ap, _∙_}
-use mathlib.Core.Bool.{false, not}
-use mathlib.Core.List.{List}
-use Prim.Native.Nat.{ℕ}
+-- `opened::open_number` meets its contract: the number by the first bytes, and where that is 0 byte 6 and the sizes decide.
+-- By what the calls promise, then the law of each way. Assumes nothing.
+use mathlib.Core.Path.{sym, _∙_}
+use mathlib.Core.Bool.{not}
+use mathlib.Core.List.{[], _∷_}
 use native.Mathlib.Omega.{arith}
-use borrow.Author.Tests.{not-false}
-use Rattle.paper.specs.Rooms.{depthOk}
-use Rattle.paper.specs.Outline.{frontOk, lengthOk, fileDepth}
-use Rattle.paper.specs.Packed.{packedFront, packedHead}
-use Rattle.packed.proofs.Ways.{length-long, tested}
-use Rattle.opened.proofs.Openings.{accepted, refused-by-3, refused-by-4, refused-by-5, refused-by-6}
+use Rattle.paper.specs.Packed.{packedFront, packedHead, headOk}
+use Rattle.paper.specs.Order.{when}
+use Rattle.outline.proofs.HeadTests.{Headed, headed, head-stops, refused-by-6, accepted}
+use Rattle.packed.proofs.Ways.{tested}
 use borrow.Author.Needs.{needs}
 use Rattle.opened.proofs.open_number.Statement.{statement}
 use Rattle.opened.proofs.open_number.Tie as tie
 
--- the file, and the tests that it has passed on the way
-abbrev file : tie.Else1 → List ℕ
-file c = c .before .before .before .args .file .now
-
-front-passed : (c : tie.Else1) → not (frontOk packedFront (file c)) ≡ false
-front-passed c = sym (c .before .front-bad .ensures) ∙ c .if1 .left
-
-length-passed : (c : tie.Else2) → not (lengthOk packedHead (file (c .before .before))) ≡ false
-length-passed c = sym (c .before .length-bad .ensures) ∙ c .if2 .left
-
-depth-tested : (c : tie.After-depth-bad) → not (depthOk (fileDepth (file (c .before .before .before .before)))) ≡ c .depth-bad .result
-depth-tested c = ap (λ (D : ℕ). not (depthOk D)) (sym (c .before .depth .ensures)) ∙ sym (c .depth-bad .ensures)
-
-depth-passed : (c : tie.Else3) → not (depthOk (fileDepth (file (c .before .before .before .before .before)))) ≡ false
-depth-passed c = depth-tested (c .before) ∙ c .if3 .left
-
 returns : tie.Need-returns
-returns c = sym (refused-by-3 (c .before .before .before .args .file .now) (sym (c .before .front-bad .ensures) ∙ c .if1 .taken))
+returns c =
+    let n = c .before .head-number in
+    let file = c .before .before .before .args .file .now in
+    n .ensures ∙ sym (head-stops packedFront packedHead file (when (not (headOk file)) 6 ∷ []) (λ z. c .if1 .taken (n .ensures ∙ z)))
+
+-- the first bytes are good
+known : (c : tie.Else1) → Headed packedFront packedHead (c .before .before .before .args .file .now)
+known c = headed packedFront packedHead (c .before .before .before .args .file .now) [] (sym (c .before .head-number .ensures) ∙ omega (arith, c .if1 .left))
+
+head-bad-requires : tie.Need-head-bad-requires
+head-bad-requires c κs = tested (c .before .before .before .args .file .now) (λ i. omega (arith, c .before .before .shared-slice-known .given i)) (known c)
 
 returns-2 : tie.Need-returns-2
 returns-2 c =
-    let p = c .before .before in
-    sym (refused-by-4 (file p) (front-passed p) (sym (c .before .length-bad .ensures) ∙ c .if2 .taken))
-
-depth-requires : tie.Need-depth-requires
-depth-requires c κs =
-    let f = file (c .before .before) in
-    omega (arith, length-long f (not-false (lengthOk packedHead f) (length-passed c)))
+    let e = c .before .before in
+    let file = e .before .before .before .args .file .now in
+    sym (refused-by-6 packedFront packedHead file (not (headOk file)) (known e) (sym (c .before .head-bad .ensures) ∙ c .if2 .taken))
 
 returns-3 : tie.Need-returns-3
 returns-3 c =
-    let q = c .before .before .before in
-    let p = q .before .before in
-    sym (refused-by-5 (file p) (front-passed p) (length-passed q) (depth-tested (c .before) ∙ c .if3 .taken))
-
-head-bad-requires : tie.Need-head-bad-requires
-head-bad-requires c κs =
-    let q = c .before .before .before in
-    let p = q .before .before in
-    let f = file p in
-    tested f (λ i. omega (arith, p .before .before .shared-slice-known .given i)) (not-false (lengthOk packedHead f) (length-passed q)) (not-false (depthOk (fileDepth f)) (depth-passed c))
-
-returns-4 : tie.Need-returns-4
-returns-4 c =
-    let s = c .before .before in
-    let q = s .before .before .before in
-    let p = q .before .before in
-    sym (refused-by-6 (file p) (front-passed p) (length-passed q) (depth-passed s) (sym (c .before .head-bad .ensures) ∙ c .if4 .taken))
-
-returns-5 : tie.Need-returns-5
-returns-5 c =
-    let s = c .before .before in
-    let q = s .before .before .before in
-    let p = q .before .before in
-    sym (accepted (file p) (front-passed p) (length-passed q) (depth-passed s) (sym (c .before .head-bad .ensures) ∙ c .if4 .left))
+    let e = c .before .before in
+    let file = e .before .before .before .args .file .now in
+    sym (accepted packedFront packedHead file (not (headOk file)) (known e) (sym (c .before .head-bad .ensures) ∙ c .if2 .left))
 
 pub open-number-spec : {M : Type 1} → statement M
-open-number-spec = tie.close (tie.spec (λ c κs. search needs) returns (λ c κs. search needs) returns-2 depth-requires (λ c κs. search needs) returns-3 head-bad-requires returns-4 returns-5)
+open-number-spec = tie.close (tie.spec (λ c κs. search needs) returns head-bad-requires returns-2 returns-3)

@@ -14,7 +14,7 @@ returns c = read-refused (c .before .before .before .args .file .now) (c .before
 -- a file that is not refused opens
 file-opens : (c : tie.Else1) → Opens (c .before .before .before .args .file .now)
 file-opens c =
-    opens (c .before .before .before .args .file .now) (λ i. omega (arith, c .before .before .shared-slice-known .given i)) (sym (c .before .open-number .ensures) ∙ c .if1 .left)
+    opens (c .before .before .before .args .file .now) (sym (c .before .open-number .ensures) ∙ c .if1 .left) (λ i. omega (arith, c .before .before .shared-slice-known .given i))
 
 starts-requires : tie.Need-starts-requires
 starts-requires c κs = file-opens c

@@ -1,13 +1,14 @@
 -- `packed::voxel_in` meets its contract: a point outside is refused, and the walk's end is the answer. By the ways through the question.
 -- Assumes nothing.
-use mathlib.Core.Path.{_≡_, sym, _∙_, ap}
-use mathlib.Core.Bool.{true}
+use mathlib.Core.Path.{sym, _∙_, ap}
 use mathlib.Core.List.{[]}
 use borrow.Author.Tests.{le-leb}
-use Rattle.paper.specs.Rooms.{Point, point, depthOk, least, deepest}
+use Rattle.paper.specs.Rooms.{Point, point, least, deepest}
 use Rattle.paper.specs.Outline.{fileDepth}
+use Rattle.paper.specs.Packed.{packedFront, packedHead}
 use Rattle.paper.specs.Answers.{outcome, found}
 use Rattle.paper.specs.declared.Found.{Found}
+use Rattle.outline.proofs.HeadTests.{Headed}
 use Rattle.packed.proofs.Ways.{far-out, walked}
 use borrow.Author.Needs.{needs}
 use Rattle.packed.proofs.voxel_in.Statement.{statement}
@@ -16,22 +17,22 @@ use Rattle.packed.proofs.voxel_in.Tie as tie
 abbrev spot : tie.Start → Point
 spot s = point (s .args .x) (s .args .y) (s .args .z)
 
-depth-ok : (s : tie.Start) → depthOk (fileDepth (s .args .file .now)) ≡ true
-depth-ok s =
+known : (s : tie.Start) → Headed packedFront packedHead (s .args .file .now)
+known s =
     let D = fileDepth (s .args .file .now) in
-    rw (le-leb least D (s .pre .0 .tested .deep), le-leb D deepest (s .pre .0 .tested .flat))
+    record { front-ok = s .pre .1 .0; length-ok = s .pre .1 .1; depth-ok = rw (le-leb least D (s .pre .0 .tested .deep), le-leb D deepest (s .pre .0 .tested .flat)) }
 
 returns : tie.Need-returns
 returns c =
     let s = c .before .before .before in
-    far-out (s .args .file .now) (spot s) (s .pre .1 .0) (s .pre .1 .1) (depth-ok s) (sym (c .before .outside .ensures) ∙ c .if1 .taken)
+    far-out (s .args .file .now) (spot s) (known s) (sym (c .before .outside .ensures) ∙ c .if1 .taken)
 
 returns-2 : tie.Need-returns-2
 returns-2 c =
     let s = c .before .before .before .before .before in
     let r = c .before .way-in in
     ap (λ (f : Found). outcome (found f) []) (c .answer .ensures)
-    ∙ walked (s .args .file .now) (spot s) (s .pre .1 .0) (s .pre .1 .1) (depth-ok s) (sym (c .before .before .before .outside .ensures) ∙ c .before .before .if1 .left) (r .result) (r .ensures)
+    ∙ walked (s .args .file .now) (spot s) (known s) (sym (c .before .before .before .outside .ensures) ∙ c .before .before .if1 .left) (r .result) (r .ensures)
 
 pub voxel-in-spec : {M : Type 1} → statement M
 voxel-in-spec = tie.close (tie.spec (λ c κs. c .before .pre .0 .tested) returns (λ c κs. (c .before .before .before .pre .0, sym (c .before .outside .ensures) ∙ c .if1 .left)) (λ c κs. search needs) returns-2)

@@ -1,5 +1,5 @@
 -- `record_mask` meets its contract. The invariant: the bits from `mirror` on are gathered (MaskLoop). The measure is `mirror`. Assumes nothing.
-use mathlib.Core.Path.{_≡_, ap, _∙_}
+use mathlib.Core.Path.{_≡_, ap}
 use mathlib.Core.Bool.{Bool}
 use mathlib.Core.List.{List}
 use Prim.Native.Nat.{ℕ, _+_, _-_, _*_, _^_, _≤_, _<_}
@@ -43,15 +43,15 @@ records-match-requires c κs =
     ((s .pre .0, s .pre .0), (s .pre .1, omega (arith, c .before .loop .inv .0, c .loop-test .taken)))
 
 add-mask : tie.Need-add-mask Inv-loop μ-loop
-add-mask c = omega (arith, room (c .before .before), c .bit-for .ensures, bitFor-lt (c .before .records-match .result))
+add-mask c = omega (arith, room (c .before), bitFor-lt (c .records-match .result))
 
 loop-again : tie.Need-loop-again Inv-loop μ-loop
 loop-again c =
-    let l = c .before .before .before .loop in
-    let a = c .before .before .before .before .before .before .args in (
+    let l = c .before .before .loop in
+    let a = c .before .before .before .before .before .args in (
       omega arith,
-      upper-more (own (a .list .now) (a .place) (a .marks .now) (a .unit)) (l .mirror) (l .mask) (l .inv .1) (c .bit-for .result)
-          (c .bit-for .ensures ∙ ap bitFor (c .before .records-match .ensures)) (c .before .before .loop-test .taken) (l .inv .0),
+      upper-more (own (a .list .now) (a .place) (a .marks .now) (a .unit)) (l .mirror) (l .mask) (l .inv .1) (bitFor (c .records-match .result))
+          (ap bitFor (c .records-match .ensures)) (c .before .loop-test .taken) (l .inv .0),
     )
 
 returns : tie.Need-returns Inv-loop μ-loop
@@ -64,4 +64,4 @@ returns c =
 pub record-mask-spec : {M : Type 1} → statement M
 record-mask-spec =
     tie.close
-    (tie.spec Inv-loop μ-loop loop-holds (λ c. search needs) mul-mask records-match-requires (λ c κs. search needs) add-mask (λ c. search needs) loop-again returns)
+    (tie.spec Inv-loop μ-loop loop-holds (λ c. search needs) mul-mask records-match-requires (λ c. search needs) add-mask (λ c. search needs) loop-again returns)

@@ -11,7 +11,9 @@ use Rattle.paper.specs.Numbers.{allBelow}
 use Rattle.paper.specs.Packed.{topOf, topOk}
 use Rattle.laws.proofs.Tests.{true-T}
 use Rattle.proper.specs.Places.{listRules, rootLow}
-use Rattle.proper.specs.Phases.{Listed}
+use Rattle.popular.specs.Places.{Listed}
+use Rattle.popular.proofs.InFile.{sized}
+use Rattle.proper.proofs.Rules.{lists-sound}
 use Rattle.proper.proofs.Checking.{lists-fail, top-fails, root-fails, rules-popular, zeros-to, scratch-start}
 use Rattle.proper.proofs.call.records_broken.Statement.{statement}
 use Rattle.proper.proofs.call.records_broken.Tie as tie
@@ -83,7 +85,9 @@ popular-lists-bad-requires c κs =
     let d : length cleared ≡ length (start w .args .scratch .now) = ap length (l .before .before .before .before .clear .ensures) ∙ length-replicate (length (start w .args .scratch .now)) 0 in (
       listed w,
       (
-        true-T (lists-ok l (c .before .before .before .before .before .before .before .before .before .before .if1 .left)),
+        lists-sound (file w) (sized (file w) (l .before .before .before .before .before .before .before .before .starts .result) (listed w))
+            (true-T (lists-ok l (c .before .before .before .before .before .before .before .before .before .before .if1 .left)))
+            (true-T (not-false (topOk (file w)) (sym (c .before .before .before .before .before .before .before .before .before .top-bad .ensures) ∙ c .before .before .before .before .before .before .before .before .if2 .left))),
         (
           top-is w,
           zeros-to _ (length after) (length (file w)) (c .before .before .before .clear2 .ensures) (e ∙ d ∙ start w .pre .1 .1),

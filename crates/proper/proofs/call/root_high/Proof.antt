@@ -7,7 +7,7 @@ use native.Mathlib.Omega.{arith}
 use lib.ListN.{length, getD}
 use borrow.Author.Needs.{needs}
 use Rattle.paper.specs.Packed.{topOf}
-use Rattle.proper.proofs.InFile.{scratch-length}
+use Rattle.proper.proofs.Scratch.{scratch-length}
 use Rattle.proper.proofs.Top.{tag-in, root-in, root-is}
 use Rattle.proper.proofs.call.root_high.Statement.{statement}
 use Rattle.proper.proofs.call.root_high.Tie as tie

@@ -10,11 +10,13 @@ use borrow.Author.Needs.{needs}
 use Rattle.paper.specs.Numbers.{allBelow}
 use Rattle.paper.specs.Packed.{startAt, listAt}
 use Rattle.paper.specs.Runs.{Bytes}
-use Rattle.proper.specs.Places.{unitAt, marksAt, listRules}
+use Rattle.popular.specs.Places.{unitAt, endAt}
+use Rattle.proper.specs.Places.{marksAt, listRules}
 use Rattle.alike.specs.Matching.{Grouped}
-use Rattle.proper.specs.Phases.{leavesRules, leafMarks, innerRules, recordMarks, endAt}
+use Rattle.proper.specs.Phases.{leavesRules, leafMarks, innerRules, recordMarks}
 use Rattle.proper.proofs.Groups.{marks-grouped}
-use Rattle.proper.proofs.InFile.{start-is, end-is, list-in, end-in, eights, list-short, LeafCut, leaf-cut, InnerCut, inner-cut, evens, rules-inner, scratch-length, shares-long, shares-own, shares-marks}
+use Rattle.popular.proofs.InFile.{start-is, end-is, list-in, end-in, eights, list-short, evens}
+use Rattle.proper.proofs.Scratch.{LeafCut, leaf-cut, InnerCut, inner-cut, rules-inner, scratch-length, shares-long, shares-own, shares-marks}
 use Rattle.proper.proofs.lists.list_bad.Statement.{statement}
 use Rattle.proper.proofs.lists.list_bad.Tie as tie
 

@@ -7,10 +7,9 @@ use borrow.Author.Tests.{not-true, not-false}
 use lib.ListN.{length}
 use borrow.Author.Needs.{needs}
 use Rattle.paper.specs.Numbers.{allIn}
-use Rattle.paper.specs.Packed.{linksAt, recordOk}
+use Rattle.paper.specs.Packed.{linksAt, recordOk, headerAt}
 use Rattle.laws.proofs.Tests.{true-T}
 use Rattle.laws.proofs.PackedLists.{halves-one}
-use Rattle.paper.specs.Packed.{headerAt}
 use Rattle.alike.specs.Matching.{linkRules, recordRules, placesIn}
 use Rattle.alike.proofs.Along.{restFrom, rest-all, rest-none, rest-passes, rest-fails, allIn-none, record-inside, rules-whole, rules-links}
 use Rattle.proper.proofs.lists.records_bad.Statement.{statement}

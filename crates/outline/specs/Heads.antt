@@ -1,0 +1,15 @@
+-- Document 01, 'Refusal numbers and their order': the tests that an outline and a packed file have in common, of the first bytes. Definitions only.
+use mathlib.Core.Bool.{not}
+use mathlib.Core.List.{List, [], _∷_}
+use Prim.Native.Nat.{ℕ}
+use Rattle.paper.specs.Rooms.{depthOk}
+use Rattle.paper.specs.Outline.{frontOk, lengthOk, fileDepth}
+use Rattle.paper.specs.Order.{Test, when, firstOf}
+
+-- of a file of this front byte and this head: 3, 4, 5, then the tests of its kind
+abbrev pub headOrder : ℕ → ℕ → List ℕ → List Test → List Test
+headOrder front head file rest = when (not (frontOk front file)) 3 ∷ when (not (lengthOk head file)) 4 ∷ when (not (depthOk (fileDepth file))) 5 ∷ rest
+
+-- the first of these three that passes
+abbrev pub headNumber : ℕ → ℕ → List ℕ → ℕ
+headNumber front head file = firstOf (headOrder front head file [])

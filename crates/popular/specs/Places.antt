@@ -1,0 +1,63 @@
+-- Where the records of a packed file lie, by places: the places of a list by its bytes, the records that name a place, and what is known of a file once
+-- its header is read. Definitions only.
+use mathlib.Core.Path.{_≡_}
+use mathlib.Core.Bool.{Bool, true, false, cond, _&&_}
+use mathlib.Core.List.{List, [], _∷_}
+use Prim.Native.Nat.{ℕ, zero, suc, _+_, _-_}
+use lib.Dec.{eqb, leb, ltb}
+use lib.ListN.{length, getD}
+use Rattle.paper.specs.Numbers.{allBelow}
+use Rattle.paper.specs.Packed.{isEmpty, startAt, listAt, Link, linksAt, placesAt, startsOf}
+use Rattle.packed.specs.Header.{Opens}
+use Rattle.alike.specs.Matching.{placesIn, leavesIn}
+
+-- ---- the places of a list of bytes
+
+-- the places of list k, by its bytes
+abbrev pub startsIn : ℕ → List ℕ → List ℕ
+startsIn zero l = leavesIn l
+startsIn (suc k) l = placesIn l
+
+-- the bytes that a place of list k counts: a leaf's eight, else a half-word
+abbrev pub unitAt : ℕ → ℕ
+unitAt zero = 8
+unitAt (suc k) = 2
+
+-- ---- popularity
+
+-- one of the pointers goes to place x
+unfoldable pub namesPlace : ℕ → List Link → Bool
+namesPlace x [] = false
+namesPlace x (r ∷ rs) = let m = namesPlace x rs in cond (eqb (r .code) 0) m (cond (eqb (r .place) x) true m)
+
+-- how many of the records at these places of the list l name place x one list down
+unfoldable pub timesNamed : List ℕ → List ℕ → ℕ → ℕ
+timesNamed l [] x = 0
+timesNamed l (p ∷ ps) x = cond (namesPlace x (linksAt l p)) 1 0 + timesNamed l ps x
+
+-- of a record of list k
+abbrev pub popularAt : List ℕ → ℕ → ℕ → ℕ
+popularAt bs k x = timesNamed (listAt bs (suc k)) (placesAt bs (suc k)) x
+
+-- every record of list k is named, and along the list the number of records that name it never rises
+unfoldable pub popularRules : List ℕ → ℕ → Bool
+popularRules bs k =
+    allBelow (length (placesAt bs k)) (λ q. ltb 0 (popularAt bs k (getD (placesAt bs k) q 0)))
+    && allBelow (length (placesAt bs k) - 1) (λ q. leb (popularAt bs k (getD (placesAt bs k) (suc q) 0)) (popularAt bs k (getD (placesAt bs k) q 0)))
+
+-- ---- what is known of the file
+
+-- where list k ends
+abbrev pub endAt : List ℕ → ℕ → ℕ
+endAt bs zero = length bs
+endAt bs (suc k) = startAt bs k
+
+-- by the list starts and the file's length
+abbrev pub endIn : List ℕ → ℕ → ℕ → ℕ
+endIn starts n k = cond (eqb k 0) n (getD starts (k - 1) 0)
+
+-- the header is tested, the scene is not empty, and these are the list starts
+pub record Listed (bs : List ℕ) (starts : List ℕ) : Type 0 where
+  pub opens : Opens bs
+  pub solid : isEmpty bs ≡ false
+  pub is : starts ≡ startsOf bs

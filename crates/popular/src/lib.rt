@@ -1,0 +1,221 @@
+// Popularity: how many records name each record one list down, counted in the four bytes at its start of a scratch as long as
+// the file, and tested along the list. The lists are whole and every pointer names the start of a record.
+ghost use mathlib.Core.Path.{_≡_};
+ghost use mathlib.Core.Bool.{not};
+ghost use Prim.Native.Nat.{_+_, _*_, _%_, _^_, _≤_, _<_};
+ghost use lib.Dec.{T};
+ghost use lib.ListN.{length, getD, take, drop, replicate};
+ghost use Rattle.paper.specs.Numbers.{allIn, allBelow, anyBelow, num, bytes};
+ghost use Rattle.paper.specs.Packed.{topOf, startAt, noLink, linksAt, recordOk};
+ghost use Rattle.numbers.specs.Laid.{laid};
+ghost use Rattle.packed.specs.Records.{linkIs};
+ghost use Rattle.popular.specs.Places.{unitAt, popularRules, startsIn, endAt, Listed, endIn};
+ghost use Rattle.laws.proofs.PackedWalk.{SoundLists};
+ghost use Rattle.alike.specs.Matching.{placesIn, leavesIn};
+ghost use Rattle.popular.specs.Counting.{linkTo, countLink, countLinks, countRecords, countable, countsFall, Shared};
+use limits::CHILDREN;
+use limits::HALF_BYTES;
+use limits::LEAF_BYTES;
+use numbers::be32;
+use numbers::put_number;
+use packed::Pointer;
+use packed::pointer_at;
+use packed::width;
+
+// The bytes of a counter.
+const COUNTER: usize = 4;
+
+// The greatest number of a counter.
+const MOST: u32 = 4294967295;
+
+// ---- where a list lies
+
+// Where list k ends in the file.
+pub fn list_end(starts: [u32; 15], length: usize, k: u32) -> usize
+    requires { ⌜ k < 15 ⌝ }
+    ensures { λ r. ⌜ r ≡ endIn starts length k ⌝ }
+{
+    if k == 0 {
+        return length;
+    }
+    starts[(k - 1) as usize] as usize
+}
+
+// The bytes that a place of list k counts.
+pub fn unit_of(k: u32) -> usize
+    ensures { λ r. ⌜ (r ≡ unitAt k) × (r ≤ 8) ⌝ }
+{
+    if k == 0 { LEAF_BYTES } else { HALF_BYTES }
+}
+
+// ---- the records that name a place
+
+// Whether a pointer goes to place `x`.
+fn goes_to(link: Pointer, x: u32) -> bool
+    ensures { λ r. ⌜ r ≡ linkTo x (linkIs link) ⌝ }
+{
+    if link.code == 0 {
+        return false;
+    }
+    link.place == x
+}
+
+// Whether one of the first `n` pointers of a record goes to place `x`.
+fn named_before(list: &[u8], place: u32, n: u32, x: u32) -> bool
+    requires { ⌜ T (recordOk (now list) place) ⌝ }
+    requires { ⌜ n ≤ 8 ⌝ }
+    ensures { λ r. ⌜ r ≡ anyBelow n (λ j. linkTo x (getD (linksAt (now (list .entry)) place) j noLink)) ⌝ }
+{
+    let mut i = 0u32;
+    while i < n {
+        if goes_to(pointer_at(list, place, i), x) {
+            return true;
+        }
+        i += 1;
+    }
+    false
+}
+
+// One more in the counter at a position.
+fn add_one(counts: &mut [u8], at: usize)
+    requires { ⌜ at + 4 ≤ length (now counts) ⌝ }
+    ensures { λ _. ⌜ now (counts .exit) ≡ laid (bytes 4 (num 4 (drop at (now (counts .entry))) + 1)) at (now (counts .entry)) ⌝ }
+{
+    let n = be32(counts, at) as u64;
+    put_number(counts, at, COUNTER, n + 1);
+}
+
+// Counts a record at the place of pointer i, unless an earlier one goes there.
+fn count_link(list: &[u8], place: u32, i: u32, counts: &mut [u8], unit: usize)
+    requires { ⌜ T (countable unit (length (now counts)) (now list) place) ⌝ }
+    requires { ⌜ (i < 8) × (unit ≤ 8) ⌝ }
+    ensures { λ _. ⌜ now (counts .exit) ≡ countLink unit (linksAt (now (list .entry)) place) i (now (counts .entry)) ⌝ }
+{
+    let link = pointer_at(list, place, i);
+    if link.code == 0 {
+        return;
+    }
+    if named_before(list, place, i, link.place) {
+        return;
+    }
+    add_one(counts, unit * (link.place as usize));
+}
+
+// Counts a record at each place that it names, once.
+fn count_record(list: &[u8], place: u32, counts: &mut [u8], unit: usize)
+    requires { ⌜ T (countable unit (length (now counts)) (now list) place) ⌝ }
+    requires { ⌜ unit ≤ 8 ⌝ }
+    ensures { λ _. ⌜ now (counts .exit) ≡ countLinks unit (linksAt (now (list .entry)) place) 8 (now (counts .entry)) ⌝ }
+{
+    let mut i = 0u32;
+    while i < CHILDREN {
+        count_link(list, place, i, counts, unit);
+        i += 1;
+    }
+}
+
+// Counts the records of a list at the places that they name.
+fn count_records(list: &[u8], counts: &mut [u8], unit: usize)
+    requires { ⌜ T (allIn (countable unit (length (now counts)) (now list)) (placesIn (now list))) ⌝ }
+    requires { ⌜ (length (now list) % 2 ≡ 0) × (length (now list) < 2 ^ 32) ⌝ }
+    requires { ⌜ unit ≤ 8 ⌝ }
+    ensures { λ _. ⌜ now (counts .exit) ≡ countRecords unit (now (list .entry)) (placesIn (now (list .entry))) (now (counts .entry)) ⌝ }
+{
+    let mut place = 0u32;
+    while HALF_BYTES * (place as usize) < list.len() {
+        count_record(list, place, counts, unit);
+        place += width(list, place);
+    }
+}
+
+// ---- the counters tested
+
+// Whether along the leaves a counter is 0 or above the one before.
+fn leaves_rise(counts: &[u8]) -> bool
+    requires { ⌜ length (now counts) % 8 ≡ 0 ⌝ }
+    ensures { λ r. ⌜ r ≡ not (countsFall 8 (now (counts .entry)) (leavesIn (now (counts .entry)))) ⌝ }
+{
+    let mut last = MOST;
+    let mut at = 0usize;
+    while at < counts.len() {
+        let n = be32(counts, at);
+        if n == 0 {
+            return true;
+        }
+        if last < n {
+            return true;
+        }
+        last = n;
+        at += LEAF_BYTES;
+    }
+    false
+}
+
+// Whether along the records of a list a counter is 0 or above the one before.
+fn records_rise(list: &[u8], counts: &[u8]) -> bool
+    requires { ⌜ T (allIn (recordOk (now list)) (placesIn (now list))) ⌝ }
+    requires { ⌜ (length (now list) % 2 ≡ 0) × (length (now list) < 2 ^ 32) ⌝ }
+    requires { ⌜ length (now counts) ≡ length (now list) ⌝ }
+    ensures { λ r. ⌜ r ≡ not (countsFall 2 (now (counts .entry)) (placesIn (now (list .entry)))) ⌝ }
+{
+    let mut last = MOST;
+    let mut place = 0u32;
+    while HALF_BYTES * (place as usize) < list.len() {
+        let n = be32(counts, HALF_BYTES * (place as usize));
+        if n == 0 {
+            return true;
+        }
+        if last < n {
+            return true;
+        }
+        last = n;
+        place += width(list, place);
+    }
+    false
+}
+
+// Whether a record of list k is not named, or more often than the one before it: counted over the records of the list above
+// in the list's share, zero before.
+fn share_bad(above: &[u8], list: &[u8], share: &mut [u8], k: u32) -> bool
+    requires { ⌜ Shared k (now above) (now list) (length (now share)) ⌝ }
+    ensures { λ r. ⌜ r ≡ not (countsFall (unitAt k) (countRecords (unitAt k) (now (above .entry)) (placesIn (now (above .entry))) (now (share .entry))) (startsIn k (now (list .entry)))) ⌝ }
+{
+    count_records(above, share, unit_of(k));
+    if k == 0 {
+        return leaves_rise(share);
+    }
+    records_rise(list, share)
+}
+
+// Whether a record of list k is not named, or more often than the one before it. The list's share is zero before.
+fn popular_bad(file: &[u8], scratch: &mut [u8], starts: [u32; 15], k: u32) -> bool
+    requires { ⌜ Listed (now file) starts ⌝ }
+    requires { ⌜ SoundLists (now file) ⌝ }
+    requires { ⌜ k < topOf (now file) ⌝ }
+    requires { ⌜ length (now scratch) ≡ length (now file) ⌝ }
+    requires { ⌜ take (endAt (now file) k) (now scratch) ≡ replicate (endAt (now file) k) 0 ⌝ }
+    ensures { λ r. ⌜ (r ≡ not (popularRules (now (file .entry)) k)) × (take (startAt (now (file .entry)) k) (now (scratch .exit)) ≡ replicate (startAt (now (file .entry)) k) 0) ⌝ }
+{
+    let above = starts[(k + 1) as usize] as usize;
+    let a = starts[k as usize] as usize;
+    let b = list_end(starts, file.len(), k);
+    share_bad(&file[above..a], &file[a..b], &mut scratch[a..b], k)
+}
+
+// Whether a list below the top breaks the rules of popularity. The scratch is zero before.
+pub fn popular_lists_bad(file: &[u8], scratch: &mut [u8], starts: [u32; 15], top: u32) -> bool
+    requires { ⌜ Listed (now file) starts ⌝ }
+    requires { ⌜ SoundLists (now file) ⌝ }
+    requires { ⌜ top ≡ topOf (now file) ⌝ }
+    requires { ⌜ now scratch ≡ replicate (length (now file)) 0 ⌝ }
+    ensures { λ r. ⌜ r ≡ not (allBelow (topOf (now (file .entry))) (popularRules (now (file .entry)))) ⌝ }
+{
+    let mut k = 0u32;
+    while k < top {
+        if popular_bad(file, scratch, starts, k) {
+            return true;
+        }
+        k += 1;
+    }
+    false
+}
