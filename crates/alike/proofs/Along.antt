@@ -11,7 +11,7 @@ use borrow.Author.Tests.{lt-ltb, le-ltb, ltb-true}
 use lib.Dec.{T, ltb}
 use lib.ListN.{length, getD, take, drop, length-drop}
 use lib.Seq.{take-all}
-pub use Rattle.laws.proofs.PackedLists.{record-two}
+use Rattle.laws.proofs.PackedLists.{record-two}
 use Rattle.paper.specs.Numbers.{allIn, isIn, indexIn, count}
 use Rattle.paper.specs.Packed.{headerAt, halves, linksAt, recordOk, startsFrom}
 use Rattle.laws.proofs.Tests.{and-left}

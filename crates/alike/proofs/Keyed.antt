@@ -23,7 +23,8 @@ use Rattle.laws.proofs.Eight.{below8, eight2, xor8-lt, xor8-assoc, xor8-back, x
 use Rattle.laws.proofs.Lists.{allIn-at}
 use Rattle.laws.proofs.Bytes.{bytes-drop}
 use Rattle.laws.proofs.Leaves.{mirrorLeaf-zero, mirrorLeaf-mirrorLeaf}
-use Rattle.laws.proofs.Masks.{maskFor, marked, mask-bit}
+use Rattle.laws.specs.Masks.{maskFor, marked}
+use Rattle.laws.proofs.Masks.{mask-bit}
 use Rattle.laws.proofs.PackedLists.{num4-lt, Fits, links-fit}
 use Rattle.least.specs.Keys.{markOf, Group, lowTag, wordOf, leastTo, digitOf, imageDigit, imageNo, wordsAt, leastImage, sumOf, imageBase, recordKey, leafKey}
 use Rattle.least.proofs.Leasts.{least-at, least-match}

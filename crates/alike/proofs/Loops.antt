@@ -15,7 +15,7 @@ use Rattle.paper.specs.Numbers.{both, allBelow, anyBelow, allIn, count}
 use Rattle.paper.specs.Packed.{leafOk}
 use Rattle.laws.proofs.Tests.{not-not, any-at, any-same, none-at}
 use Rattle.laws.proofs.Lists.{length-count, getD-count}
-use Rattle.laws.proofs.Masks.{marked}
+use Rattle.laws.specs.Masks.{marked}
 use Rattle.least.specs.Keys.{lowTag}
 use Rattle.least.proofs.Tags.{low-lower, low-own}
 use Rattle.alike.specs.Matching.{lowBy}

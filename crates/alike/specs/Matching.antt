@@ -12,7 +12,7 @@ use Rattle.paper.specs.Numbers.{allBelow, allIn, count}
 use Rattle.paper.specs.Leaf.{mirrorLeaf}
 use Rattle.paper.specs.Store.{leafNo}
 use Rattle.paper.specs.Packed.{Link, noLink, linksAt, leafAt, recordOk, codeFor, startsFrom}
-use Rattle.laws.proofs.Masks.{maskFor, marked}
+use Rattle.laws.specs.Masks.{maskFor, marked}
 use Rattle.least.specs.Keys.{markOf, Group, leafKey}
 
 -- ---- the places of a list of bytes

@@ -10,18 +10,20 @@ use lib.Bits.{bitXor, xor-zero-r}
 use lib.Dec.{T, eqb, leb, eqb→eq, leb→le}
 use lib.ListN.{length, getD}
 use lib.Pow.{pow-mono}
-use borrow.Author.Tests.{ne-eqb, not-true}
+use borrow.Author.Tests.{not-true}
 use Rattle.paper.specs.Rooms.{Point, point, depthOk, mirror, mirrored, boxCount}
 use Rattle.paper.specs.Outline.{edge}
 use Rattle.paper.specs.Leaf.{leafVoxel}
-use Rattle.paper.specs.Store.{Cell, heights, keptCount, keptOf, cellsAt, cellAt, leafNo, lowOf, tagOf, cellNo, badPointer, anyBad, sceneDepth, sceneRoot, sceneOk}
+use Rattle.paper.specs.Store.{Cell, heights, keptCount, keptOf, cellsAt, cellAt, leafNo, tagOf, cellNo, badPointer, anyBad, sceneDepth, sceneRoot, sceneOk}
 use Rattle.paper.specs.Meaning.{cellVoxel, rootRoom}
 use Rattle.paper.specs.Questions.{below, takenBad, boxWay}
 use Rattle.paper.specs.Calls.{boxDamaged}
 use Rattle.laws.proofs.Tests.{T-true, true-T, and-left, and-right}
 use Rattle.laws.proofs.Tests.{any-at, at-any}
 use Rattle.laws.proofs.Kept.{kept-length}
-use Rattle.laws.proofs.Boxes.{origin, far, clipped, box-most}
+use Rattle.laws.specs.Boxes.{origin, far, clipped}
+use Rattle.laws.proofs.Boxes.{box-most}
+use Rattle.laws.proofs.Invariant.{named-kept}
 use Rattle.boxes.specs.Box.{mostSolid, hasVoxel, Upto, isWhole, solidSeen, boxIn, wholeIn, pointerIn, childrenSolid, childrenIn, wholesSolid, wholesIn, names, Without, timesNamed, tallied, sceneBox}
 use Rattle.boxes.specs.declared.count.Tally.{Tally}
 use Rattle.boxes.specs.declared.count.Tally.the-variants.{Solid, Damaged}
@@ -42,15 +44,6 @@ edge-most k h =
     mul-le-mul (mul-le-mul e e) e
 
 -- ---- pointers
-
--- a pointer that is not bad names a kept cell
-pub kept-number : (n p : ℕ) → badPointer n p ≡ false → (p ≡ 0 → ⊥) → cellNo p < n
-kept-number n p b z = go (leb 1 (lowOf p)) (leb (lowOf p) n) refl refl (sym (ap (λ (x : Bool). not x && not (leb 1 (lowOf p) && leb (lowOf p) n)) (ne-eqb p 0 z)) ∙ b)
-  where
-    go : (x y : Bool) → leb 1 (lowOf p) ≡ x → leb (lowOf p) n ≡ y → not (x && y) ≡ false → cellNo p < n
-    go true true ex ey e = omega (arith, leb→le 1 (lowOf p) (true-T ex), leb→le (lowOf p) n (true-T ey))
-    go true false ex ey e = absurd (true≢false e)
-    go false y ex ey e = absurd (true≢false e)
 
 -- none of the eight is bad
 pub none-bad : (n : ℕ) (c : Cell) → anyBad n c ≡ false → (i : ℕ) → i < 8 → badPointer n (getD c i 0) ≡ false
@@ -105,7 +98,7 @@ module _ (ws : List ℕ) (k : ℕ) (c : Cell) (left : ℕ) (h : k < heights) (z 
   last-lt = omega arith
 
   pub last-kept : (getD c (left - 1) 0 ≡ 0 → ⊥) → cellNo (getD c (left - 1) 0) < keptCount ws k
-  last-kept y = kept-number (keptCount ws k) (getD c (left - 1) 0) (none-bad (keptCount ws k) c g (left - 1) last-lt) y
+  last-kept y = named-kept (keptCount ws k) (getD c (left - 1) 0) (none-bad (keptCount ws k) c g (left - 1) last-lt) y
 
   pub child-damaged : (found q : ℕ) → (getD c (left - 1) 0 ≡ 0 → ⊥) → q ≡ cellNo (getD c (left - 1) 0) → wholeIn (keptOf ws) k q ≡ Damaged → wholesIn (keptOf ws) k c left found ≡ Damaged
   child-damaged found q y e d = wholes-damaged (keptOf ws) k c left z found (good (left - 1) last-lt) y (ap (wholeIn (keptOf ws) k) (sym e) ∙ d)

@@ -18,7 +18,8 @@ use Rattle.laws.proofs.Bits.{bit-lt}
 use Rattle.laws.proofs.Leaves.{bitOf-lt, voxelOf-inside}
 use Rattle.laws.proofs.Mirrors.{mirror-inside}
 use Rattle.laws.proofs.Bits.{test-bitFor}
-use Rattle.laws.proofs.Boxes.{origin, far, bit-most, box-leaf}
+use Rattle.laws.specs.Boxes.{origin, far}
+use Rattle.laws.proofs.Boxes.{bit-most, box-leaf}
 use Rattle.laws.proofs.Sums.{sum-same, sum-next}
 use Rattle.laws.proofs.Tests.{T-true, all-at}
 use Rattle.boxes.specs.Box.{seenBit, leafCount, names, timesNamed, Without}

@@ -22,8 +22,9 @@ use Rattle.laws.proofs.Mirrors.{mirror-mirror, mirror-inside, child-mirrored, c
 use Rattle.laws.proofs.Tests.{true-T, and-left, and-right}
 use Rattle.laws.proofs.Eight.{xor8-lt}
 use Rattle.laws.proofs.Sums.{sum-same}
-use Rattle.laws.proofs.Boxes.{origin, far, clipped, Within, box-same, box-children, box-clear, box-none, box-pos, box-mirrored}
-use Rattle.points.proofs.Seen.{edge-double}
+use Rattle.laws.specs.Boxes.{origin, far, clipped}
+use Rattle.laws.proofs.Boxes.{Within, box-same, box-children, box-clear, box-none, box-pos, box-mirrored}
+use Rattle.laws.proofs.OutlineWriting.{edge-twice}
 use Rattle.laws.proofs.Matching.{tag-lt}
 use Rattle.boxes.specs.Box.{hasVoxel, Upto, tallied, solidSeen, badSeen, boxIn, wholeIn, pointerSolid, pointerBad, pointerIn, childrenSolid, childrenBad, childrenIn}
 use Rattle.boxes.specs.declared.count.Tally.{Tally}
@@ -72,7 +73,7 @@ asked-box : (of : ℕ → Room) (k : ℕ) (c : Cell) (m : ℕ) (low high : Point
     ≡ sum 8 (λ i. boxCount (edge k) (mirrored m (edge k) (of (getD c (bitXor i m) 0))) (clipped (edge k) i low) (clipped (edge k) i high))
 asked-box of k c m low high hm =
     let r : Room = byPointer of k c in
-    ap (λ (E : ℕ). boxCount E (mirrored m E r) low high) (edge-double k)
+    ap (λ (E : ℕ). boxCount E (mirrored m E r) low high) (edge-twice k)
     ∙ box-children (edge k) (mirrored m (2 * edge k) r) low high
     ∙ sum-same 8 (λ i. boxCount (edge k) (childRoom (edge k) i (mirrored m (2 * edge k) r)) (clipped (edge k) i low) (clipped (edge k) i high))
     (λ i. boxCount (edge k) (mirrored m (edge k) (of (getD c (bitXor i m) 0))) (clipped (edge k) i low) (clipped (edge k) i high))

@@ -17,10 +17,12 @@ use Rattle.paper.specs.Store.{Cell, cellsAt, cellAt, tagOf, cellNo, badPointer,
 use Rattle.laws.proofs.Tests.{true-T, and-left, and-right}
 use Rattle.laws.proofs.Sums.{sum-same, sum-add, sum-times, sum-pos}
 use Rattle.laws.proofs.Tests.{any-at}
-use Rattle.laws.proofs.Boxes.{origin, far, clipped, box-pos}
+use Rattle.laws.specs.Boxes.{origin, far, clipped}
+use Rattle.laws.proofs.Boxes.{box-pos}
 use Rattle.boxes.specs.Box.{tallied, ofChildren, solidSeen, wholeIn, pointerSolid, pointerBad, pointerIn, childrenSolid, childrenBad, wholesSolid, wholesBad, wholesIn, names, timesNamed, Without}
 use Rattle.boxes.specs.declared.count.Tally.the-variants.{Solid, Damaged}
-use Rattle.points.proofs.Seen.{edge-pos, edge-double}
+use Rattle.laws.proofs.OutlineWriting.{edge-twice}
+use Rattle.points.proofs.Seen.{edge-pos}
 use Rattle.boxes.proofs.Tallies.{tally-damaged, solid-says, sum-last, last-damaged, last-solid, last-tally, box-whole, solid-down, box-down, pointer-absent, pointer-there}
 
 -- ---- down
@@ -44,7 +46,7 @@ module _ (K : List (List Cell)) (k n : ℕ) where
   whole-children : (room : ℕ → ℕ → Room) (c : Cell) → ofChildren room k c 0 8 origin (far (edge (suc k))) ≡ sum 8 (λ i. boxCount (edge k) (room (getD c i 0) 0) origin (far (edge k)))
   whole-children room c =
       sum-same 8 _ _ (λ i hi.
-      ap (λ (E : ℕ). boxCount (edge k) (room (getD c (bitXor i 0) 0) 0) (clipped (edge k) i origin) (clipped (edge k) i (far E))) (edge-double k)
+      ap (λ (E : ℕ). boxCount (edge k) (room (getD c (bitXor i 0) 0) 0) (clipped (edge k) i origin) (clipped (edge k) i (far E))) (edge-twice k)
       ∙ ap₂ (boxCount (edge k) (room (getD c (bitXor i 0) 0) 0)) (origin-clipped (edge k) i) (far-clipped (edge k) i)
       ∙ ap (λ (j : ℕ). boxCount (edge k) (room (getD c j 0) 0) origin (far (edge k))) (xor-zero-r i))
 

@@ -16,7 +16,7 @@ use Rattle.paper.specs.Meaning.{cellVoxel}
 use Rattle.paper.specs.Questions.{takenBad, boxSolid}
 use Rattle.paper.specs.Calls.{boxOutside, ofScene, boxDamaged}
 use Rattle.paper.specs.Answers.{Told, told}
-use Rattle.laws.proofs.Boxes.{origin, far, clipped}
+use Rattle.laws.specs.Boxes.{origin, far, clipped}
 use Rattle.entry.specs.Entry.{pastEntry}
 use Rattle.boxes.specs.declared.count.Tally.{Tally}
 use Rattle.boxes.specs.declared.count.Tally.the-variants.{Solid, Damaged}

@@ -9,7 +9,7 @@ ghost use Rattle.paper.specs.Rooms.{inBox, mirrored, boxCount};
 ghost use Rattle.paper.specs.Leaf.{voxelOf, leafVoxel};
 ghost use Rattle.paper.specs.Outline.{edge as edge-of};
 ghost use Rattle.paper.specs.Store.{heights, mostScenes, keptCount, sceneDepth, keptOf, badPointer, anyBad, headerOk, sceneOk};
-ghost use Rattle.laws.proofs.Boxes.{clip as clip-of, clipped as clipped-of, origin, far};
+ghost use Rattle.laws.specs.Boxes.{clip as clip-of, clipped as clipped-of, origin, far};
 ghost use Rattle.boxes.specs.Box.{at, hasVoxel, Upto, isWhole, seenBit, leafCount, boxIn, wholeIn, pointerIn, childrenSolid, childrenIn, wholesSolid, wholesIn, mostSolid, names as names-of, timesNamed, Without, sceneBox};
 use limits::CHILDREN;
 use limits::LEAF_HEIGHT;

@@ -14,12 +14,8 @@ use lib.Ieee.Exact.{HasValue}
 use lib.Ieee.Order.{transfer}
 use lib.Ieee.Positive.{num, den, den-pos, value→cross}
 use borrow.Author.Tests.{lt-ltb, ne-eqb}
-use Rattle.laws.proofs.Tests.{iff-eq}
+use Rattle.laws.proofs.Tests.{iff-eq, or-split}
 use Rattle.paper.specs.Detail.{plain, within}
-
-or-split : (a b : Bool) → T (a || b) → T a ⊎ T b
-or-split true b t = inl tt
-or-split false b t = inr t
 
 -- `<=` as MIR's floats have it, by the two signs: below or level
 either : (a b : ℕ) → (ltb a b || (eqb a b && true)) ≡ leb a b

@@ -12,8 +12,8 @@ use Rattle.paper.specs.Numbers.{tabulate, flatten}
 use Rattle.paper.specs.Store.{Cell, mostScenes, heights, keptCount, cellWords, cellPlace, cellsAt, padded, listWords, headerWords, wordsOf}
 use Rattle.laws.proofs.Put.{sets-left, sets-right}
 use Rattle.laws.proofs.Lists.{getD-tabulate}
-use Rattle.laws.proofs.Padded.{flatten-append}
-use Rattle.laws.proofs.Words.{Sized, snil, scons, flatten-length, padded-length, Lists, lnil, lcons, gap, gap-place, words-fit, Fine, storeWith, stored, header-length, scenes-length, header-set, wordsOf-length, capacity-read, count-read, cells-few}
+use Rattle.laws.proofs.Padded.{flatten-append, Sized, snil, scons, flatten-length, padded-length}
+use Rattle.laws.proofs.Words.{Lists, lnil, lcons, gap, gap-place, words-fit, Fine, storeWith, stored, header-length, scenes-length, header-set, wordsOf-length, capacity-read, count-read, cells-few}
 use Rattle.laws.proofs.Growing.{Extends, ext-length}
 use Rattle.keeping.specs.Keeping.{cutList, cutLists, cutBack}
 use Rattle.store.proofs.Places.{place-in}

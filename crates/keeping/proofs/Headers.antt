@@ -9,9 +9,9 @@ use lib.Dec.{T, eqb}
 use lib.ListN.{length, take, drop, getD, set, replicate, length-set}
 use lib.Seq.{sets, length-sets, getD-set-same, getD-set-other, drop-set-lt, drop-set-add, take-set-le}
 use Rattle.paper.specs.Numbers.{allIn}
-use Rattle.paper.specs.Store.{Cell, mostScenes, heights, zerosPlace, capacityOf, scenesHeld, keptCount, scenePlace, cellWords, cellPlace, blank, capacityOk, headerOk}
+use Rattle.paper.specs.Store.{Cell, heights, zerosPlace, capacityOf, keptCount, cellWords, cellPlace, blank, capacityOk, headerOk}
 use Rattle.laws.proofs.Undamaged.{Headed, headed, headed-ok}
-use Rattle.keeping.specs.Keeping.{keepIn, holdIn, cutList, cutLists, cutBack}
+use Rattle.keeping.specs.Keeping.{keepIn, cutList, cutLists}
 
 -- ---- words stored in the header, or past it
 
@@ -79,19 +79,7 @@ module _ (ws vs : List ℕ) (t : T (headerOk ws)) where
       few j g C (yes e) = omega (arith, C, ap (λ (n : ℕ). keptCount vs n) e, d .here)
       few j g C (no ne) = omega (arith, C, d .others (2 + j) (omega arith) (λ e. ne (omega (arith, e))), facts .few j g)
 
-  -- the count of scenes
-  pub scenes-headed : (v : ℕ) → Changed ws vs 1 v → v ≤ mostScenes → T (headerOk vs)
-  scenes-headed v d l =
-      let C : capacityOf vs ≡ capacityOf ws = d .others 0 (omega arith) (λ e. omega (arith, e)) in
-      headed-ok vs (record {
-        long = rw (C, d .same-length) (facts .long);
-        capacity = subst (λ (n : ℕ). T (capacityOk n)) (sym C) (facts .capacity);
-        held = rw (d .here) l;
-        few = λ j g. omega (arith, C, d .others (2 + j) (omega arith) (λ e. omega (arith, e)), facts .few j g);
-        header-zeros = subst T (sym (d .zeros)) (facts .header-zeros);
-      })
-
--- ---- a cell more, a scene more, a list cut back
+-- ---- a cell more, a list cut back
 
 past-header : (C k n : ℕ) → 32 ≤ cellPlace C k n
 past-header C zero n = omega arith
@@ -120,13 +108,6 @@ module _ (ws : List ℕ) (t : T (headerOk ws)) where
     pub cut-headed : (n : ℕ) → n ≤ keptCount ws k → T (headerOk (cutList k n ws))
     cut-headed n l = count-headed ws (cutList k n ws) t k n (cut-changed n) h (omega (arith, headed ws t .few k h))
 
-  pub hold-changed : (c : Cell) → Changed ws (holdIn c ws) 1 (suc (scenesHeld ws))
-  unfolding holdIn
-  hold-changed c = count-first ws c (scenePlace (scenesHeld ws)) 1 (suc (scenesHeld ws)) (omega arith) (omega arith) (omega (arith, long-header))
-
-  pub hold-headed : (c : Cell) → scenesHeld ws < mostScenes → T (headerOk (holdIn c ws))
-  hold-headed c l = scenes-headed ws (holdIn c ws) t (suc (scenesHeld ws)) (hold-changed c) l
-
 -- ---- the first m lists cut back
 
 -- the header is in order, and the counts of the other lists are as they were
@@ -149,7 +130,3 @@ module _ (ns ws : List ℕ) (t : T (headerOk ws)) (l : (k : ℕ) → k < heights
         same-length = d .same-length ∙ s .same-length;
         rest = λ j g u. d .others (2 + j) (omega arith) (λ e. omega (arith, e)) ∙ s .rest j (omega arith) u;
       }
-
-  pub cut-back-headed : T (headerOk (cutBack ns ws))
-  unfolding cutBack
-  cut-back-headed = lists-cut-so heights (omega arith) .in-order

@@ -23,7 +23,8 @@ use Rattle.laws.proofs.Eight.{xor8-lt, xor8-back}
 use Rattle.laws.proofs.Mirrors.{mirror-inside, mirror-mirror}
 use Rattle.laws.proofs.Matching.{match-sound}
 use Rattle.laws.proofs.Invariant.{Names, OkPointer, OkCell, OkCells, ok-fits, Alike, LowTag, Shape, Inv, match-complete, pointer-at}
-use Rattle.laws.proofs.Masks.{symmetries, mask-match-same}
+use Rattle.laws.specs.Masks.{symmetries}
+use Rattle.laws.proofs.Masks.{mask-match-same}
 use Rattle.laws.proofs.Seeking.{Found, Nowhere, Sought, find-is}
 use Rattle.laws.proofs.Growing.{Extends, ext-refl, ext-trans, ext-cell, ext-voxels, ext-symmetries}
 use Rattle.laws.proofs.Keeping.{K⁺, keep-other, keep-extends, keep-length, keep-cell, keep-each, keep-ok, keep-inv}

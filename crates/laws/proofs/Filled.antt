@@ -22,7 +22,8 @@ use Rattle.laws.proofs.Mirrors.{childNo-lt}
 use Rattle.laws.proofs.Leaves.{leafOf-solid, leafOf-leafVoxel}
 use Rattle.laws.proofs.Invariant.{OkPointer, ok-not-bad, LowTag, Shape, pointer-none}
 use Rattle.laws.proofs.Adding.{Sound, Invs}
-use Rattle.laws.proofs.Words.{Sized, snil, scons, Lists, lnil, lcons, Fine, stored}
+use Rattle.laws.proofs.Words.{Lists, lnil, lcons, Fine, stored}
+use Rattle.laws.proofs.Padded.{Sized, snil, scons}
 use Rattle.laws.proofs.Outlines.{Accepted}
 use Rattle.laws.proofs.SoundWords.{sceneSound, soundStore, sound-words, depth-read, root-read}
 

@@ -17,7 +17,8 @@ use Rattle.laws.proofs.Tests.{all-same}
 use Rattle.laws.proofs.Mirrors.{mirror-inside, childNo-lt, inChild-inside}
 use Rattle.laws.proofs.Matching.{selfAt}
 use Rattle.laws.proofs.Invariant.{OkPointer, OkCell, OkCells, Alike, LowTag, Shape, names-lt, names-ne, pointer-none, pointer-at}
-use Rattle.laws.proofs.Masks.{symmetries, mask-same, pointer-agree}
+use Rattle.laws.specs.Masks.{symmetries}
+use Rattle.laws.proofs.Masks.{mask-same, pointer-agree}
 
 -- every list of K is the beginning of that of K′
 pub record Extends (K K′ : List (List Cell)) : Type 0 where

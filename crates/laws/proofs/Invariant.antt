@@ -53,6 +53,14 @@ not-bad-ok n p h = go (eqb p 0) refl (leb 1 (lowOf p)) refl (leb (lowOf p) n) re
     go false e true ec false ed h = absurd (false≢true (sym h))
     go false e false ec d ed h = absurd (false≢true (sym h))
 
+-- a pointer that is neither bad nor none names a kept cell
+pub named-kept : (n p : ℕ) → badPointer n p ≡ false → (p ≡ 0 → ⊥) → cellNo p < n
+named-kept n p b z = go (not-bad-ok n p b)
+  where
+    go : OkPointer n p → cellNo p < n
+    go (inl e) = absurd (z e)
+    go (inr h) = names-lt h
+
 -- ---- cells as they may stand
 
 -- a 64-bit leaf, or eight pointers to kept cells

@@ -4,8 +4,8 @@ use mathlib.Core.Path.{_≡_, refl, sym, _∙_, ap, ap₂, subst}
 use mathlib.Core.Bool.{Bool, true, false, cond}
 use mathlib.Core.List.{List, [], _∷_, _++_, map}
 use mathlib.Core.Logic.{_⊎_, inl, inr}
-use Prim.Native.Nat.{ℕ, zero, suc, _+_, _<_}
-use native.Mathlib.Nat.{le-of-suc-le-suc, not-suc-le-zero}
+use Prim.Native.Nat.{ℕ, zero, suc, _+_, _*_, _≤_, _<_}
+use native.Mathlib.Nat.{le-of-suc-le-suc, not-suc-le-zero, mul-suc, mul-le-mul-left}
 use native.Mathlib.Omega.{arith}
 use borrow.Author.Tests.{eq-eqb, eqb-true}
 use lib.Dec.{T, eqb, eqb→eq}
@@ -179,3 +179,8 @@ pub zeros-pass : (n : ℕ) → allIn (eqb 0) (replicate n 0) ≡ true
 unfolding allIn
 zeros-pass zero = refl
 zeros-pass (suc n) = zeros-pass n
+
+-- ---- rows of so many elements: an earlier one ends where a later one starts, or before
+
+pub row-before : (width i j : ℕ) → i < j → width * i + width ≤ width * j
+row-before width i j h = omega (arith, mul-suc width i, mul-le-mul-left {m = suc i} {n = j} width h)

@@ -12,8 +12,7 @@ use lib.ListN.{getD}
 use Rattle.paper.specs.Numbers.{bit}
 use Rattle.paper.specs.Store.{Cell, cellAt, tagOf, cellNo}
 use Rattle.paper.specs.Match.{pointerMatch, cellMatch, matches}
-unfoldable pub use Rattle.laws.specs.Masks.{maskFor, maskMatch}
-pub use Rattle.laws.specs.Masks.{marked, symmetries, ChildMasks}
+use Rattle.laws.specs.Masks.{maskFor, maskMatch, marked, symmetries, ChildMasks}
 use Rattle.laws.proofs.Tests.{all-same, T-true}
 use Rattle.laws.proofs.Bits.{tests-bit, tests-lt, tests-ext}
 use Rattle.laws.proofs.Matching.{turn-lt, selfAt, LeafFits, match-self, self-same}

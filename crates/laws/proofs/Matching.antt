@@ -158,10 +158,6 @@ module _ (K : List (List Cell)) where
       s t (getD a i 0) (getD b (bitXor i s) 0) (getD c (bitXor (bitXor i s) t) 0) hs ht
       (cell-rule K k a b s m i hi) (cell-rule K k b c t n (bitXor i s) his)))
 
-  -- the mirrors under which a cell matches itself are closed under exclusive or
-  pub self-closed : (k : ℕ) (c : Cell) (s t : ℕ) → s < 8 → t < 8 → T (matches K k c c s) → T (matches K k c c t) → T (matches K k c c (bitXor s t))
-  self-closed k c s t hs ht = match-trans k c c c s t hs ht
-
   self-along : (k : ℕ) (a b : Cell) (t u : ℕ) → t < 8 → u < 8 → LeafFits k b → T (matches K k a b t) → T (matches K k a a u) → T (matches K k b b u)
   self-along k a b t u ht hu h m s =
       subst (λ (n : ℕ). T (matches K k b b n)) (xor8-around t u ht hu)

@@ -7,7 +7,6 @@ use native.Mathlib.Nat.{div-lt-iff-lt-mul, mod-lt, div-add-mod'}
 use native.Mathlib.Omega.{arith}
 use lib.Arith.{digits-div, digits-mod}
 use lib.Bits.{bitXor, xor-comm}
-use lib.Dec.{lit<}
 use Rattle.paper.specs.Rooms.{Point, point, Room, Inside, childNo, inChild, childRoom, flip, markX, markY, markZ, mirror, mirrored, Same, Image}
 use Rattle.laws.proofs.Eight.{xorb, xor8-lt, markX-xor, markY-xor, markZ-xor, halfX-xor, halfY-xor, halfZ-xor, halves-whole}
 
@@ -124,19 +123,10 @@ module _ (t S : ℕ) (v : Point) (ht : t < 8) (h : Inside (2 * S) v) where
 
 -- ---- the same of rooms: claim C1
 
-pub mirrored-twice : (t S : ℕ) (r : Room) → Same S (mirrored t S (mirrored t S r)) r
-mirrored-twice t S r v l = ap r (mirror-twice t S v l)
-
-pub mirrored-mirrored : (s t S : ℕ) (r : Room) → s < 8 → t < 8 → Same S (mirrored t S (mirrored s S r)) (mirrored (bitXor s t) S r)
-mirrored-mirrored s t S r hs ht v l = ap r (mirror-mirror s t S v hs ht l)
-
 pub child-mirrored : (i t S : ℕ) (r : Room) → i < 8 → t < 8 → Same S (childRoom S i (mirrored t (2 * S) r)) (mirrored t S (childRoom S (bitXor i t) r))
 child-mirrored i t S r hi ht v l = ap r (mirror-fromChild t S i v ht hi l)
 
 -- ---- the same voxels, and images
-
-pub same-refl : (S : ℕ) (a : Room) → Same S a a
-same-refl S a v l = refl
 
 pub same-sym : {S : ℕ} {a b : Room} → Same S a b → Same S b a
 same-sym e v l = sym (e v l)
@@ -155,9 +145,6 @@ mirrored-sym t S a b e v l = ap b (sym (mirror-twice t S v l)) ∙ sym (e (mirro
 pub mirrored-trans : (s t S : ℕ) (a b c : Room) → s < 8 → t < 8 → Same S a (mirrored s S b) → Same S b (mirrored t S c) → Same S a (mirrored (bitXor s t) S c)
 mirrored-trans s t S a b c hs ht e f v l =
     e v l ∙ f (mirror s S v) (mirror-inside s S v l) ∙ ap c (mirror-mirror t s S v ht hs l) ∙ ap (λ (n : ℕ). c (mirror n S v)) (xor-comm t s)
-
-pub image-refl : (S : ℕ) (a : Room) → Image S a a
-image-refl S a = (0, lit< tt, λ v l. refl)
 
 pub image-sym : (S : ℕ) (a b : Room) → Image S a b → Image S b a
 image-sym S a b (t, ht, e) = (t, ht, mirrored-sym t S a b e)

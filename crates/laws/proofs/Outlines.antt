@@ -8,7 +8,7 @@ use Prim.Native.Nat.{ℕ, zero, suc, _+_, _-_, _*_, _^_, _<_, _≤_}
 use native.Mathlib.Nat.{le-refl}
 use native.Mathlib.Omega.{arith}
 use borrow.Author.Tests.{eq-eqb}
-use lib.Dec.{T, eqb, leb, ltb, eqb→eq, leb→le, le→leb, lt→ltb, lit<}
+use lib.Dec.{T, eqb, leb, ltb, eqb→eq, leb→le, le→leb, lt→ltb}
 use lib.ListN.{length, take, drop, getD, length-drop, take-append-drop}
 use lib.Seq.{drop-cons, drop-drop, length-take-le}
 use Rattle.paper.specs.Numbers.{bytes, be, num}
@@ -18,9 +18,9 @@ use Rattle.paper.specs.Outline.{Tree, none, treeVoxel, Read, bad, ok, readRecor
 use Rattle.paper.specs.Outline.{frontOk, lengthOk, fileDepth, outlineRead, outlineRules, outlineTree, fileRoom}
 use Rattle.paper.specs.Runs.{Bytes}
 use Rattle.laws.proofs.Tests.{true-T, and-left, and-right, and-T}
-use Rattle.laws.proofs.Bytes.{bytes-cons, bytes-append, bytes-take, bytes-drop, bytes-below, be-bytes, bytes-be, be-lt}
+use Rattle.laws.proofs.Bytes.{bytes-take, bytes-drop, be-bytes, bytes-be, be-lt}
 use Rattle.laws.proofs.OutlineCells.{nonEmpty-same, no-voxel-empty, empty-voxel}
-use Rattle.laws.proofs.OutlineWriting.{record-same, part-bytes, record-bytes, treeFor, tree-voxels}
+use Rattle.laws.proofs.OutlineWriting.{record-same, treeFor, tree-voxels}
 use Rattle.laws.proofs.OutlineReading.{record-read, OkRead, Recorded, record-written}
 
 -- refused by none of 3, 4, 5 and 6
@@ -35,9 +35,6 @@ pub record Accepted (bs : List ℕ) : Type 0 where
 -- a root is a cell of height k + 2 with k = D - 2
 pub depth-two : (D : ℕ) → T (depthOk D) → suc (suc (D - 2)) ≡ D
 depth-two D d = omega (arith, leb→le 2 D (and-left (leb least D) (leb D deepest) d))
-
-pub depth-byte : (D : ℕ) → T (depthOk D) → D < 256
-depth-byte D d = omega (arith, leb→le D 16 (and-right (leb least D) (leb D deepest) d))
 
 -- ---- the root's record
 
@@ -120,14 +117,6 @@ outline-read : (D : ℕ) (r : Room) → T (depthOk D) → outlineRead (outlineOf
 outline-read D r d = rw (written-depth D r, outline-rest D r) (root-read D r d)
 
 -- ---- written is read
-
-pub outline-bytes : (D : ℕ) (r : Room) → T (depthOk D) → Bytes (outlineOf D r)
-unfolding outlineOf rootRecord
-outline-bytes D r d =
-    let R : List ℕ = rootRecord D r in
-    let n : ℕ = outlineHead + length R in
-    bytes-append (outlineFront ∷ bytes 4 n) (D ∷ R) (bytes-cons outlineFront (bytes 4 n) (lit< tt) (bytes-below 4 n))
-    (bytes-cons D R (depth-byte D d) (part-bytes (nonEmpty (2 ^ D) r) (recordOf (D - 2) r) (record-bytes (D - 2) r)))
 
 pub written-accepted : (D : ℕ) (r : Room) → T (depthOk D) → T (leb (length (outlineOf D r)) longest) → Accepted (outlineOf D r)
 unfolding outlineRules

@@ -1,5 +1,6 @@
--- The lists of a packed file whose records are whole and whose pointers name starts: each start lies inside its list, its number fits a pointer,
--- and the graph's cell of that number is the record there. A record has two half-words or more. By induction along a list. Assumes nothing.
+-- The lists of a packed file: where they lie in it; and where records are whole and pointers name starts, each start lies inside its list, its
+-- number fits a pointer, and the graph's cell of that number is the record there. A record has two half-words or more. By induction along a list.
+-- Assumes nothing.
 use mathlib.Core.Path.{_≡_, refl, _∙_, ap}
 use mathlib.Core.Bool.{Bool, true, false, cond}
 use mathlib.Core.List.{List, [], _∷_, map}

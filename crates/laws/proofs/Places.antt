@@ -15,7 +15,7 @@ use Rattle.paper.specs.Numbers.{allBelow}
 use Rattle.paper.specs.Store.{Cell, cellsAt, cellAt, leafNo, badPointer, anyBad, heights, capacityOf, keptCount, cellWords, cellPlace, keptOf, cellUsable, listUsable}
 use Rattle.laws.proofs.Tests.{T-true, and-right, none-at}
 use Rattle.laws.proofs.Lists.{allIn-in}
-pub use Rattle.laws.proofs.Kept.{kept-list, kept-length}
+use Rattle.laws.proofs.Kept.{kept-length}
 use Rattle.laws.proofs.Kept.{kept-cell, kept-tall}
 use Rattle.laws.proofs.Invariant.{OkCell, OkCells, not-bad-ok}
 use Rattle.laws.proofs.Adding.{Sound}

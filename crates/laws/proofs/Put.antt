@@ -5,18 +5,12 @@ use mathlib.Core.List.{List, [], _∷_, _++_, append-assoc}
 use Prim.Native.Nat.{ℕ, zero, suc, _+_, _-_, _<_, _≤_}
 use native.Mathlib.Nat.{zero-add, add-suc, suc-add, sub-zero, zero-sub, suc-sub-suc}
 use native.Mathlib.Omega.{arith}
-use lib.ListN.{length, take, drop, getD, set, replicate, length-append, length-drop, length-set, length-replicate, List·getD-append}
-use lib.Seq.{length-take-le, take-append-add, drop-append-add, take-append-le, drop-append-le, getD-append-add, getD-take, getD-drop, set-append-left, sets, sets-eq}
+use lib.ListN.{length, take, drop, getD, set, replicate, length-append, length-set, length-replicate, List·getD-append}
+use lib.Seq.{length-take-le, drop-append-add, getD-append-add, getD-take, getD-drop, set-append-left, sets, sets-eq}
 
 -- c in place of as many words of l, from place a on
 unfoldable pub put : ℕ → List ℕ → List ℕ → List ℕ
 put a c l = take a l ++ (c ++ drop (a + length c) l)
-
-pub put-length : (a : ℕ) (c l : List ℕ) → a + length c ≤ length l → length (put a c l) ≡ length l
-unfolding put
-put-length a c l h =
-    length-append (take a l) (c ++ drop (a + length c) l) ∙ ap (λ (n : ℕ). length (take a l) + n) (length-append c (drop (a + length c) l))
-    ∙ omega (arith, length-take-le a l (omega arith), length-drop (a + length c) l)
 
 -- ---- reading
 
@@ -42,20 +36,6 @@ put-after a c l i d h k =
     ∙ getD-drop (a + length c) l j d ∙ ap (λ (n : ℕ). getD l n d) near
 
 -- ---- parts
-
-pub put-right : (j : ℕ) (c p q : List ℕ) → put (length p + j) c (p ++ q) ≡ p ++ put j c q
-unfolding put
-put-right j c p q =
-    let e : length p + j + length c ≡ length p + (j + length c) = omega arith in
-    ap₂ (λ (a b : List ℕ). a ++ (c ++ b)) (take-append-add p q j) (ap (λ (n : ℕ). drop n (p ++ q)) e ∙ drop-append-add p q (j + length c))
-    ∙ append-assoc p (take j q) (c ++ drop (j + length c) q)
-
-pub put-left : (a : ℕ) (c p q : List ℕ) → a + length c ≤ length p → put a c (p ++ q) ≡ put a c p ++ q
-unfolding put
-put-left a c p q h =
-    ap₂ (λ (x y : List ℕ). x ++ (c ++ y)) (take-append-le a p q (omega arith)) (drop-append-le (a + length c) p q h)
-    ∙ ap (λ (x : List ℕ). take a p ++ x) (sym (append-assoc c (drop (a + length c) p) q))
-    ∙ sym (append-assoc (take a p) (c ++ drop (a + length c) p) q)
 
 -- past the first part
 pub drop-past : (p q : List ℕ) (m n : ℕ) → length p ≡ m → drop (m + n) (p ++ q) ≡ drop n q

@@ -15,7 +15,8 @@ use Rattle.paper.specs.Outline.{edge, childOf, childFull, recordOf}
 use Rattle.paper.specs.Store.{Cell, heights, keptCount, keptOf, cellsAt, cellAt, tagOf, cellNo, leafNo, badPointer, storeOk}
 use Rattle.paper.specs.Meaning.{pointerVoxel, cellVoxel, rootRoom}
 use Rattle.laws.proofs.Places.{leaf-fits}
-use Rattle.laws.proofs.StoreFacts.{Words, depth-range, tag-lt, names-kept, cell-names, leaf-not-zero, cell-sound, some-pointer}
+use Rattle.laws.proofs.StoreFacts.{Words, depth-range, names-kept, cell-names, leaf-not-zero, cell-sound, some-pointer}
+use Rattle.laws.proofs.Matching.{tag-lt}
 use Rattle.laws.proofs.Tests.{none-at}
 use Rattle.laws.proofs.Eight.{xor8-lt}
 use Rattle.laws.proofs.Mirrors.{fromChild, mirror-inside, mirror-twice, mirror-mirror, mirror-fromChild, childNo-fromChild, inChild-fromChild, same-sym, same-trans}

@@ -1,6 +1,6 @@
 -- Whether the words of a fine store are undamaged is a test on its scenes and cells alone, whatever words follow. By what its words give back, and
 -- the zeros that fill up the header, the scenes and each list. Assumes nothing.
-use mathlib.Core.Path.{_≡_, sym, subst, ap, ap₂, _∙_}
+use mathlib.Core.Path.{_≡_, sym, ap, ap₂, _∙_}
 use mathlib.Core.Bool.{Bool, true, not, _&&_}
 use mathlib.Core.List.{List, [], _++_}
 use Prim.Native.Nat.{ℕ, suc, _+_, _-_, _*_, _<_}
@@ -10,14 +10,14 @@ use lib.Dec.{T, eqb}
 use lib.ListN.{length, drop, getD, length-append}
 use Rattle.paper.specs.Numbers.{allBelow, allIn}
 use Rattle.paper.specs.Rooms.{depthOk}
-use Rattle.paper.specs.Store.{Cell, Store, cellsAt, badPointer, mostScenes, heights, used, capacityOf, scenesHeld, keptCount, scenePlace, cellWords, listPlace, cellPlace}
-use Rattle.paper.specs.Store.{keptOf, storeOf, sceneDepth, sceneRoot, listWords, wordsOf, blank, capacityOk, headerOk, sceneOk, listUsable, scenesBlank, listBlank, storeOk}
+use Rattle.paper.specs.Store.{Cell, Store, cellsAt, badPointer, mostScenes, heights, capacityOf, scenesHeld, keptCount, scenePlace, cellWords, listPlace, cellPlace}
+use Rattle.paper.specs.Store.{keptOf, sceneDepth, sceneRoot, listWords, wordsOf, blank, capacityOk, headerOk, sceneOk, listUsable, scenesBlank, listBlank, storeOk}
 use Rattle.laws.proofs.Tests.{T-true, and-true, all-T, true-T, all-same}
 use Rattle.laws.proofs.Lists.{zeros-pass}
 use Rattle.laws.proofs.Kept.{scene-word}
 use Rattle.laws.proofs.Padded.{padded-blank}
 use Rattle.laws.proofs.Words.{storeWith, Fine, wordsOf-length, cells-sized, cells-few, zeros-from, scenes-from, cells-from, capacity-read, scenes-read, count-read, kept-read, storeOf-wordsOf}
-use Rattle.laws.proofs.Undamaged.{Headed, headed-ok, Undamaged, undamaged, depth-list, scenes-blank-at, list-blank-at, store-fine, wordsOf-storeOf}
+use Rattle.laws.proofs.Undamaged.{Headed, headed-ok, depth-list, scenes-blank-at, list-blank-at}
 
 -- a scene's depth is in range, and its root pointer not bad
 abbrev pub sceneSound : List (List Cell) → Cell → Bool
@@ -90,13 +90,3 @@ module _ (C : ℕ) (S : List Cell) (Ks : List (List Cell)) (f : Fine C S Ks) (l 
       (ap (λ (n : ℕ). allBelow n (sceneOk ws)) (scenes-read C S Ks f l) ∙ all-same (length S) (sceneOk ws) sound scene-sound)
       scenes-blank (ap (λ (K : List (List Cell)). allBelow heights (listUsable K)) (kept-read C S Ks f l))
       (T-true (all-T heights (listBlank ws) (λ k h. true-T (list-blank k h))))
-
--- so an undamaged store is sound
-pub undamaged-sound : (vs : List ℕ) → T (storeOk vs) → T (soundStore (storeOf vs))
-unfolding storeOf
-undamaged-sound vs t =
-    let u : Undamaged vs = undamaged vs t in
-    let s : Store = storeOf vs in
-    let rest : List ℕ = drop (used (capacityOf vs)) vs in
-    let again : T (storeOk (wordsOf s ++ rest)) = subst (λ (x : List ℕ). T (storeOk x)) (sym (wordsOf-storeOf vs u)) t in
-    subst T (sound-words (s .capacity) (s .scenes) (s .kept) (store-fine vs u) rest (u .capacity)) again

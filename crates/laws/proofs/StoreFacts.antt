@@ -1,20 +1,20 @@
 -- What an undamaged store says of its parts: header, scenes and lists are in order, a kept leaf has a bit, a kept cell a child, and every pointer
 -- that is there names a kept cell. By taking the test's parts one after the other. Assumes nothing.
 use mathlib.Core.Path.{_≡_, refl, sym, subst}
-use mathlib.Core.Bool.{Bool, true, false, not, _&&_, false≢true}
+use mathlib.Core.Bool.{Bool, true, false, not, false≢true}
 use mathlib.Core.List.{List, []}
-use Prim.Native.Nat.{ℕ, zero, suc, _-_, _/_, _^_, _<_, _≤_}
-use native.Mathlib.Nat.{mod-lt}
+use Prim.Native.Nat.{ℕ, zero, suc, _-_, _^_, _<_, _≤_}
 use native.Mathlib.Omega.{arith}
+use borrow.Author.Tests.{eqb-false}
 use lib.Dec.{T, eqb, leb, lit<, leb→le, ltb→lt}
 use lib.ListN.{length, getD}
 use Rattle.paper.specs.Numbers.{both, allBelow}
 use Rattle.paper.specs.Rooms.{depthOk, least, deepest}
-use Rattle.paper.specs.Store.{Cell, heights, scenesHeld, keptCount, keptOf, cellsAt, cellAt, tagOf, cellNo, lowOf, leafNo, badPointer, anyBad, sceneDepth, sceneRoot, sceneOk, leafUsable, cellUsable, listUsable, storeOk}
-use Rattle.laws.proofs.Tests.{true-T, not-false, and-left, and-right, none-at}
+use Rattle.paper.specs.Store.{Cell, heights, scenesHeld, keptCount, keptOf, cellsAt, cellAt, cellNo, leafNo, badPointer, anyBad, sceneDepth, sceneRoot, sceneOk, leafUsable, cellUsable, listUsable, storeOk}
+use Rattle.laws.proofs.Tests.{not-false, and-left, and-right, none-at}
 use Rattle.laws.proofs.Kept.{kept-length}
-pub use Rattle.laws.proofs.Undamaged.{store-header}
 use Rattle.laws.proofs.Undamaged.{undamaged}
+use Rattle.laws.proofs.Invariant.{named-kept}
 use Rattle.laws.proofs.Lists.{allIn-in}
 
 -- words are below 2^32
@@ -37,19 +37,9 @@ all-fails-at (suc n) p e = go (p n) refl e (all-fails-at n p)
 pub depth-range : (D : ℕ) → T (depthOk D) → (least ≤ D) × (D ≤ deepest)
 depth-range D d = (leb→le least D (and-left (leb least D) (leb D deepest) d), leb→le D deepest (and-right (leb least D) (leb D deepest) d))
 
-pub tag-lt : (p : ℕ) → tagOf p < 8
-tag-lt p = mod-lt (p / 2 ^ 29) (lit< tt)
-
 -- a pointer that is there and not bad names a kept cell
 pub names-kept : (n p : ℕ) → badPointer n p ≡ false → eqb p 0 ≡ false → cellNo p < n
-names-kept n p b e =
-    let t : T (leb 1 (lowOf p) && leb (lowOf p) n) = true-T (go (leb 1 (lowOf p) && leb (lowOf p) n) (eqb p 0) b e) in
-    omega (arith, leb→le 1 (lowOf p) (and-left (leb 1 (lowOf p)) (leb (lowOf p) n) t), leb→le (lowOf p) n (and-right (leb 1 (lowOf p)) (leb (lowOf p) n) t))
-  where
-    go : (a z : Bool) → (not z && not a) ≡ false → z ≡ false → a ≡ true
-    go true z q r = refl
-    go false true q r = absurd (false≢true (sym r))
-    go false false q r = absurd (false≢true (sym q))
+names-kept n p b e = named-kept n p b (eqb-false p 0 e)
 
 pub cell-names : (n : ℕ) (c : Cell) → anyBad n c ≡ false → (i : ℕ) → i < 8 → eqb (getD c i 0) 0 ≡ false → cellNo (getD c i 0) < n
 cell-names n c b i h = names-kept n (getD c i 0) (none-at 8 (λ j. badPointer n (getD c j 0)) b i h)

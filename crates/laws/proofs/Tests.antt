@@ -1,7 +1,7 @@
 -- Tests passed and what they say: conjunctions, and tests over all or any of the numbers below n. By cases of the tests and induction on n.
 -- Assumes nothing.
 use mathlib.Core.Path.{_≡_, refl, sym, _∙_, ap, ap₂}
-use mathlib.Core.Bool.{Bool, true, false, false≢true, cond, not, _&&_, Bool·beq}
+use mathlib.Core.Bool.{Bool, true, false, false≢true, cond, not, _&&_, _||_, Bool·beq}
 use mathlib.Core.Logic.{_⊎_, inl, inr}
 use Prim.Native.Nat.{ℕ, zero, suc, _<_}
 use native.Mathlib.Nat.{le-of-suc-le-suc, not-suc-le-zero, le-refl, eq-or-lt-of-le}
@@ -51,6 +51,11 @@ pub iff-eq : (a b : Bool) → (T a → T b) → (T b → T a) → a ≡ b
 iff-eq true b f g = sym (T-true {b = b} (f tt))
 iff-eq false true f g = absurd (g tt)
 iff-eq false false f g = refl
+
+-- one of two
+pub or-split : (a b : Bool) → T (a || b) → T a ⊎ T b
+or-split true b t = inl tt
+or-split false b t = inr t
 
 -- ---- conjunctions
 

@@ -11,12 +11,11 @@ use lib.Seq.{take-add, drop-drop, length-take-le, ext-getD, getD-take, getD-drop
 use Rattle.paper.specs.Numbers.{tabulate, allBelow}
 use Rattle.paper.specs.Rooms.{depthOk}
 use Rattle.paper.specs.Store.{Cell, mostScenes, heights, used, capacityOf, scenesHeld, keptCount, zerosPlace, scenePlace, cellWords, listPlace, cellPlace, groups, keptIn, keptOf, storeOf, padded, listWords, headerWords, wordsOf, blank, capacityOk, headerOk, sceneOk, scenesBlank, listUsable, listBlank, storeOk}
-use Rattle.paper.specs.Calls.{over}
 use Rattle.laws.proofs.Tests.{true-T, and-right, and5, and5-T, all-at, all-T}
 use Rattle.laws.proofs.Lists.{map-at}
-pub use Rattle.laws.proofs.Kept.{groups-length, keptIn-length}
+use Rattle.laws.proofs.Kept.{groups-length}
 use Rattle.laws.proofs.Kept.{kept-length, kept-tall, held-length}
-pub use Rattle.laws.proofs.Padded.{groups-sized, blank-zeros, padded-groups}
+use Rattle.laws.proofs.Padded.{groups-sized, blank-zeros, padded-groups}
 use Rattle.laws.proofs.Words.{Lists, lnil, lcons, Fine, gap, gap-place, list-next, list-in, words-fit}
 
 -- ---- what the tests say
@@ -199,12 +198,6 @@ module _ (ws : List ℕ) (u : Undamaged ws) where
   -- the words are those of the store that they hold, and the rest of the slice
   pub wordsOf-storeOf : wordsOf (storeOf ws) ++ drop (used (capacityOf ws)) ws ≡ ws
   wordsOf-storeOf = ap (λ (x : List ℕ). x ++ drop (used (capacityOf ws)) ws) words-front ∙ take-append-drop (used (capacityOf ws)) ws
-
-  -- so writing its words again changes nothing
-  pub words-again : over (wordsOf (storeOf ws)) ws ≡ ws
-  words-again =
-      let n : ℕ = used (capacityOf ws) in
-      ap (λ (m : ℕ). wordsOf (storeOf ws) ++ drop m ws) (ap length words-front ∙ length-take-le n ws (u .long)) ∙ wordsOf-storeOf
 
   pub store-fine : Fine (capacityOf ws) (storeOf ws .scenes) (storeOf ws .kept)
   store-fine = header-fine ws (undamaged-headed u)

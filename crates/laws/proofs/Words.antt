@@ -8,9 +8,9 @@ use native.Mathlib.Omega.{arith}
 use lib.ListN.{length, take, drop, getD, set, replicate, length-append, length-replicate, length-map, length-set, List·getD-append}
 use lib.Seq.{sets, set-append-left, drop-at, ext-getD}
 use Rattle.paper.specs.Store.{Cell, Store, mostScenes, heights, used, capacityOf, scenesHeld, keptCount, zerosPlace, scenePlace, cellWords, listPlace, cellPlace, groups, keptIn, keptOf, storeOf, padded, listWords, headerWords, wordsOf}
-pub use Rattle.laws.proofs.Put.{set-right, sets-right, sets-left, drop-past}
+use Rattle.laws.proofs.Put.{sets-right, sets-left, drop-past}
 use Rattle.laws.proofs.Put.{put, stored-before}
-pub use Rattle.laws.proofs.Padded.{Sized, snil, scons, flatten-length, padded-length, sized-snoc, padded-snoc}
+use Rattle.laws.proofs.Padded.{Sized, padded-length, sized-snoc, padded-snoc}
 use Rattle.laws.proofs.Padded.{groups-padded}
 use Rattle.laws.proofs.Lists.{length-snoc, map-at}
 use Rattle.laws.proofs.Kept.{kept-list, kept-tall}

@@ -14,7 +14,7 @@ use borrow.Author.Tests.{leb-false, eqb-false}
 use Rattle.paper.specs.Numbers.{allBelow, bit, bitFor}
 use Rattle.paper.specs.Rooms.{point, flip, mirror}
 use Rattle.paper.specs.Leaf.{bitOf, voxelOf, leafVoxel, leafOf, mirrorLeaf}
-use Rattle.laws.proofs.Tests.{true-T, all-at, and-left, and-right}
+use Rattle.laws.proofs.Tests.{true-T, all-at, or-split, and-left, and-right}
 use Rattle.laws.proofs.Bits.{bit-lt, bit-suc, bits-ext, test-bitFor, gather-same, gather-bit, gather-bits, gather-lt}
 use Rattle.leaf.specs.Turns.{turned, pairs, swaps, both, axis}
 
@@ -73,10 +73,6 @@ and-one zero h = refl
 and-one (suc zero) h = refl
 and-one (suc (suc x)) h = absurd (omega arith)
 
-or-side : (a b : Bool) → T (a || b) → T a ⊎ T b
-or-side true b t = inl tt
-or-side false b t = inr t
-
 turned-bit : (s n k : ℕ) → k < 64 → bit (turned s n) k ≡ bit n (bitXor k s)
 unfolding turned
 turned-bit s n k h =
@@ -100,7 +96,7 @@ module _ (n below s : ℕ) where
   swap-bit k = go (eqb (bit below k) 1) refl
     where
       nothing : T (ltb k s || eqb (bit below (k - s)) 0) → bit (bitAnd n below * 2 ^ s) k ≡ 0
-      nothing t = by-sides (or-side (ltb k s) (eqb (bit below (k - s)) 0) t) (leb s k) refl
+      nothing t = by-sides (or-split (ltb k s) (eqb (bit below (k - s)) 0) t) (leb s k) refl
         where
           by-sides : T (ltb k s) ⊎ T (eqb (bit below (k - s)) 0) → (y : Bool) → leb s k ≡ y → bit (bitAnd n below * 2 ^ s) k ≡ 0
           by-sides (inl h) y e = up-low (bitAnd n below) s k (ltb→lt k s h)

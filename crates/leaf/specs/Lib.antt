@@ -1,1 +1,2 @@
+-- A leaf turned by bits that change places.
 pub mod Turns

@@ -11,7 +11,7 @@ use lib.Bits.{bitXor, xor-self, xor-comm}
 use borrow.Author.Tests.{leb-true, leb-false}
 use lib.Dec.{T, eqb, leb, eqb→eq}
 use Rattle.laws.proofs.Tests.{all-at, T-true, true-T}
-use Rattle.laws.proofs.Masks.{marked}
+use Rattle.laws.specs.Masks.{marked}
 use Rattle.laws.proofs.Eight.{eight3, xor8-lt, xor8-meet}
 use Rattle.least.specs.Keys.{Group, firstFrom, lowTag}
 

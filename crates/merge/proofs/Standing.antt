@@ -28,7 +28,8 @@ use Rattle.laws.proofs.Put.{set-right}
 use Rattle.laws.proofs.OutlineReading.{OkRead, bind-ok}
 use Rattle.laws.proofs.Words.{Fine, stored, keep-fine, capacity-read, count-read, kept-read}
 use Rattle.laws.proofs.Invariant.{OkPointer, OkCell}
-use Rattle.laws.proofs.Masks.{symmetries, maskFor, maskMatch, ChildMasks, mask-children}
+use Rattle.laws.specs.Masks.{symmetries, maskFor, maskMatch, ChildMasks}
+use Rattle.laws.proofs.Masks.{mask-children}
 use Rattle.laws.proofs.Growing.{ext-trans, ext-pointer, ext-mask}
 use Rattle.laws.proofs.Adding.{Answer, Sound, Done, Refused, addCell-done, addCell-mask}
 use Rattle.laws.proofs.Occurring.{Occurs}

@@ -18,7 +18,7 @@ use Rattle.paper.specs.Store.{Cell, cellsAt, pointer, mostCapacity, heights, ca
 use Rattle.laws.proofs.Tests.{and-right}
 use Rattle.laws.proofs.Undamaged.{Headed, headed}
 use Rattle.paper.specs.Match.{matches, find, leafCell}
-use Rattle.laws.proofs.Masks.{maskFor, maskMatch}
+use Rattle.laws.specs.Masks.{maskFor, maskMatch}
 use Rattle.keeping.specs.Keeping.{keepIn}
 use Rattle.merge.specs.declared.keep.Placed.the-variants as placed
 use Rattle.merge.specs.declared.record.Taken.the-variants.{At, Full}

@@ -4,27 +4,25 @@ ghost use mathlib.Core.Path.{_≡_};
 ghost use mathlib.Core.Bool.{not};
 ghost use Prim.Native.Nat.{_-_, _≤_};
 ghost use lib.ListN.{length};
-ghost use Rattle.paper.specs.Rooms.{least, deepest, depthOk};
+ghost use Rattle.paper.specs.Rooms.{least, deepest};
 ghost use Rattle.paper.specs.Outline.{outlineHead, frontOk, lengthOk, fileDepth, outlineRules};
 ghost use Rattle.paper.specs.Order.{firstOf};
 ghost use Rattle.paper.specs.Calls.{outlineOrder};
 ghost use Rattle.paper.specs.Answers.{numberOf};
 ghost use Rattle.outline.specs.Heads.{headNumber};
 ghost use Rattle.outline.specs.Positions.{leafAt, childrenAt, recordAt};
+use limits::CHILDREN;
+use limits::DEPTH_PLACE;
+use limits::LEAF_BYTES;
+use limits::LEAF_HEIGHT;
+use limits::LENGTH_PLACE;
+use limits::OUTLINE_FRONT;
+use limits::OUTLINE_HEAD;
 use numbers::be32;
 use numbers::be64;
 use numbers::wide;
 use paper::Refusal;
-
-// An outline's first byte, and the bytes before the root's record.
-const FRONT: u8 = 0x11;
-
-pub const HEAD: usize = 6;
-
-// The height of a leaf, also the least depth; the greatest depth.
-pub const LEAF: u32 = 2;
-
-const DEEPEST: u32 = 16;
+use points::depth_bad;
 
 // What reading a record answers: it breaks the rules, or the position after it.
 pub enum Reading {
@@ -57,7 +55,7 @@ fn length_bad(file: &[u8], head: usize) -> bool
     if file.len() < head {
         return true;
     }
-    field(be32(file, 1)) != file.len()
+    field(be32(file, LENGTH_PLACE)) != file.len()
 }
 
 // A file's depth: byte 5.
@@ -65,33 +63,23 @@ pub fn depth(file: &[u8]) -> u32
     requires { ⌜ 6 ≤ length (now file) ⌝ }
     ensures { λ r. ⌜ r ≡ fileDepth (now (file .entry)) ⌝ }
 {
-    wide(file[5])
-}
-
-// Whether a depth is not 2 to 16.
-pub fn depth_bad(depth: u32) -> bool
-    ensures { λ r. ⌜ r ≡ not (depthOk depth) ⌝ }
-{
-    if depth < LEAF {
-        return true;
-    }
-    DEEPEST < depth
+    wide(file[DEPTH_PLACE])
 }
 
 // A leaf's record: eight bytes, not zero.
 fn leaf(file: &[u8], at: usize) -> Reading
     ensures { λ r. ⌜ r ≡ leafAt (now (file .entry)) at ⌝ }
 {
-    if file.len() < 8 {
+    if file.len() < LEAF_BYTES {
         return Reading::Broken;
     }
-    if file.len() - 8 < at {
+    if file.len() - LEAF_BYTES < at {
         return Reading::Broken;
     }
     if be64(file, at) == 0 {
         return Reading::Broken;
     }
-    Reading::EndsAt(at + 8)
+    Reading::EndsAt(at + LEAF_BYTES)
 }
 
 // The record of a cell of this height: a leaf's, or a mask byte, not zero, and the children's records.
@@ -99,7 +87,7 @@ pub fn record(file: &[u8], at: usize, height: u32) -> Reading
     requires { ⌜ (least ≤ height) × (height ≤ deepest) ⌝ }
     ensures { λ r. ⌜ r ≡ recordAt (now (file .entry)) (height - 2) at ⌝ }
 {
-    if height == LEAF {
+    if height == LEAF_HEIGHT {
         return leaf(file, at);
     }
     if file.len() <= at {
@@ -109,7 +97,7 @@ pub fn record(file: &[u8], at: usize, height: u32) -> Reading
     if mask == 0 {
         return Reading::Broken;
     }
-    children(file, at + 1, height - 1, 8, mask)
+    children(file, at + 1, height - 1, CHILDREN, mask)
 }
 
 // The records of the children of this height that are left; the lowest bit of the mask is for the first of them.
@@ -135,10 +123,10 @@ pub fn rules_bad(file: &[u8]) -> bool
     requires { ⌜ (outlineHead ≤ length (now file)) × (least ≤ fileDepth (now file)) × (fileDepth (now file) ≤ deepest) ⌝ }
     ensures { λ r. ⌜ r ≡ not (outlineRules (now (file .entry))) ⌝ }
 {
-    if file.len() == HEAD {
+    if file.len() == OUTLINE_HEAD {
         return false;
     }
-    match record(file, HEAD, depth(file)) {
+    match record(file, OUTLINE_HEAD, depth(file)) {
         Reading::Broken => true,
         Reading::EndsAt(end) => end != file.len(),
     }
@@ -167,7 +155,7 @@ pub fn head_number(file: &[u8], front: u8, head: usize) -> u32
 pub fn refusal(file: &[u8]) -> u32
     ensures { λ r. ⌜ r ≡ firstOf (outlineOrder (now (file .entry))) ⌝ }
 {
-    let number = head_number(file, FRONT, HEAD);
+    let number = head_number(file, OUTLINE_FRONT, OUTLINE_HEAD);
     if number != 0 {
         return number;
     }

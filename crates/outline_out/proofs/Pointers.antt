@@ -19,7 +19,8 @@ use Rattle.laws.proofs.Bits.{gather-same}
 use Rattle.laws.proofs.Lists.{tabulate-same}
 use Rattle.laws.proofs.Bytes.{bytes-length}
 use Rattle.laws.proofs.OutlineWriting.{record-same}
-use Rattle.laws.proofs.StoreFacts.{Words, tag-lt, names-kept, cell-names, cell-sound, scene-sound, depth-range}
+use Rattle.laws.proofs.StoreFacts.{Words, names-kept, cell-names, cell-sound, scene-sound, depth-range}
+use Rattle.laws.proofs.Matching.{tag-lt}
 use Rattle.laws.proofs.Records.{seenRoom, leaf-record, child-full, child-room, root-full, root-room}
 use Rattle.outline_out.specs.Record.{pointerAt, maskAt, partAt, childrenAt, recordAt, partMeasure, childrenMeasure, measureAt, rootAt, fileAt, sceneFile}
 

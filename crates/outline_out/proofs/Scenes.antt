@@ -11,7 +11,9 @@ use borrow.Author.Tests.{eq-eqb, ne-eqb}
 use Rattle.paper.specs.Rooms.{least, deepest}
 use Rattle.paper.specs.Outline.{outlineFront, outlineHead}
 use Rattle.paper.specs.Store.{Cell, mostScenes, scenesHeld, keptCount, tagOf, cellNo, badPointer, sceneDepth, sceneRoot, storeOk}
-use Rattle.laws.proofs.StoreFacts.{store-header, scene-sound, tag-lt, names-kept, depth-range}
+use Rattle.laws.proofs.StoreFacts.{scene-sound, names-kept, depth-range}
+use Rattle.laws.proofs.Undamaged.{store-header}
+use Rattle.laws.proofs.Matching.{tag-lt}
 use Rattle.store.proofs.HeaderFacts.{header}
 use Rattle.numbers.specs.Laid.{headOf}
 use Rattle.outline_out.specs.Record.{recordAt, measureAt, rootAt, fileAt}

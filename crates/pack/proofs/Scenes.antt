@@ -19,7 +19,8 @@ use Rattle.laws.proofs.Bytes.{bytes-length}
 use Rattle.laws.proofs.Lists.{map-at, getD-count}
 use Rattle.laws.proofs.Kept.{kept-length}
 use Rattle.laws.proofs.Tests.{none-at}
-use Rattle.laws.proofs.StoreFacts.{store-header, names-kept, cell-sound}
+use Rattle.laws.proofs.StoreFacts.{names-kept, cell-sound}
+use Rattle.laws.proofs.Undamaged.{store-header}
 use Rattle.laws.proofs.Invariant.{OkPointer, not-bad-ok}
 use Rattle.laws.proofs.RecordSizes.{list-length, size-le}
 use Rattle.laws.proofs.PackedReached.{Chosen, numbers, Pointing, chosen, listed}

@@ -3,48 +3,25 @@
 use mathlib.Core.Path.{_≡_, refl, sym, _∙_, ap, ap₂}
 use mathlib.Core.Bool.{Bool, true, false, not, cond}
 use mathlib.Core.List.{List}
-use Prim.Native.Nat.{ℕ, zero, suc, _+_, _-_, _*_, _%_, _^_, _≤_, _<_}
-use native.Mathlib.Nat.{mod-eq-of-lt, zero-add}
+use Prim.Native.Nat.{ℕ, zero, suc, _+_, _-_, _*_, _≤_, _<_}
+use native.Mathlib.Nat.{zero-add}
 use native.Mathlib.Decide.{decLt}
 use native.Mathlib.Numerals.{add-one}
 use native.Mathlib.Omega.{arith}
 use borrow.Author.Tests.{lt-ltb, le-ltb, le-leb, lt-leb, eq-eqb, ne-eqb, eqb-true, eqb-false}
 use lib.Dec.{T, eqb, leb, ltb, eqb·suc-zero}
 use lib.ListN.{length, getD, set, replicate}
-use lib.Pow.{pow-mono}
 use lib.Seq.{getD-set-same, getD-set-other, ext-getD}
 use Rattle.paper.specs.Numbers.{tabulate}
-use Rattle.paper.specs.Rooms.{point, least, deepest}
+use Rattle.paper.specs.Rooms.{least}
 use Rattle.paper.specs.Outline.{fileDepth}
 use Rattle.paper.specs.Store.{heights}
 use Rattle.paper.specs.Packed.{packedHead, emptyMark, rootTag, isEmpty, topOf, sizeAt, tailAt, startAt, sizesOk, rootOk, headOk, startsOf}
-use Rattle.paper.specs.Calls.{packedOutside}
 use Rattle.laws.proofs.Tests.{and-true, and-right}
 use Rattle.laws.proofs.Lists.{getD-tabulate, length-tabulate, zeros-at}
 use Rattle.laws.proofs.PackedLists.{Whole, sizes-whole, tail-in}
 use Rattle.packed.specs.Header.{frontOf, shareAt, lastLists}
-use Rattle.packed.proofs.Reading.{leb-not, ltb-suc}
-
--- ---- refusal 10
-
-pub edge-fits : (D : ℕ) → D ≤ deepest → 1 * 2 ^ D % 4294967296 ≡ 2 ^ D
-edge-fits D h =
-    let m : 2 ^ D ≤ 65536 = pow-mono h in
-    let l : 1 * 2 ^ D < 4294967296 = omega arith in
-    mod-eq-of-lt l ∙ omega arith
-
-module _ (bs : List ℕ) (x y z : ℕ) where
-  pub outside-x : 2 ^ fileDepth bs ≤ x → true ≡ packedOutside bs (point x y z)
-  unfolding packedOutside
-  outside-x h = rw (le-ltb x (2 ^ fileDepth bs) h) refl
-
-  pub outside-y : x < 2 ^ fileDepth bs → 2 ^ fileDepth bs ≤ y → true ≡ packedOutside bs (point x y z)
-  unfolding packedOutside
-  outside-y l h = rw (lt-ltb x (2 ^ fileDepth bs) l, le-ltb y (2 ^ fileDepth bs) h) refl
-
-  pub outside-z : x < 2 ^ fileDepth bs → y < 2 ^ fileDepth bs → leb (2 ^ fileDepth bs) z ≡ packedOutside bs (point x y z)
-  unfolding packedOutside
-  outside-z l m = rw (lt-ltb x (2 ^ fileDepth bs) l, lt-ltb y (2 ^ fileDepth bs) m) (leb-not (2 ^ fileDepth bs) z)
+use Rattle.packed.proofs.Reading.{ltb-suc}
 
 -- ---- the sizes
 

@@ -3,7 +3,6 @@ pub mod Reading
 pub mod Header
 pub mod Records
 pub mod CodeSums
-pub mod Seen
 pub mod Steps
 pub mod Lists
 pub mod Ways

@@ -22,7 +22,8 @@ use Rattle.laws.proofs.PackedLists.{Whole, tail-in, leaves-length}
 use Rattle.packed.specs.declared.Reached.the-variants.{Solid, Empty}
 use Rattle.packed.specs.Header.{frontOf}
 use Rattle.packed.specs.Records.{takenOk}
-use Rattle.packed.specs.Walk.{reached, plus, if-ok, seenAt, leafEnd, wayAt}
+use Rattle.packed.specs.Walk.{reached, plus, if-ok, leafEnd, wayAt}
+use Rattle.points.specs.Seeing.{seenAt}
 use Rattle.packed.proofs.Steps.{less-one}
 
 -- ---- the paper's walk, as the code answers it
@@ -76,7 +77,6 @@ inside-top bs deep v out =
     subst (λ (n : ℕ). Inside (2 ^ n) v) e i
 
 pub seen-whole : (k m : ℕ) (v : Point) → Inside (edge k) v → seenAt k m v ≡ mirror m (edge k) v
-unfolding seenAt
 seen-whole k m v i =
     let e : inChild (edge k) v ≡ v = λ j. point (mod-eq-of-lt (i .inX) j) (mod-eq-of-lt (i .inY) j) (mod-eq-of-lt (i .inZ) j) in
     ap (mirror m (edge k)) e

@@ -1,7 +1,7 @@
 -- A number of two bytes at a place, high byte first, from its bytes; and comparisons turned round.
 -- By taking the bytes off the list one at a time. Assumes nothing.
-use mathlib.Core.Path.{_≡_, refl, sym, ap}
-use mathlib.Core.Bool.{Bool, true, false, not}
+use mathlib.Core.Path.{_≡_, refl}
+use mathlib.Core.Bool.{Bool, true, false}
 use mathlib.Core.List.{List, _∷_}
 use Prim.Native.Nat.{ℕ, suc, _+_, _*_, _≤_}
 use native.Mathlib.Numerals.{add-one}
@@ -11,16 +11,8 @@ use lib.Dec.{leb, ltb}
 use lib.ListN.{length, drop, getD}
 use lib.Seq.{drop-cons}
 use Rattle.paper.specs.Numbers.{be, num}
-pub use Rattle.laws.proofs.Tests.{ltb-not}
 
 -- ---- comparisons
-
-pub leb-not : (a b : ℕ) → leb a b ≡ not (ltb b a)
-leb-not a b = go (leb a b) refl
-  where
-    go : (c : Bool) → leb a b ≡ c → c ≡ not (ltb b a)
-    go true e = ap not (sym (le-ltb b a (leb-true a b e)))
-    go false e = ap not (sym (lt-ltb b a (leb-false a b e)))
 
 pub ltb-suc : (a b : ℕ) → ltb a (suc b) ≡ leb a b
 ltb-suc a b = go (leb a b) refl

@@ -14,11 +14,10 @@ use lib.Seq.{drop-drop}
 use Rattle.paper.specs.Numbers.{be, num, bitFor}
 use Rattle.paper.specs.Store.{leafNo}
 use Rattle.paper.specs.Packed.{Link, linkOf, noLink, headerAt, halves, codesOk, readLinks, linksAt, recordOk, leafAt, codeFor}
-use Rattle.laws.proofs.Tests.{and-left, and-right, all-at, all-at2}
-pub use Rattle.laws.proofs.PackedLists.{halves-one}
+use Rattle.laws.proofs.Tests.{and-left, and-right, all-at, all-at2, ltb-not}
+use Rattle.laws.proofs.PackedLists.{halves-one}
 use Rattle.numbers.proofs.Sums.{eight-bytes}
 use Rattle.packed.specs.Records.{codeAt, takenOk}
-use Rattle.packed.proofs.Reading.{ltb-not}
 
 -- ---- codes and half-words
 
@@ -28,10 +27,6 @@ code-suc i h = ap (λ (n : ℕ). n % 4) (ap (λ (n : ℕ). h / n) (pow-succ' 4 i
 -- the two bits of child i, as code shifts to them
 pub code-shift : (i h : ℕ) → i < 8 → h / 2 ^ (2 * i) % 4 ≡ codeAt i h
 code-shift i h l = ap (λ (n : ℕ). h / n % 4) (eqb→eq (2 ^ (2 * i)) (4 ^ i) (all-at 8 (λ j. eqb (2 ^ (2 * j)) (4 ^ j)) tt i l))
-
-pub halves-none : (h : ℕ) → halves 0 h ≡ 1
-unfolding halves
-halves-none h = refl
 
 -- one child less
 pub halves-less : (n h : ℕ) → 0 < n → halves n h ≡ h % 4 + halves (n - 1) (h / 4)

@@ -18,8 +18,9 @@ use Rattle.paper.specs.Packed.{Link, noLink, linksAt, leafAt, recordOk, leafOk}
 use Rattle.packed.specs.declared.Reached.{Reached}
 use Rattle.packed.specs.declared.Reached.the-variants.{Broken, Solid, Empty}
 use Rattle.packed.specs.Records.{takenOk}
-use Rattle.packed.specs.Walk.{ends, plus, if-ok, seenAt, octant, leafEnd, wayAt}
-use Rattle.packed.proofs.Seen.{child-seen, in-seen, tag-seen}
+use Rattle.packed.specs.Walk.{ends, plus, if-ok, leafEnd, wayAt}
+use Rattle.points.specs.Seeing.{seenAt, octant}
+use Rattle.points.proofs.Seen.{child-seen, in-seen, tag-seen}
 
 pub plus-one : (n : ℕ) (r : Reached) → plus (n + 1) r ≡ plus n (plus 1 r)
 plus-one n Broken = refl
@@ -63,7 +64,7 @@ module _ (L : ℕ → List ℕ) (N : ℕ → ℕ) (p m : ℕ) (v : Point) (hm : 
       let then : Link → Point → Reached = λ r u.
       cond (eqb (r .code) 0) (Empty 1) (if-ok (takenOk (N j) r) (plus 1 (wayAt L N j (r .place) (mirror (r .tag) (edge j) u)))) in
       ap (if-ok (recordOk (L (suc j)) p))
-      (ap₂ then (ap (λ (i : ℕ). getD (linksAt (L (suc j)) p) i noLink) (child-seen j v m hm) ∙ e) (in-seen j v m hm)
+      (ap₂ then (ap (λ (i : ℕ). getD (linksAt (L (suc j)) p) i noLink) (child-seen j m v hm) ∙ e) (in-seen j m v hm)
       ∙ ap (λ (u : Point). cond (eqb (q .code) 0) (Empty 1) (if-ok (takenOk (N j) q) (plus 1 (wayAt L N j (q .place) u)))) (tag-seen j (q .tag) m v ht hm))
 
   pub step : (k : ℕ) → 0 < k → (q : Link) → q ≡ getD (linksAt (L k) p) (bitXor (octant (k - 1) v) m) noLink → q .tag < 8

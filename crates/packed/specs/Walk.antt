@@ -2,7 +2,7 @@
 -- mirror in force, and each link's tag joins that mirror. Definitions only.
 use mathlib.Core.Bool.{Bool, true, false, cond}
 use mathlib.Core.List.{List}
-use Prim.Native.Nat.{ℕ, zero, suc, _+_, _*_, _/_, _%_}
+use Prim.Native.Nat.{ℕ, zero, suc, _+_}
 use lib.Dec.{eqb}
 use lib.ListN.{length, getD}
 use Rattle.paper.specs.Rooms.{Point, mirror, childNo, inChild}
@@ -42,14 +42,6 @@ plus n (Empty m) = Empty (n + m)
 abbrev pub if-ok : Bool → Reached → Reached
 if-ok true r = r
 if-ok false r = Broken
-
--- the voxel v of a room, as a cell of height k + 2 sees it under the mirror in force
-unfoldable pub seenAt : ℕ → ℕ → Point → Point
-seenAt k m v = mirror m (edge k) (inChild (edge k) v)
-
--- the child of height k + 2 that holds v, in a cell of which no coordinate is reduced
-abbrev pub octant : ℕ → Point → ℕ
-octant k v = v .x / edge k % 2 + 2 * (v .y / edge k % 2) + 4 * (v .z / edge k % 2)
 
 -- at leaf p, w the voxel as the leaf sees it
 unfoldable pub leafEnd : List ℕ → ℕ → Point → Reached

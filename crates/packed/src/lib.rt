@@ -3,11 +3,10 @@ ghost use mathlib.Core.Path.{_≡_};
 ghost use mathlib.Core.Bool.{true, false, not};
 ghost use mathlib.Core.List.{[]};
 ghost use Prim.Native.Nat.{suc, _+_, _-_, _*_, _%_, _^_, _≤_, _<_};
-ghost use lib.Dec.{T, eqb};
+ghost use lib.Dec.{T};
 ghost use lib.ListN.{length, drop, getD};
 ghost use Rattle.paper.specs.Numbers.{num};
-ghost use Rattle.paper.specs.Rooms.{point, flip};
-ghost use Rattle.paper.specs.Leaf.{leafVoxel};
+ghost use Rattle.paper.specs.Rooms.{point};
 ghost use Rattle.paper.specs.Outline.{frontOk, lengthOk};
 ghost use Rattle.paper.specs.Store.{leafNo};
 ghost use Rattle.paper.specs.Packed.{packedFront, packedHead, emptyMark, rootTag, topOf, sizeAt, listAt, headOk, startsOf, halves, codesOk, headerAt, recordOk, linkOf, linksAt, noLink, codeFor, leafAt, wayIn};
@@ -15,7 +14,8 @@ ghost use Rattle.paper.specs.Answers.{outcome, found};
 ghost use Rattle.paper.specs.Calls.{packedOutside, packedVoxelOutcome};
 ghost use Rattle.packed.specs.Header.{Tested, Sized, Opens, shareAt, lastLists};
 ghost use Rattle.packed.specs.Records.{linkIs, takenOk};
-ghost use Rattle.packed.specs.Walk.{foundAt, reached, plus, leafEnd, seenAt, octant, wayAt};
+ghost use Rattle.packed.specs.Walk.{foundAt, reached, plus, leafEnd, wayAt};
+ghost use Rattle.points.specs.Seeing.{seenAt};
 use limits::CHILDREN;
 use limits::DEPTH_PLACE;
 use limits::EMPTY_MARK;
@@ -34,6 +34,9 @@ use outline::file_refusal;
 use outline::head_number;
 use paper::Found;
 use paper::Refusal;
+use points::leaf_solid;
+use points::octant;
+use points::outside;
 
 // The low bit of each of a header's eight codes.
 const LOW_BITS: u32 = 0x5555;
@@ -75,18 +78,11 @@ pub fn two(s: &[u8], at: usize) -> u32
 // ---- the header
 
 // Refusal 10: the point is outside.
-fn outside(file: &[u8], x: u32, y: u32, z: u32) -> bool
+fn point_outside(file: &[u8], x: u32, y: u32, z: u32) -> bool
     requires { ⌜ Tested (now file) ⌝ }
     ensures { λ r. ⌜ r ≡ packedOutside (now (file .entry)) (point x y z) ⌝ }
 {
-    let edge = 1u32 << wide(file[5]);
-    if edge <= x {
-        return true;
-    }
-    if edge <= y {
-        return true;
-    }
-    edge <= z
+    outside(wide(file[DEPTH_PLACE]), x, y, z)
 }
 
 // The size of list k: half-words, or leaves for list 0.
@@ -285,32 +281,6 @@ pub fn leaf(leaves: &[u8], place: u32) -> u64
 
 // ---- the walk
 
-// Which child of edge 2^h holds a point.
-fn octant(h: u32, x: u32, y: u32, z: u32) -> u32
-    requires { ⌜ (2 ≤ h) × (h < 32) ⌝ }
-    ensures { λ r. ⌜ (r ≡ octant (h - 2) (point x y z)) × (r < 8) ⌝ }
-{
-    (x >> h) % 2 + 2 * ((y >> h) % 2) + 4 * ((z >> h) % 2)
-}
-
-// A coordinate of a leaf, mirrored where the mark is 1.
-fn turned(mark: u32, c: u32) -> u32
-    requires { ⌜ c < 4 ⌝ }
-    ensures { λ r. ⌜ (r ≡ flip (eqb mark 1) 4 c) × (r < 4) ⌝ }
-{
-    if mark == 1 { 3 - c } else { c }
-}
-
-// Whether a point is solid in a leaf that is seen under a mirror.
-fn solid(leaf: u64, mirror: u32, x: u32, y: u32, z: u32) -> bool
-    ensures { λ r. ⌜ r ≡ leafVoxel leaf (seenAt 0 mirror (point x y z)) ⌝ }
-{
-    let a = turned(mirror % 2, x % 4);
-    let b = turned(mirror / 2 % 2, y % 4);
-    let c = turned(mirror / 4 % 2, z % 4);
-    (leaf >> (a + 4 * b + 16 * c)) % 2 == 1
-}
-
 // How the walk ends in a leaf, after `read` records.
 fn in_leaf(leaves: &[u8], place: u32, mirror: u32, x: u32, y: u32, z: u32, read: u32) -> Reached
     requires { ⌜ length (now leaves) % 8 ≡ 0 ⌝ }
@@ -321,7 +291,7 @@ fn in_leaf(leaves: &[u8], place: u32, mirror: u32, x: u32, y: u32, z: u32, read:
     if bits == 0 {
         return Reached::Broken;
     }
-    if solid(bits, mirror, x, y, z) {
+    if leaf_solid(bits, mirror, x, y, z) {
         return Reached::Solid(read + 1);
     }
     Reached::Empty(read + 1)
@@ -344,7 +314,7 @@ fn walk(file: &[u8], x: u32, y: u32, z: u32) -> Reached
         if record_bad(list, place) {
             return Reached::Broken;
         }
-        let taken = pointer_at(list, place, octant(k + 1, x, y, z) ^ mirror);
+        let taken = pointer_at(list, place, octant(k - 1, x, y, z) ^ mirror);
         if taken.code == 0 {
             return Reached::Empty(top - k + 1);
         }
@@ -391,7 +361,7 @@ pub fn packed_voxel(file: &[u8], x: u32, y: u32, z: u32) -> Found
     if number != 0 {
         return Found::Refused(file_refusal(number));
     }
-    if outside(file, x, y, z) {
+    if point_outside(file, x, y, z) {
         return Found::Refused(Refusal::Outside);
     }
     if head_bad(file) {
@@ -406,7 +376,7 @@ pub fn voxel_in(file: &[u8], x: u32, y: u32, z: u32) -> Found
     requires { ⌜ (frontOk packedFront (now file) ≡ true) × (lengthOk packedHead (now file) ≡ true) ⌝ }
     ensures { λ r. ⌜ outcome (found r) [] ≡ packedVoxelOutcome (now (file .entry)) (point x y z) ⌝ }
 {
-    if outside(file, x, y, z) {
+    if point_outside(file, x, y, z) {
         return Found::Refused(Refusal::Outside);
     }
     answer(way_in(file, x, y, z))

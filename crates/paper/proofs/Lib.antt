@@ -1,1 +1,2 @@
+-- The samples, computed.
 pub mod Samples

@@ -1,3 +1,4 @@
+-- Document 01, a file for each section: numbers and lists, then rooms, files, store, questions; the calls; samples and claims.
 pub mod Numbers
 pub mod Rooms
 pub mod Leaf

@@ -13,8 +13,8 @@ use borrow.Author.Tests.{ne-eqb}
 use Rattle.paper.specs.Store.{Cell, heights, capacityOf, keptCount, keptOf, cellAt, storeOk}
 use Rattle.paper.specs.Pack.{width}
 use Rattle.laws.proofs.Lists.{tabulate-same}
-use Rattle.laws.proofs.Undamaged.{headed}
-use Rattle.laws.proofs.StoreFacts.{store-header, cell-sound, cell-names}
+use Rattle.laws.proofs.Undamaged.{headed, store-header}
+use Rattle.laws.proofs.StoreFacts.{cell-sound, cell-names}
 use Rattle.numbers.specs.Laid.{Reached, reached}
 use Rattle.order.specs.Scratch.{orderPlace, placePlace}
 use Rattle.placing.specs.Placing.{placesIn, orderIn, span, placing, placedList, placed, onto, listPlaced, placedLists, Below, Kept}

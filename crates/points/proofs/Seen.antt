@@ -2,7 +2,7 @@
 -- seen under that mirror; a pointer's tag joins the mirror. From the mirror laws, once over the edge. Assumes nothing.
 use mathlib.Core.Path.{_≡_, ap, _∙_}
 use Prim.Native.Nat.{ℕ, suc, _+_, _*_, _/_, _%_, _<_}
-use native.Mathlib.Nat.{pow-succ', mod-lt}
+use native.Mathlib.Nat.{mod-lt}
 use native.Mathlib.Omega.{arith}
 use lib.Arith.{mod-mul, digits-div, digits-mod}
 use lib.Bits.{bitXor}
@@ -13,6 +13,7 @@ use Rattle.paper.specs.Outline.{edge}
 use Rattle.paper.specs.Store.{tagOf}
 use Rattle.laws.proofs.Eight.{xor8-lt}
 use Rattle.laws.proofs.Matching.{tag-lt}
+use Rattle.laws.proofs.OutlineWriting.{edge-twice}
 use Rattle.laws.proofs.Mirrors.{mirror-mirror, childNo-mirror, inChild-mirror}
 use Rattle.points.specs.Seeing.{octant, seenAt}
 
@@ -42,20 +43,17 @@ two-pos S h = omega arith
 pub edge-pos : (k : ℕ) → 0 < edge k
 edge-pos k = pow-pos (suc (suc k))
 
-pub edge-double : (k : ℕ) → edge (suc k) ≡ 2 * edge k
-edge-double k = pow-succ' 2 (suc (suc k))
-
 -- the child that holds it
 pub child-seen : (k m : ℕ) (v : Point) → m < 8 → childNo (edge k) (seenAt (suc k) m v) ≡ bitXor (octant k v) m
 child-seen k m v hm =
-    ap (λ (E : ℕ). childNo (edge k) (mirror m E (inChild E v))) (edge-double k)
+    ap (λ (E : ℕ). childNo (edge k) (mirror m E (inChild E v))) (edge-twice k)
     ∙ childNo-mirror m (edge k) (inChild (2 * edge k) v) hm (reduced-inside (2 * edge k) v (two-pos (edge k) (edge-pos k)))
     ∙ ap (λ (n : ℕ). bitXor n m) (child-reduced (edge k) v (edge-pos k))
 
 -- where it lies there
 pub in-seen : (k m : ℕ) (v : Point) → m < 8 → inChild (edge k) (seenAt (suc k) m v) ≡ seenAt k m v
 in-seen k m v hm =
-    ap (λ (E : ℕ). inChild (edge k) (mirror m E (inChild E v))) (edge-double k)
+    ap (λ (E : ℕ). inChild (edge k) (mirror m E (inChild E v))) (edge-twice k)
     ∙ inChild-mirror m (edge k) (inChild (2 * edge k) v) hm (reduced-inside (2 * edge k) v (two-pos (edge k) (edge-pos k)))
     ∙ ap (mirror m (edge k)) (in-reduced (edge k) v (edge-pos k))
 

@@ -16,12 +16,12 @@ use Rattle.paper.specs.Packed.{topOf, sizeAt, tailAt, listAt, headerAt, halves,
 use Rattle.paper.specs.Runs.{Bytes}
 use Rattle.laws.proofs.Tests.{and-left, and-T}
 use Rattle.laws.proofs.Lists.{in-nil, in-cons, allIn-isIn, count-below, allIn-head, allIn-tail, allIn-at, allIn-in, allIn-T, At, isIn-at, isIn-getD}
-use Rattle.laws.proofs.PackedLists.{list-bytes}
+use Rattle.laws.proofs.PackedLists.{list-bytes, record-two}
 use Rattle.laws.proofs.PackedWalk.{SoundLists}
 use Rattle.popular.specs.Places.{unitAt, popularAt, popularRules}
 use Rattle.popular.specs.Counting.{countOf, countRecords, linkFits, countable, countsFall}
 use Rattle.popular.proofs.InFile.{tail-inside, list-length}
-use Rattle.alike.proofs.Along.{record-two, record-wide}
+use Rattle.alike.proofs.Along.{record-wide}
 use Rattle.popular.proofs.Counts.{Roomy, Lands, counted, times-few}
 use Rattle.popular.proofs.Falls.{falls-rules, falling-same}
 

@@ -23,7 +23,8 @@ use Rattle.laws.proofs.Bytes.{bytes-drop}
 use Rattle.laws.proofs.Eight.{xor8-lt}
 use Rattle.laws.proofs.Adding.{pointer-cell, pointer-tag}
 use Rattle.laws.proofs.Matching.{LeafFits, selfAt, fits-at}
-use Rattle.laws.proofs.Masks.{marked, symmetries, mask-bit, mask-same, mask-odd}
+use Rattle.laws.specs.Masks.{marked, symmetries}
+use Rattle.laws.proofs.Masks.{mask-bit, mask-same, mask-odd}
 use Rattle.laws.proofs.PackedLists.{num4-lt, Fits, links-fit, list-bytes, start-inside, start-small, link-some, graph-cells, record-cell, leaf-cell}
 use Rattle.laws.proofs.PackedWalk.{First, SoundLists, few-leaves, root-first}
 use Rattle.least.specs.Keys.{markOf}

@@ -1,16 +1,15 @@
 -- The ways through a check: each test refuses by its number, in document 01's order; the scratch is zero after 0 and 6. And the rules one after the
 -- other. By the tests passed. Assumes nothing.
-use mathlib.Core.Path.{_≡_, sym, _∙_, ap, ap₂, subst}
+use mathlib.Core.Path.{_≡_, sym, _∙_, ap, ap₂}
 use mathlib.Core.Bool.{Bool, true, false, cond, not}
 use mathlib.Core.List.{List, [], _∷_}
-use Prim.Native.Nat.{ℕ, suc, _+_, _<_, _≤_}
-use native.Mathlib.Numerals.{add-one}
+use Prim.Native.Nat.{ℕ, suc, _<_, _≤_}
 use native.Mathlib.Omega.{arith}
 use borrow.Author.Tests.{lt-ltb, le-ltb, ne-eqb}
-use lib.ListN.{length, take, replicate}
+use lib.ListN.{length, replicate}
 use Rattle.paper.specs.Numbers.{allBelow}
 use Rattle.paper.specs.Outline.{fileDepth}
-use Rattle.paper.specs.Packed.{packedFront, packedHead, topOf, startAt, isEmpty, topOk, headOk, packedRules}
+use Rattle.paper.specs.Packed.{packedFront, packedHead, topOf, isEmpty, topOk, headOk, packedRules}
 use Rattle.paper.specs.Answers.{told, outcome, numberOf, checked}
 use Rattle.paper.specs.Order.{Test, when, firstOf, settled}
 use Rattle.paper.specs.Calls.{cleared, packedOrder, checkOrder, checkScratchAfter, checkOutcome}
@@ -20,7 +19,7 @@ use Rattle.laws.proofs.Refusals.{settled-refused}
 use Rattle.outline.specs.Heads.{headNumber}
 use Rattle.outline.proofs.HeadTests.{Headed, head-range, head-stops, head-goes-on}
 use Rattle.proper.specs.Places.{listRules, rootLow, rulesBy, packedBy}
-use Rattle.popular.specs.Places.{popularRules, endAt}
+use Rattle.popular.specs.Places.{popularRules}
 use Rattle.proper.specs.Phases.{scratchAt}
 
 module _ (file scratch : List ℕ) where
@@ -98,9 +97,6 @@ module _ (bs : List ℕ) where
 
 pub zeros-to : (l : List ℕ) (n m : ℕ) → l ≡ replicate n 0 → n ≡ m → l ≡ replicate m 0
 zeros-to l n m e q = e ∙ ap (λ (k : ℕ). replicate k 0) q
-
-pub end-next : (bs l : List ℕ) (k : ℕ) → take (startAt bs k) l ≡ replicate (startAt bs k) 0 → take (endAt bs (k + 1)) l ≡ replicate (endAt bs (k + 1)) 0
-end-next bs l k e = subst (λ (j : ℕ). take {A = ℕ} (endAt bs j) l ≡ replicate (endAt bs j) 0) (sym (add-one k)) e
 
 -- a scratch of as many zeros as the file has bytes
 pub scratch-start : (bs l : List ℕ) (n : ℕ) → l ≡ replicate n 0 → n ≡ length bs → l ≡ scratchAt bs 0

@@ -16,7 +16,7 @@ use Rattle.laws.proofs.Leaves.{mirrorLeaf-zero, mirrorLeaf-mirrorLeaf}
 use Rattle.laws.proofs.Places.{leaf-fits}
 use Rattle.laws.proofs.AddingTrees.{leaf-words}
 use Rattle.laws.proofs.StoreFacts.{Words}
-use Rattle.laws.proofs.Masks.{maskMatch}
+use Rattle.laws.specs.Masks.{maskMatch}
 use Rattle.store.specs.Mirrored.{mirroredCell}
 use Rattle.seek.specs.Sought.{firstBelow, masksUnder}
 use Rattle.seek.proofs.MaskImage.{mask-image}

@@ -8,7 +8,8 @@ use Prim.Native.Nat.{ℕ, zero, suc, _+_, _<_}
 use native.Mathlib.Omega.{arith}
 use Rattle.paper.specs.Store.{Cell, cellsAt}
 use Rattle.paper.specs.Match.{lowest, orFound, find, matches}
-use Rattle.laws.proofs.Masks.{maskMatch, ChildMasks, mask-match}
+use Rattle.laws.specs.Masks.{maskMatch, ChildMasks}
+use Rattle.laws.proofs.Masks.{mask-match}
 
 lowest-same : (n t : ℕ) (p q : ℕ → Bool) → ((u : ℕ) → u < t + n → p u ≡ q u) → lowest n t p ≡ lowest n t q
 unfolding lowest

@@ -18,7 +18,8 @@ use Rattle.laws.proofs.Lists.{getD-tabulate}
 use Rattle.laws.proofs.Eight.{xor8-lt, xor8-swap, xor8-back}
 use Rattle.laws.proofs.Matching.{tag-lt}
 use Rattle.laws.proofs.AddingTrees.{leaf-words}
-use Rattle.laws.proofs.Masks.{maskFor, marked, maskMatch, symmetries, mask-same}
+use Rattle.laws.specs.Masks.{maskFor, marked, maskMatch, symmetries}
+use Rattle.laws.proofs.Masks.{mask-same}
 use Rattle.store.specs.Mirrored.{turnedBy, mirroredCell}
 use Rattle.store.proofs.MirroredCells.{turned-none, turned-some, tag-turned, number-turned, mirrored-child}
 use Rattle.seek.specs.Sought.{masksUnder}

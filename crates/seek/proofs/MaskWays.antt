@@ -12,7 +12,7 @@ use Rattle.paper.specs.Numbers.{allBelow}
 use Rattle.paper.specs.Store.{Cell, tagOf, cellNo}
 use Rattle.paper.specs.Match.{pointerMatch}
 use Rattle.laws.proofs.Tests.{all-same}
-use Rattle.laws.proofs.Masks.{marked, maskMatch}
+use Rattle.laws.specs.Masks.{marked, maskMatch}
 
 module _ (m p q : ℕ) where
   abbrev pub pair : Bool

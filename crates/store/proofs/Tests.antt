@@ -8,7 +8,6 @@ use native.Mathlib.Numerals.{add-one, sub-one}
 use lib.Dec.{T}
 use borrow.Author.Tests.{not-true, not-false}
 use Rattle.laws.proofs.Tests.{true-T}
-pub use Rattle.laws.proofs.Tests.{ltb-not}
 use Rattle.paper.specs.Numbers.{both, allBelow, anyBelow}
 
 -- ---- a call that answers the opposite of a test

@@ -90,9 +90,6 @@ module _ (ws : List ℕ) where
   unfolding storeOk
   in-parts = refl
 
-  pub store-header : headerOk ws ≡ false → storeOk ws ≡ false
-  store-header e = in-parts ∙ ap (λ (h : Bool). parts h scenes (scenesBlank ws) usable) e
-
   pub store-scenes : headerOk ws ≡ true → scenes ≡ false → storeOk ws ≡ false
   store-scenes e f = in-parts ∙ ap₂ (λ (h s : Bool). parts h s (scenesBlank ws) usable) e f
 

@@ -3,7 +3,6 @@
 use mathlib.Core.Path.{_≡_, refl, sym, ap, _∙_, subst}
 use mathlib.Core.Bool.{Bool, true, false, cond, not}
 use mathlib.Core.List.{List}
-use mathlib.Core.Logic.{inl, inr}
 use Prim.Native.Nat.{ℕ, zero, suc, _-_, _^_, _<_}
 use native.Mathlib.Nat.{mod-eq-of-lt}
 use native.Mathlib.Omega.{arith}
@@ -19,13 +18,12 @@ use Rattle.paper.specs.Questions.{below, wayDamaged, fromRoot, voxelSolid, voxe
 use Rattle.laws.proofs.Eight.{xor8-lt}
 use Rattle.laws.proofs.Tests.{none-at}
 use Rattle.laws.proofs.Outlines.{depth-two}
-use Rattle.laws.proofs.Invariant.{OkPointer, names-lt, not-bad-ok}
 use Rattle.walk.specs.Walk.{takenFrom, reachOf, voxelEnd, AtKept}
 use Rattle.points.specs.Seeing.{octant, seenAt}
 use Rattle.walk.specs.declared.ways.Reach.{Reach}
 use Rattle.walk.specs.declared.ways.Reach.the-variants.{Absent, At, Damaged}
 use Rattle.walk.proofs.Ends.{orDamage, isDamaged, way-damaged, voxel-end}
-use Rattle.laws.proofs.Invariant.{OkPointer, names-lt, not-bad-ok}
+use Rattle.laws.proofs.Invariant.{named-kept}
 use Rattle.laws.proofs.Matching.{tag-lt}
 use Rattle.points.proofs.Seen.{tag-joins}
 
@@ -76,11 +74,7 @@ taken-kept K k m c v h e z =
     let i : ℕ = bitXor (octant k v) m in
     let l : octant k v < 8 = omega arith in
     let p : ℕ = takenFrom k c m v in
-    go (not-bad-ok (length (cellsAt K k)) p (none-at 8 (λ j. badPointer (length (cellsAt K k)) (getD c j 0)) e i (xor8-lt (octant k v) m l h)))
-  where
-    go : OkPointer (length (cellsAt K k)) (takenFrom k c m v) → cellNo (takenFrom k c m v) < length (cellsAt K k)
-    go (inl q) = absurd (z q)
-    go (inr q) = names-lt q
+    named-kept (length (cellsAt K k)) p (none-at 8 (λ j. badPointer (length (cellsAt K k)) (getD c j 0)) e i (xor8-lt (octant k v) m l h)) z
 
 no-confusion : true ≡ false → ⊥
 no-confusion e = subst T e tt
@@ -104,11 +98,3 @@ reach-kept K (suc k) n m v l h =
     let p : ℕ = takenFrom k c m v in
     reach-step K (leb (suc k) 0) (anyBad (length (cellsAt K k)) c) (eqb p 0) n m k (reachOf K 0 k (cellNo p) (bitXor (tagOf p) m) v) (leb·suc-zero k)
     (λ e z. reach-kept K k (cellNo p) (bitXor (tagOf p) m) v (taken-kept K k m c v h e (λ q. z-not p z q)) (tag-joins p m h))
-
--- a root pointer that is neither bad nor none names a kept cell
-pub root-kept : (n p : ℕ) → badPointer n p ≡ false → (p ≡ 0 → ⊥) → cellNo p < n
-root-kept n p b z = go (not-bad-ok n p b)
-  where
-    go : OkPointer n p → cellNo p < n
-    go (inl e) = absurd (z e)
-    go (inr h) = names-lt h

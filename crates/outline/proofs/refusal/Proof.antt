@@ -7,7 +7,9 @@ use native.Mathlib.Omega.{arith}
 use borrow.Author.Needs.{needs}
 use Rattle.paper.specs.Outline.{outlineFront, outlineHead, fileDepth, outlineRules}
 use Rattle.paper.specs.Order.{when}
-use Rattle.outline.proofs.Fronts.{length-least, depth-least, depth-most}
+use Rattle.laws.proofs.StoreFacts.{depth-range}
+use Rattle.laws.proofs.Tests.{true-T}
+use Rattle.outline.proofs.Fronts.{length-least}
 use Rattle.outline.proofs.HeadTests.{Headed, headed, head-stops, refused-by-6, accepted}
 use Rattle.outline.proofs.refusal.Statement.{statement}
 use Rattle.outline.proofs.refusal.Tie as tie
@@ -25,8 +27,8 @@ known c = headed outlineFront outlineHead (c .before .before .before .args .file
 rules-bad-requires : tie.Need-rules-bad-requires
 rules-bad-requires c κs =
     let file = c .before .before .before .args .file .now in
-    let D = fileDepth file in
-    (length-least file outlineHead (ap not (known c .length-ok)), depth-least D (ap not (known c .depth-ok)), depth-most D (ap not (known c .depth-ok)))
+    let range = depth-range (fileDepth file) (true-T (known c .depth-ok)) in
+    (length-least file outlineHead (ap not (known c .length-ok)), range .0, range .1)
 
 returns-2 : tie.Need-returns-2
 returns-2 c =

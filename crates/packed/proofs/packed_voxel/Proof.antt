@@ -42,13 +42,13 @@ is-tested : (c : tie.Else1) → Tested (c .before .before .before .args .file .n
 is-tested c = tested (c .before .before .before .args .file .now) (λ i. omega (arith, c .before .before .shared-slice-known .given i)) (known c)
 
 inside-ok : (c : tie.Else2) → let s = c .before .before .before .before .before in packedOutside (s .args .file .now) (spot s) ≡ false
-inside-ok c = sym (c .before .outside .ensures) ∙ c .if2 .left
+inside-ok c = sym (c .before .point-outside .ensures) ∙ c .if2 .left
 
 returns-2 : tie.Need-returns-2
 returns-2 c =
     let e = c .before .before in
     let s = e .before .before .before in
-    far-out (s .args .file .now) (spot s) (known e) (sym (c .before .outside .ensures) ∙ c .if2 .taken)
+    far-out (s .args .file .now) (spot s) (known e) (sym (c .before .point-outside .ensures) ∙ c .if2 .taken)
 
 returns-3 : tie.Need-returns-3
 returns-3 c =

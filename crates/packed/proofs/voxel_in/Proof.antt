@@ -25,14 +25,14 @@ known s =
 returns : tie.Need-returns
 returns c =
     let s = c .before .before .before in
-    far-out (s .args .file .now) (spot s) (known s) (sym (c .before .outside .ensures) ∙ c .if1 .taken)
+    far-out (s .args .file .now) (spot s) (known s) (sym (c .before .point-outside .ensures) ∙ c .if1 .taken)
 
 returns-2 : tie.Need-returns-2
 returns-2 c =
     let s = c .before .before .before .before .before in
     let r = c .before .way-in in
     ap (λ (f : Found). outcome (found f) []) (c .answer .ensures)
-    ∙ walked (s .args .file .now) (spot s) (known s) (sym (c .before .before .before .outside .ensures) ∙ c .before .before .if1 .left) (r .result) (r .ensures)
+    ∙ walked (s .args .file .now) (spot s) (known s) (sym (c .before .before .before .point-outside .ensures) ∙ c .before .before .if1 .left) (r .result) (r .ensures)
 
 pub voxel-in-spec : {M : Type 1} → statement M
-voxel-in-spec = tie.close (tie.spec (λ c κs. c .before .pre .0 .tested) returns (λ c κs. (c .before .before .before .pre .0, sym (c .before .outside .ensures) ∙ c .if1 .left)) (λ c κs. search needs) returns-2)
+voxel-in-spec = tie.close (tie.spec (λ c κs. c .before .pre .0 .tested) returns (λ c κs. (c .before .before .before .pre .0, sym (c .before .point-outside .ensures) ∙ c .if1 .left)) (λ c κs. search needs) returns-2)

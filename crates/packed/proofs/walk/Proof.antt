@@ -15,7 +15,8 @@ use Rattle.laws.proofs.Tests.{true-T}
 use Rattle.packed.specs.declared.Reached.{Reached}
 use Rattle.packed.specs.Header.{frontOf, Sized}
 use Rattle.packed.specs.Records.{linkIs, takenOk}
-use Rattle.packed.specs.Walk.{plus, seenAt, octant, leafEnd, wayAt}
+use Rattle.packed.specs.Walk.{plus, leafEnd, wayAt}
+use Rattle.points.specs.Seeing.{seenAt, octant}
 use Rattle.packed.proofs.Header.{sizes-sum}
 use Rattle.packed.proofs.Lists.{start-top, start-next, start-in, list-cut, leaves-cut, leaves-eights, root-mirror}
 use Rattle.packed.proofs.Steps.{plus-none, way-broken, way-absent, way-astray, way-on, leaves-end}
@@ -107,9 +108,7 @@ taken : (c : tie.After-pointer-at Inv-loop μ-loop) → let s = c .before .befor
 taken c =
     let s = c .before .before .before .before .before .before .before .before .before .before .before .before .before in
     let l = c .before .before .before .before .before .before .before .loop in
-    let h : l .k + 1 - 2 ≡ l .k - 1 = omega arith in
-    let o : c .before .octant .result ≡ octant (l .k - 1) (spot s) = c .before .octant .ensures .0 ∙ ap (λ (n : ℕ). octant n (spot s)) h in
-    c .pointer-at .ensures .0 ∙ ap₂ (λ (i : List ℕ) (n : ℕ). getD (linksAt i (l .place)) (bitXor n (l .mirror)) noLink) (list-is (c .before .before .before .before .before)) o
+    c .pointer-at .ensures .0 ∙ ap₂ (λ (i : List ℕ) (n : ℕ). getD (linksAt i (l .place)) (bitXor n (l .mirror)) noLink) (list-is (c .before .before .before .before .before)) (c .before .octant .ensures .0)
 
 returns-2 : tie.Need-returns-2 Inv-loop μ-loop
 returns-2 c =

@@ -5,8 +5,7 @@ use native.Mathlib.Omega.{arith}
 use lib.ListN.{length, getD, set}
 use borrow.Author.Needs.{needs}
 use Rattle.paper.specs.Store.{capacityOf, keptCount, keptOf}
-use Rattle.laws.proofs.Undamaged.{headed}
-use Rattle.laws.proofs.StoreFacts.{store-header}
+use Rattle.laws.proofs.Undamaged.{headed, store-header}
 use Rattle.order.specs.Scratch.{orderPlace, placePlace}
 use Rattle.placing.specs.Placing.{orderIn, Room}
 use Rattle.placing.proofs.Bounds.{part-room, order-at}

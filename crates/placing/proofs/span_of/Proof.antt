@@ -5,7 +5,7 @@ use native.Mathlib.Omega.{arith}
 use borrow.Author.Needs.{needs}
 use Rattle.paper.specs.Store.{capacityOf, keptOf}
 use Rattle.paper.specs.Pack.{width}
-use Rattle.laws.proofs.StoreFacts.{store-header}
+use Rattle.laws.proofs.Undamaged.{store-header}
 use Rattle.placing.specs.Placing.{placesIn}
 use Rattle.placing.proofs.Bounds.{room-below}
 use Rattle.placing.proofs.Codes.{digits-width}

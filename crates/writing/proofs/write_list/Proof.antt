@@ -8,7 +8,7 @@ use lib.ListN.{length, getD, drop}
 use borrow.Author.Needs.{needs}
 use Rattle.paper.specs.Numbers.{flatten}
 use Rattle.paper.specs.Store.{capacityOf, keptCount, keptOf}
-use Rattle.laws.proofs.StoreFacts.{store-header}
+use Rattle.laws.proofs.Undamaged.{store-header}
 use Rattle.order.specs.Scratch.{orderPlace}
 use Rattle.placing.specs.Placing.{orderIn}
 use Rattle.writing.specs.Writing.{recordIn, listIn}

@@ -8,7 +8,7 @@ use borrow.Author.Needs.{needs}
 use Rattle.paper.specs.Numbers.{bytes, flatten}
 use Rattle.paper.specs.Store.{capacityOf, keptCount, keptOf}
 use Rattle.paper.specs.Pack.{pointerBytes}
-use Rattle.laws.proofs.StoreFacts.{store-header}
+use Rattle.laws.proofs.Undamaged.{store-header}
 use Rattle.numbers.specs.Laid.{writing}
 use Rattle.placing.specs.Placing.{placesIn, Room, Below}
 use Rattle.writing.specs.Writing.{recordIn}

@@ -14,7 +14,8 @@ use Rattle.laws.proofs.Bytes.{bytes-length}
 use Rattle.sorted.specs.Slots.{slotsOf}
 use Rattle.sorted.proofs.SlotBytes.{drop-laid}
 use Rattle.alike.specs.Matching.{placesIn}
-use Rattle.alike.proofs.Along.{restFrom, widthAt, rest-all, rest-none, rest-more, rest-head, rest-tail, record-inside, record-two, record-wide}
+use Rattle.alike.proofs.Along.{restFrom, widthAt, rest-all, rest-none, rest-more, rest-head, rest-tail, record-inside, record-wide}
+use Rattle.laws.proofs.PackedLists.{record-two}
 use Rattle.alike.proofs.Slotted.{slots-none, slots-then}
 use Rattle.alike.proofs.alike.lay_places.Statement.{statement}
 use Rattle.alike.proofs.alike.lay_places.Tie as tie

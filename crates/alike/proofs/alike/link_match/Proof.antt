@@ -4,7 +4,7 @@ use Prim.Native.Nat.{ℕ, _<_}
 use native.Mathlib.Omega.{arith}
 use lib.Bits.{bitXor}
 use Rattle.laws.proofs.Eight.{xor8-lt}
-use Rattle.laws.proofs.Masks.{marked}
+use Rattle.laws.specs.Masks.{marked}
 use Rattle.packed.specs.Records.{linkIs}
 use Rattle.alike.specs.Matching.{selfBy}
 use Rattle.alike.proofs.Linking.{match-none, match-half, match-apart, match-place}

@@ -11,13 +11,14 @@ use Rattle.paper.specs.Rooms.{mirrored, boxCount}
 use Rattle.paper.specs.Outline.{edge}
 use Rattle.paper.specs.Leaf.{leafVoxel}
 use Rattle.paper.specs.Store.{Cell, keptCount, keptOf, badPointer}
-use Rattle.laws.proofs.Boxes.{clipped}
+use Rattle.laws.specs.Boxes.{clipped}
 use Rattle.laws.proofs.Eight.{xor8-lt}
 use Rattle.boxes.specs.Box.{at, mostSolid, Upto, childrenSolid, childrenIn, pointerIn}
 use Rattle.boxes.specs.declared.count.Tally.the-variants.{Solid}
 use Rattle.points.proofs.Seen.{tag-joins}
 use Rattle.boxes.proofs.Tallies.{children-none, children-damaged, solid-more, children-more, pointer-absent, pointer-outside}
-use Rattle.boxes.proofs.BoxWays.{kept-number, edge-lt, whole-seen, leaf-seen, children-seen, children-fit, clipped-upto, bad-seen, cell-seen}
+use Rattle.laws.proofs.Invariant.{named-kept}
+use Rattle.boxes.proofs.BoxWays.{edge-lt, whole-seen, leaf-seen, children-seen, children-fit, clipped-upto, bad-seen, cell-seen}
 use borrow.Author.Needs.{needs}
 use borrow.Fn.Kinds.{In}
 use borrow.Fn.PlainCycle.{Measures, is, falls, and}
@@ -212,7 +213,7 @@ count-pointer-count-box-requires : (t : ℕ) → count-pointer-lts.Need-count-bo
 count-pointer-count-box-requires t c κs =
     let b = c .before .before .before .before .before .before .before .before .before in
     let a = b .args in
-    let kept = kept-number (keptCount (a .store .now) (a .k)) (a .p) (there t (c .before .before)) (c .before .before .before .before .before .before .before .if1 .left) in
+    let kept = named-kept (keptCount (a .store .now) (a .k)) (a .p) (there t (c .before .before)) (c .before .before .before .before .before .before .before .if1 .left) in
     (omega arith, (b .pre .1 .0, ((b .pre .1 .1 .0 .0, rw (c .tag .ensures) (tag-joins (a .p) (a .mirror) (b .pre .1 .1 .0 .1))), omega (arith, c .before .cell-number .ensures, kept))))
 
 count-pointer-returns-4 : (t : ℕ) → count-pointer-lts.Need-returns-4 (count-pointer-known t) (count-pointer-at t) count-pointer.Post

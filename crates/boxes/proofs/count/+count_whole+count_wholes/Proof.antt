@@ -9,7 +9,7 @@ use lib.ListN.{getD}
 use Rattle.paper.specs.Rooms.{mirrored, boxCount}
 use Rattle.paper.specs.Leaf.{leafVoxel}
 use Rattle.paper.specs.Store.{Cell, keptCount, keptOf, anyBad}
-use Rattle.laws.proofs.Boxes.{origin, far}
+use Rattle.laws.specs.Boxes.{origin, far}
 use Rattle.boxes.specs.Box.{mostSolid, wholesSolid, wholesIn, timesNamed}
 use Rattle.boxes.specs.declared.count.Tally.the-variants.{Solid}
 use Rattle.boxes.proofs.BoxWays.{without-bad, whole-leaf, whole-bad, whole-wholes, wholes-fit, last-kept, child-damaged, counted-solid, counted-tally}

@@ -9,11 +9,12 @@ use Rattle.paper.specs.Outline.{edge}
 use Rattle.paper.specs.Rooms.{mirrored, boxCount}
 use Rattle.paper.specs.Leaf.{leafVoxel}
 use Rattle.paper.specs.Store.{badPointer, cellsAt, keptCount, keptOf}
-use Rattle.laws.proofs.Boxes.{origin, far}
+use Rattle.laws.specs.Boxes.{origin, far}
 use Rattle.laws.proofs.Kept.{kept-length}
 use Rattle.boxes.specs.Box.{wholeIn}
 use Rattle.boxes.specs.declared.count.Tally.the-variants.{Solid}
-use Rattle.boxes.proofs.BoxWays.{kept-number, whole-leaf}
+use Rattle.laws.proofs.Invariant.{named-kept}
+use Rattle.boxes.proofs.BoxWays.{whole-leaf}
 use Rattle.boxes.proofs.Tallies.{pointer-absent}
 use Rattle.boxes.proofs.Wholes.{named-whole}
 use borrow.Author.Needs.{needs}
@@ -28,7 +29,7 @@ returns c =
 leaf-at-requires : tie.Need-leaf-at-requires
 leaf-at-requires c κs =
     let s = c .before .before .before in
-    (s .pre .0, omega (arith, c .cell-number .ensures, kept-number (keptCount (s .args .store .now) 0) (s .args .p) (s .pre .1) (c .before .if1 .left)))
+    (s .pre .0, omega (arith, c .cell-number .ensures, named-kept (keptCount (s .args .store .now) 0) (s .args .p) (s .pre .1) (c .before .if1 .left)))
 
 returns-2 : tie.Need-returns-2
 returns-2 c =

@@ -10,7 +10,7 @@ use borrow.Author.Needs.{needs}
 use borrow.Fn.Kinds.{In}
 use borrow.Fn.PlainCycle.{Measures, is, falls, and}
 use Rattle.paper.specs.Store.{Cell, keptCount, keptOf, cellAt, cellNo, anyBad}
-use Rattle.laws.proofs.StoreFacts.{store-header}
+use Rattle.laws.proofs.Undamaged.{store-header}
 use Rattle.outline_out.specs.Limit.{upTo}
 use Rattle.outline_out.specs.Record.{childrenMeasure, measureAt}
 use Rattle.outline_out.proofs.Steps.{kept-sound, child-kept, measure-leaf, measure-cell, measure-none, measure-absent, measure-there}

@@ -14,7 +14,8 @@ use Rattle.paper.specs.Numbers.{bytes}
 use Rattle.paper.specs.Leaf.{mirrorLeaf}
 use Rattle.paper.specs.Store.{Cell, keptCount, keptOf, cellAt, tagOf, leafNo, anyBad}
 use Rattle.laws.proofs.Bytes.{bytes-length}
-use Rattle.laws.proofs.StoreFacts.{store-header, tag-lt}
+use Rattle.laws.proofs.Undamaged.{store-header}
+use Rattle.laws.proofs.Matching.{tag-lt}
 use Rattle.numbers.specs.Laid.{writing}
 use Rattle.outline_out.specs.Record.{pointerAt, childrenAt, recordAt}
 use Rattle.numbers.proofs.Laying.{writing-none, writing-one, writing-then, reached-at, reached-length}

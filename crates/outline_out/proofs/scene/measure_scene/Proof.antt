@@ -6,7 +6,7 @@ use Prim.Native.Nat.{ℕ, _-_, _<_}
 use native.Mathlib.Omega.{arith}
 use borrow.Author.Needs.{needs}
 use Rattle.paper.specs.Store.{Cell, keptCount, keptOf, cellNo, sceneDepth, sceneRoot}
-use Rattle.laws.proofs.StoreFacts.{store-header}
+use Rattle.laws.proofs.Undamaged.{store-header}
 use Rattle.outline_out.specs.Record.{measureAt}
 use Rattle.outline_out.proofs.Scenes.{Held, held, root-kept, none-length, there-length, file-least}
 use Rattle.outline_out.proofs.scene.measure_scene.Statement.{statement}

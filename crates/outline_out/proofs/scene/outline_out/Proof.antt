@@ -15,7 +15,7 @@ use Rattle.paper.specs.Answers.{outcome, written}
 use Rattle.paper.specs.Calls.{over, outlineBytes}
 use Rattle.paper.specs.declared.Written.the-variants.{Length}
 use Rattle.laws.proofs.Tests.{true-T}
-use Rattle.laws.proofs.StoreFacts.{store-header}
+use Rattle.laws.proofs.Undamaged.{store-header}
 use Rattle.outline_out.specs.Record.{sceneFile}
 use Rattle.numbers.proofs.Laying.{laid-first, reached-at, reached-list}
 use Rattle.outline_out.proofs.Pointers.{file-by-pointers}

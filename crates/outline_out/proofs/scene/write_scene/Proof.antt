@@ -8,7 +8,8 @@ use lib.ListN.{length, length-append}
 use borrow.Author.Needs.{needs}
 use Rattle.paper.specs.Outline.{outlineFront}
 use Rattle.paper.specs.Store.{Cell, keptCount, keptOf, sceneDepth, sceneRoot}
-use Rattle.laws.proofs.StoreFacts.{store-header, tag-lt}
+use Rattle.laws.proofs.Undamaged.{store-header}
+use Rattle.laws.proofs.Matching.{tag-lt}
 use Rattle.numbers.specs.Laid.{reached, writing, headOf}
 use Rattle.outline_out.specs.Record.{recordAt, fileAt}
 use Rattle.numbers.proofs.Laying.{writing-then, reached-at, reached-length, head-length}

@@ -13,7 +13,8 @@ use Rattle.paper.specs.Store.{scenesHeld, keptCount, keptOf, badPointer, storeO
 use Rattle.paper.specs.Pack.{emptyFile, packedFile}
 use Rattle.paper.specs.Calls.{cleared, scratchFor}
 use Rattle.laws.proofs.Tests.{true-T}
-use Rattle.laws.proofs.StoreFacts.{store-header, scene-sound, depth-range}
+use Rattle.laws.proofs.StoreFacts.{scene-sound, depth-range}
+use Rattle.laws.proofs.Undamaged.{store-header}
 use Rattle.store.proofs.HeaderFacts.{header}
 use Rattle.pack.proofs.Ways.{damaged, no-scene, scratch-short, in-order, bytes-empty, bytes-root, cleared-long, cleared-again, cleared-take}
 use Rattle.pack.proofs.call.pack.Statement.{statement}

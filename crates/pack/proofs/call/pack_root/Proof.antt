@@ -9,7 +9,7 @@ use borrow.Author.Needs.{needs}
 use Rattle.paper.specs.Store.{capacityOf, keptOf}
 use Rattle.paper.specs.Pack.{packedFile}
 use Rattle.paper.specs.Calls.{packScratch}
-use Rattle.laws.proofs.StoreFacts.{tag-lt}
+use Rattle.laws.proofs.Matching.{tag-lt}
 use Rattle.numbers.proofs.Laying.{laid-first, reached-list}
 use Rattle.placing.specs.Placing.{Room}
 use Rattle.writing.specs.Writing.{headOf, sizesIn, bodyIn}

@@ -8,7 +8,7 @@ use lib.ListN.{length, set, length-set}
 use borrow.Author.Needs.{needs}
 use Rattle.paper.specs.Numbers.{count}
 use Rattle.paper.specs.Leaf.{mirrorLeaf}
-use Rattle.laws.proofs.Masks.{maskFor}
+use Rattle.laws.specs.Masks.{maskFor}
 use Rattle.alike.specs.Matching.{leavesMatch, leafMask}
 use Rattle.proper.specs.Places.{marksOn}
 use Rattle.alike.proofs.Along.{count-more, count-none}

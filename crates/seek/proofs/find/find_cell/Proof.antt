@@ -6,7 +6,7 @@ use native.Mathlib.Omega.{arith}
 use borrow.Author.Needs.{needs}
 use Rattle.paper.specs.Store.{keptOf, cellsAt}
 use Rattle.laws.proofs.Kept.{kept-length}
-use Rattle.laws.proofs.Masks.{maskMatch}
+use Rattle.laws.specs.Masks.{maskMatch}
 use Rattle.store.proofs.HeaderFacts.{header}
 use Rattle.seek.proofs.FindFirst.{First}
 use Rattle.seek.proofs.FindBest.{IsBest, best-start, best-more, best-found}

@@ -7,7 +7,7 @@ use Prim.Native.Nat.{ℕ, _-_, _≤_}
 use native.Mathlib.Omega.{arith}
 use borrow.Author.Needs.{needs}
 use Rattle.paper.specs.Store.{Cell, keptOf, cellAt}
-use Rattle.laws.proofs.Masks.{maskMatch}
+use Rattle.laws.specs.Masks.{maskMatch}
 use Rattle.seek.specs.Sought.{masksUnder, firstBelow}
 use Rattle.seek.proofs.FindFirst.{from, first-start, first-stop, first-still, first-over}
 use Rattle.seek.proofs.find.first_cell.Statement.{statement}

@@ -4,7 +4,7 @@ use mathlib.Core.List.{List}
 use Prim.Native.Nat.{ℕ}
 use borrow.Author.Needs.{needs}
 use Rattle.paper.specs.Numbers.{bitFor}
-use Rattle.laws.proofs.Masks.{maskMatch}
+use Rattle.laws.specs.Masks.{maskMatch}
 use Rattle.seek.specs.Sought.{masksUnder}
 use Rattle.seek.proofs.MaskImage.{mask-image}
 use Rattle.seek.proofs.masks.cell_bit.Statement.{statement}

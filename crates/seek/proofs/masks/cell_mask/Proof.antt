@@ -7,7 +7,7 @@ use native.Mathlib.Omega.{arith}
 use borrow.Author.Needs.{needs}
 use Rattle.paper.specs.Store.{Cell}
 use Rattle.laws.proofs.Bits.{bitFor-lt}
-use Rattle.laws.proofs.Masks.{maskMatch}
+use Rattle.laws.specs.Masks.{maskMatch}
 use Rattle.laws.proofs.MaskLoop.{upper, upper-none, upper-room, upper-more, upper-all}
 use Rattle.seek.proofs.masks.cell_mask.Statement.{statement}
 use Rattle.seek.proofs.masks.cell_mask.Tie as tie

@@ -6,7 +6,7 @@ use native.Mathlib.Omega.{arith}
 use borrow.Author.Needs.{needs}
 use lib.Bits.{bitXor}
 use Rattle.laws.proofs.Eight.{xor8-lt}
-use Rattle.laws.proofs.Masks.{marked}
+use Rattle.laws.specs.Masks.{marked}
 use Rattle.seek.proofs.MaskWays.{pair-none, pair-half, pair-other, pair-turn}
 use Rattle.seek.proofs.masks.pointers_differ.Statement.{statement}
 use Rattle.seek.proofs.masks.pointers_differ.Tie as tie

@@ -9,7 +9,7 @@ use lib.ListN.{getD}
 use borrow.Author.Needs.{needs}
 use Rattle.paper.specs.Numbers.{allBelow}
 use Rattle.laws.proofs.Eight.{xor8-lt}
-use Rattle.laws.proofs.Masks.{maskMatch}
+use Rattle.laws.specs.Masks.{maskMatch}
 use Rattle.seek.specs.Sought.{masksUnder}
 use Rattle.store.proofs.Tests.{passed, failed, all-still, all-stop, all-end}
 use Rattle.seek.proofs.MaskWays.{pair, pairAt, match-pairs}

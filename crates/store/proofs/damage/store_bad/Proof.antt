@@ -5,7 +5,8 @@ use mathlib.Core.Bool.{true, not}
 use Rattle.laws.proofs.Tests.{true-T}
 use Rattle.paper.specs.Store.{headerOk}
 use Rattle.store.proofs.Tests.{passed, failed}
-use Rattle.store.proofs.Usable.{store-header, store-scenes, store-stained, store-unusable, store-rest}
+use Rattle.laws.proofs.UnseenWords.{no-header}
+use Rattle.store.proofs.Usable.{store-scenes, store-stained, store-unusable, store-rest}
 use borrow.Author.Needs.{needs}
 use Rattle.store.proofs.damage.store_bad.Statement.{statement}
 use Rattle.store.proofs.damage.store_bad.Tie as tie
@@ -15,7 +16,7 @@ front : (c : tie.Else1) → headerOk (c .before .before .before .args .store .no
 front c = passed (c .before .header-bad .ensures) (c .if1 .left)
 
 returns : tie.Need-returns
-returns c = sym (ap not (store-header _ (failed (c .before .header-bad .ensures) (c .if1 .taken))))
+returns c = sym (ap not (no-header _ (failed (c .before .header-bad .ensures) (c .if1 .taken))))
 
 scenes-bad-requires : tie.Need-scenes-bad-requires
 scenes-bad-requires c κs = true-T (front c)

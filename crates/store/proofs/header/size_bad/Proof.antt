@@ -5,7 +5,7 @@ use Prim.Native.Nat.{ℕ}
 use lib.Dec.{ltb}
 use borrow.Author.Tests.{le-leb, lt-leb}
 use Rattle.paper.specs.Store.{used}
-use Rattle.store.proofs.Tests.{ltb-not}
+use Rattle.laws.proofs.Tests.{ltb-not}
 use borrow.Author.Needs.{needs}
 use Rattle.store.proofs.header.size_bad.Statement.{statement}
 use Rattle.store.proofs.header.size_bad.Tie as tie

@@ -2,7 +2,7 @@
 -- Each way is computed at the tests passed. Assumes nothing.
 use borrow.Author.Tests.{eq-eqb, ne-eqb, le-leb, lt-leb}
 use Rattle.paper.specs.Store.{lowOf}
-use Rattle.store.proofs.Tests.{ltb-not}
+use Rattle.laws.proofs.Tests.{ltb-not}
 use Rattle.store.proofs.pointers.bad_pointer.Statement.{statement}
 use Rattle.store.proofs.pointers.bad_pointer.Tie as tie
 

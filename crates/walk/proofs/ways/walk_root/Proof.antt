@@ -3,22 +3,21 @@
 use mathlib.Core.Path.{_≡_, ap, ap₂, _∙_, subst, subst⁻¹}
 use mathlib.Core.List.{List}
 use Prim.Native.Nat.{ℕ, _-_, _<_}
-use native.Mathlib.Omega.{arith}
 use denote.Ref.{now}
 use lib.ListN.{length}
 use Rattle.paper.specs.Rooms.{point}
-use Rattle.paper.specs.Store.{Cell, heights, cellsAt, tagOf, cellNo, keptCount, keptOf}
+use Rattle.paper.specs.Store.{Cell, cellsAt, tagOf, cellNo, keptCount, keptOf}
+use Rattle.laws.proofs.Invariant.{named-kept}
 use Rattle.laws.proofs.Kept.{kept-length}
 use Rattle.laws.proofs.Matching.{tag-lt}
-use Rattle.laws.proofs.StoreFacts.{depth-range}
 use Rattle.walk.specs.Walk.{reachOf, AtKept}
-use Rattle.walk.proofs.Roots.{root-kept, reach-kept}
+use Rattle.walk.proofs.Roots.{reach-kept}
 use borrow.Author.Needs.{needs}
 use Rattle.walk.proofs.ways.walk_root.Statement.{statement}
 use Rattle.walk.proofs.ways.walk_root.Tie as tie
 
 kept-root : (b : tie.Start) → cellNo (b .args .root) < keptCount (now (b .args .store)) (b .args .k)
-kept-root b = root-kept (keptCount (now (b .args .store)) (b .args .k)) (b .args .root) (b .pre .1 .1 .0) (b .pre .1 .1 .1)
+kept-root b = named-kept (keptCount (now (b .args .store)) (b .args .k)) (b .args .root) (b .pre .1 .1 .0) (b .pre .1 .1 .1)
 
 walk-to-requires : tie.Need-walk-to-requires
 walk-to-requires c κs =
