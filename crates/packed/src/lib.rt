@@ -297,7 +297,7 @@ fn in_leaf(leaves: &[u8], place: u32, mirror: u32, x: u32, y: u32, z: u32, read:
     Reached::Empty(read + 1)
 }
 
-// The walk from the root, list by list: each list starts where the one above it ends.
+// The walk from the root, list by list: each list starts where the one above it ends. Each size is read once.
 fn walk(file: &[u8], x: u32, y: u32, z: u32) -> Reached
     requires { ⌜ Opens (now file) ⌝ }
     requires { ⌜ (rootTag (now file) ≡ emptyMark → ⊥) ⌝ }
@@ -306,10 +306,11 @@ fn walk(file: &[u8], x: u32, y: u32, z: u32) -> Reached
     let top = wide(file[DEPTH_PLACE]) - LEAF_HEIGHT;
     let mut k = top;
     let mut start = PACKED_HEAD + 4 * ((top + 1) as usize);
+    let mut here = size(file, top);
     let mut place = 0u32;
     let mut mirror = wide(file[MIRROR_PLACE]);
     while 0 < k {
-        let end = start + HALF_BYTES * (size(file, k) as usize);
+        let end = start + HALF_BYTES * (here as usize);
         let list = &file[start..end];
         if record_bad(list, place) {
             return Reached::Broken;
@@ -318,7 +319,8 @@ fn walk(file: &[u8], x: u32, y: u32, z: u32) -> Reached
         if taken.code == 0 {
             return Reached::Empty(top - k + 1);
         }
-        if taken_bad(size(file, k - 1), taken) {
+        here = size(file, k - 1);
+        if taken_bad(here, taken) {
             return Reached::Broken;
         }
         place = taken.place;

@@ -29,12 +29,12 @@ abbrev from : List ℕ → ℕ → ℕ → ℕ → Point → Reached
 from bs k p m v = wayAt (listAt bs) (sizeAt bs) k p (seenAt k m v)
 
 abbrev Inv-loop : tie.InvT-loop
-Inv-loop file x y z top k₀ start₀ place₀ mirror₀ k start place mirror =
+Inv-loop file x y z top k₀ start₀ here₀ place₀ mirror₀ k start here place mirror =
     (top ≡ topOf file) × (k ≤ top) × (mirror < 8) × (start ≡ startAt file k)
-    × (plus (top - k) (from file k place mirror (point x y z)) ≡ from file (topOf file) 0 (rootTag file) (point x y z))
+    × (plus (top - k) (from file k place mirror (point x y z)) ≡ from file (topOf file) 0 (rootTag file) (point x y z)) × (here ≡ sizeAt file k) × (here < 4294967296)
 
 abbrev μ-loop : tie.MeasureT-loop
-μ-loop file x y z top k₀ start₀ place₀ mirror₀ k start place mirror = k
+μ-loop file x y z top k₀ start₀ here₀ place₀ mirror₀ k start here place mirror = k
 
 abbrev spot : tie.Start Inv-loop μ-loop → Point
 spot s = point (s .args .x) (s .args .y) (s .args .z)
@@ -46,12 +46,15 @@ total s = sizes-sum (s .args .file .now) (s .pre .0 .head) (s .pre .1)
 sized : (s : tie.Start Inv-loop μ-loop) → Sized (s .args .file .now)
 sized s = record { deep = s .pre .0 .tested .deep; flat = s .pre .0 .tested .flat; room = omega (arith, total s) }
 
+size-requires : tie.Need-size-requires Inv-loop μ-loop
+size-requires c κs = (sized (c .before .before .before), omega (arith, c .wide .ensures .0))
+
 loop-holds : tie.Need-loop-holds Inv-loop μ-loop
 loop-holds c =
-    let s = c .before .before .before .before .before in
+    let s = c .before .before .before .before .before .before in
     let bs = s .args .file .now in
-    let t = c .before .before .wide .result - 2 in
-    let e : t ≡ topOf bs = ap (λ (n : ℕ). n - 2) (c .before .before .wide .ensures .0) in
+    let t = c .before .before .before .wide .result - 2 in
+    let e : t ≡ topOf bs = ap (λ (n : ℕ). n - 2) (c .before .before .before .wide .ensures .0) in
     let f : 7 + 4 * (t + 1) ≡ frontOf bs = omega (arith, e) in
     let z : t - t ≡ 0 = omega arith in
     let m = c .wide2 in (
@@ -60,63 +63,65 @@ loop-holds c =
       omega (arith, m .ensures .0, root-mirror bs (s .pre .0 .head) (s .pre .1)),
       f ∙ start-top bs (total s) ∙ ap (startAt bs) (sym e),
       ap (λ (n : ℕ). plus n (from bs t 0 (m .result) (spot s))) z ∙ plus-none (from bs t 0 (m .result) (spot s)) ∙ ap₂ (λ (k n : ℕ). from bs k 0 n (spot s)) e (m .ensures .0),
+      c .before .before .size .ensures,
+      omega arith,
     )
 
 -- the list's end is the next list's start
-next : (c : tie.After-size Inv-loop μ-loop) → let l = c .before .before .loop in l .start + 2 * c .size .result ≡ startAt (c .before .before .before .before .before .before .before .before .args .file .now) (l .k - 1)
+next : (c : tie.In-loop Inv-loop μ-loop) → let l = c .before .loop in l .start + 2 * c .before .loop .here ≡ startAt (c .before .before .before .before .before .before .before .before .args .file .now) (l .k - 1)
 next c =
     let s = c .before .before .before .before .before .before .before .before in
-    let l = c .before .before .loop in
-    ap₂ (λ (a b : ℕ). a + 2 * b) (l .inv .3) (c .size .ensures) ∙ start-next (s .args .file .now) (total s) (l .k) (c .before .loop-test .taken) (omega (arith, l .inv .0, l .inv .1))
+    let l = c .before .loop in
+    ap₂ (λ (a b : ℕ). a + 2 * b) (l .inv .3) (c .before .loop .inv .5) ∙ start-next (s .args .file .now) (total s) (l .k) (c .loop-test .taken) (omega (arith, l .inv .0, l .inv .1))
 
-end-in : (c : tie.After-size Inv-loop μ-loop) → c .before .before .loop .start + 2 * c .size .result ≤ length (c .before .before .before .before .before .before .before .before .args .file .now)
-end-in c = let s = c .before .before .before .before .before .before .before .before in omega (arith, next c, start-in (s .args .file .now) (total s) (c .before .before .loop .k - 1))
+end-in : (c : tie.In-loop Inv-loop μ-loop) → c .before .loop .start + 2 * c .before .loop .here ≤ length (c .before .before .before .before .before .before .before .before .args .file .now)
+end-in c = let s = c .before .before .before .before .before .before .before .before in omega (arith, next c, start-in (s .args .file .now) (total s) (c .before .loop .k - 1))
 
 -- the list cut is list k
-abbrev cut : tie.After-size Inv-loop μ-loop → List ℕ
-cut c = let l = c .before .before .loop in take (l .start + 2 * c .size .result - l .start) (drop (l .start) (c .before .before .before .before .before .before .before .before .args .file .now))
+abbrev cut : tie.In-loop Inv-loop μ-loop → List ℕ
+cut c = let l = c .before .loop in take (l .start + 2 * c .before .loop .here - l .start) (drop (l .start) (c .before .before .before .before .before .before .before .before .args .file .now))
 
-list-is : (c : tie.After-size Inv-loop μ-loop) → cut c ≡ listAt (c .before .before .before .before .before .before .before .before .args .file .now) (c .before .before .loop .k)
+list-is : (c : tie.In-loop Inv-loop μ-loop) → cut c ≡ listAt (c .before .before .before .before .before .before .before .before .args .file .now) (c .before .loop .k)
 list-is c =
     let s = c .before .before .before .before .before .before .before .before in
-    let l = c .before .before .loop in
-    list-cut (s .args .file .now) (total s) (l .k) (l .start) (c .size .result) (c .before .loop-test .taken) (l .inv .3) (c .size .ensures)
+    let l = c .before .loop in
+    list-cut (s .args .file .now) (total s) (l .k) (l .start) (c .before .loop .here) (c .loop-test .taken) (l .inv .3) (c .before .loop .inv .5)
 
 returns : tie.Need-returns Inv-loop μ-loop
 returns c =
     let s = c .before .before .before .before .before .before .before .before .before .before .before in
     let bs = s .args .file .now in
-    let l = c .before .before .before .before .before .loop in
+    let l = c .before .before .before .before .loop in
     let z = c .before .before .before in
-    way-broken (listAt bs) (sizeAt bs) (l .place) (l .mirror) (spot s) (l .inv .2) (_ - l .k) (l .k) (c .before .before .before .before .loop-test .taken)
+    way-broken (listAt bs) (sizeAt bs) (l .place) (l .mirror) (spot s) (l .inv .2) (_ - l .k) (l .k) (c .before .before .before .loop-test .taken)
     (ap (λ (i : List ℕ). recordOk i (l .place)) (sym (list-is z)) ∙ not-true (recordOk (cut z) (l .place)) (sym (c .before .record-bad .ensures) ∙ c .if1 .taken))
     ∙ l .inv .4
 
 -- the record is good
-good : (c : tie.Else1 Inv-loop μ-loop) → recordOk (cut (c .before .before .before)) (c .before .before .before .before .before .loop .place) ≡ true
-good c = not-false (recordOk (cut (c .before .before .before)) (c .before .before .before .before .before .loop .place)) (sym (c .before .record-bad .ensures) ∙ c .if1 .left)
+good : (c : tie.Else1 Inv-loop μ-loop) → recordOk (cut (c .before .before .before)) (c .before .before .before .before .loop .place) ≡ true
+good c = not-false (recordOk (cut (c .before .before .before)) (c .before .before .before .before .loop .place)) (sym (c .before .record-bad .ensures) ∙ c .if1 .left)
 
-good-list : (c : tie.Else1 Inv-loop μ-loop) → recordOk (listAt (c .before .before .before .before .before .before .before .before .before .before .before .args .file .now) (c .before .before .before .before .before .loop .k)) (c .before .before .before .before .before .loop .place) ≡ true
-good-list c = ap (λ (i : List ℕ). recordOk i (c .before .before .before .before .before .loop .place)) (sym (list-is (c .before .before .before))) ∙ good c
+good-list : (c : tie.Else1 Inv-loop μ-loop) → recordOk (listAt (c .before .before .before .before .before .before .before .before .before .before .before .args .file .now) (c .before .before .before .before .loop .k)) (c .before .before .before .before .loop .place) ≡ true
+good-list c = ap (λ (i : List ℕ). recordOk i (c .before .before .before .before .loop .place)) (sym (list-is (c .before .before .before))) ∙ good c
 
 pointer-at-requires : tie.Need-pointer-at-requires Inv-loop μ-loop
-pointer-at-requires c κs = let l = c .before .before .before .before .before .before .loop in (true-T (good (c .before)), xor8-lt (c .octant .result) (l .mirror) (c .octant .ensures .1) (l .inv .2))
+pointer-at-requires c κs = let l = c .before .before .before .before .before .loop in (true-T (good (c .before)), xor8-lt (c .octant .result) (l .mirror) (c .octant .ensures .1) (l .inv .2))
 
 -- the pointer read is the one that the walk takes
-taken : (c : tie.After-pointer-at Inv-loop μ-loop) → let s = c .before .before .before .before .before .before .before .before .before .before .before .before .before in let l = c .before .before .before .before .before .before .before .loop in
+taken : (c : tie.After-pointer-at Inv-loop μ-loop) → let s = c .before .before .before .before .before .before .before .before .before .before .before .before .before in let l = c .before .before .before .before .before .before .loop in
     linkIs (c .pointer-at .result) ≡ getD (linksAt (listAt (s .args .file .now) (l .k)) (l .place)) (bitXor (octant (l .k - 1) (spot s)) (l .mirror)) noLink
 taken c =
     let s = c .before .before .before .before .before .before .before .before .before .before .before .before .before in
-    let l = c .before .before .before .before .before .before .before .loop in
+    let l = c .before .before .before .before .before .before .loop in
     c .pointer-at .ensures .0 ∙ ap₂ (λ (i : List ℕ) (n : ℕ). getD (linksAt i (l .place)) (bitXor n (l .mirror)) noLink) (list-is (c .before .before .before .before .before)) (c .before .octant .ensures .0)
 
 returns-2 : tie.Need-returns-2 Inv-loop μ-loop
 returns-2 c =
     let s = c .before .before .before .before .before .before .before .before .before .before .before .before .before .before .before in
     let bs = s .args .file .now in
-    let l = c .before .before .before .before .before .before .before .before .before .loop in
+    let l = c .before .before .before .before .before .before .before .before .loop in
     let p = c .before .before in
-    way-absent (listAt bs) (sizeAt bs) (l .place) (l .mirror) (spot s) (l .inv .2) (_ - l .k) (l .k) (c .before .before .before .before .before .before .before .before .loop-test .taken)
+    way-absent (listAt bs) (sizeAt bs) (l .place) (l .mirror) (spot s) (l .inv .2) (_ - l .k) (l .k) (c .before .before .before .before .before .before .before .loop-test .taken)
     (linkIs (p .pointer-at .result)) (taken p) (p .pointer-at .ensures .1) (good-list (p .before .before)) (c .if2 .taken)
     ∙ l .inv .4
 
@@ -124,11 +129,11 @@ returns-3 : tie.Need-returns-3 Inv-loop μ-loop
 returns-3 c =
     let s = c .before .before .before .before .before .before .before .before .before .before .before .before .before .before .before .before .before .before in
     let bs = s .args .file .now in
-    let l = c .before .before .before .before .before .before .before .before .before .before .before .before .loop in
+    let l = c .before .before .before .before .before .before .before .before .before .before .before .loop in
     let p = c .before .before .before .before .before in
     let q = linkIs (p .pointer-at .result) in
     let n = c .before .before .size2 in
-    way-astray (listAt bs) (sizeAt bs) (l .place) (l .mirror) (spot s) (l .inv .2) (_ - l .k) (l .k) (c .before .before .before .before .before .before .before .before .before .before .before .loop-test .taken)
+    way-astray (listAt bs) (sizeAt bs) (l .place) (l .mirror) (spot s) (l .inv .2) (_ - l .k) (l .k) (c .before .before .before .before .before .before .before .before .before .before .loop-test .taken)
     q (taken p) (p .pointer-at .ensures .1) (good-list (p .before .before)) (c .before .before .before .if2 .left)
     (ap (λ (m : ℕ). takenOk m q) (sym (n .ensures)) ∙ not-true (takenOk (n .result) q) (sym (c .before .taken-bad .ensures) ∙ c .if3 .taken))
     ∙ l .inv .4
@@ -140,11 +145,11 @@ loop-again : tie.Need-loop-again Inv-loop μ-loop
 loop-again c =
     let s = c .before .before .before .before .before .before .before .before .before .before .before .before .before .before .before .before .before .before .before in
     let bs = s .args .file .now in
-    let l = c .before .before .before .before .before .before .before .before .before .before .before .before .before .loop in
+    let l = c .before .before .before .before .before .before .before .before .before .before .before .before .loop in
     let p = c .before .before .before .before .before .before in
     let q = linkIs (p .pointer-at .result) in
     let n = c .before .before .before .size2 in
-    let h = c .before .before .before .before .before .before .before .before .before .before .before .before .loop-test .taken in
+    let h = c .before .before .before .before .before .before .before .before .before .before .before .loop-test .taken in
     let t = c .before .before .before .before .before .before .before .before .before .before .before .before .before .before .before .before .wide .result - 2 in (
       l .inv .0,
       omega (arith, l .inv .1),
@@ -155,32 +160,34 @@ loop-again c =
           q (taken p) (p .pointer-at .ensures .1) (good-list (p .before .before)) (c .before .before .before .before .if2 .left)
           (ap (λ (m : ℕ). takenOk m q) (sym (n .ensures)) ∙ not-false (takenOk (n .result) q) (sym (c .before .before .taken-bad .ensures) ∙ c .before .if3 .left))
           ∙ l .inv .4,
+      n .ensures,
+      omega arith,
     )
 
 -- past the last turn, the bytes left are the leaves
 at-leaves : (c : tie.After-loop Inv-loop μ-loop) → c .before .loop .k ≡ 0
 at-leaves c = omega (arith, c .loop-test .left)
 
-leaves-in : (c : tie.After-loop Inv-loop μ-loop) → c .before .loop .start ≤ length (c .before .before .before .before .before .before .before .args .file .now)
-leaves-in c = let s = c .before .before .before .before .before .before .before in omega (arith, c .before .loop .inv .3, start-in (s .args .file .now) (total s) (c .before .loop .k))
+leaves-in : (c : tie.After-loop Inv-loop μ-loop) → c .before .loop .start ≤ length (c .before .before .before .before .before .before .before .before .args .file .now)
+leaves-in c = let s = c .before .before .before .before .before .before .before .before in omega (arith, c .before .loop .inv .3, start-in (s .args .file .now) (total s) (c .before .loop .k))
 
-leaves-are : (c : tie.After-loop Inv-loop μ-loop) → let s = c .before .before .before .before .before .before .before in let l = c .before .loop in take (length (s .args .file .now) - l .start) (drop (l .start) (s .args .file .now)) ≡ listAt (s .args .file .now) 0
+leaves-are : (c : tie.After-loop Inv-loop μ-loop) → let s = c .before .before .before .before .before .before .before .before in let l = c .before .loop in take (length (s .args .file .now) - l .start) (drop (l .start) (s .args .file .now)) ≡ listAt (s .args .file .now) 0
 leaves-are c =
-    let s = c .before .before .before .before .before .before .before in
+    let s = c .before .before .before .before .before .before .before .before in
     let l = c .before .loop in
     leaves-cut (s .args .file .now) (total s) (l .start) (l .inv .3 ∙ ap (startAt (s .args .file .now)) (at-leaves c))
 
 in-leaf-requires : tie.Need-in-leaf-requires Inv-loop μ-loop
 in-leaf-requires c κs =
-    let s = c .before .before .before .before .before .before .before .before in
+    let s = c .before .before .before .before .before .before .before .before .before in
     (ap (λ (i : List ℕ). length i % 8) (leaves-are (c .before)) ∙ leaves-eights (s .args .file .now) (total s), omega (arith, c .before .before .loop .inv .0, s .pre .0 .tested .flat))
 
 returns-4 : tie.Need-returns-4 Inv-loop μ-loop
 returns-4 c =
-    let s = c .before .before .before .before .before .before .before .before .before in
+    let s = c .before .before .before .before .before .before .before .before .before .before in
     let bs = s .args .file .now in
     let l = c .before .before .before .loop in
-    let t = c .before .before .before .before .before .before .wide .result - 2 in
+    let t = c .before .before .before .before .before .before .before .wide .result - 2 in
     let e = at-leaves (c .before .before) in
     let f : t ≡ t - l .k = omega (arith, e) in
     c .in-leaf .ensures
@@ -202,10 +209,10 @@ walk-spec =
     (λ c. search needs)
     (λ c. search needs)
     (λ c. search needs)
-    (λ c. omega (arith, c .before .before .before .before .pre .0 .tested .long))
+    size-requires
+    (λ c. omega (arith, c .before .before .before .before .before .pre .0 .tested .long))
     (λ c κs. search needs)
     loop-holds
-    (λ c κs. (sized (c .before .before .before .before .before .before .before), omega (arith, c .before .loop .inv .0, c .before .loop .inv .1)))
     (λ c. search needs)
     (λ c. search needs)
     (λ c. omega (arith, end-in c))
@@ -221,7 +228,7 @@ walk-spec =
     (λ c. search needs)
     returns-2
     (λ c. search needs)
-    (λ c κs. (sized (c .before .before .before .before .before .before .before .before .before .before .before .before .before .before .before), omega (arith, c .before .before .before .before .before .before .before .before .before .loop .inv .0, c .before .before .before .before .before .before .before .before .before .loop .inv .1)))
+    (λ c κs. (sized (c .before .before .before .before .before .before .before .before .before .before .before .before .before .before .before), omega (arith, c .before .before .before .before .before .before .before .before .loop .inv .0, c .before .before .before .before .before .before .before .before .loop .inv .1)))
     (λ c κs. search needs)
     returns-3
     (λ c. search needs)
