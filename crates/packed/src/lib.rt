@@ -63,9 +63,9 @@ pub enum Reached {
     Empty(u32),
 }
 
-// ---- numbers, high byte first
+// ---- numbers, big-endian
 
-// The number of the two bytes at a place.
+// The number that the two bytes from a position on write.
 pub fn two(s: &[u8], at: usize) -> u32
     requires { ⌜ at + 2 ≤ length (now s) ⌝ }
     ensures { λ r. ⌜ (r ≡ num 2 (drop at (now (s .entry)))) × (r < 65536) ⌝ }
@@ -267,7 +267,7 @@ fn taken_bad(size: u32, taken: Pointer) -> bool
     taken.code != code_for(taken.place)
 }
 
-// Leaf `place` of the leaf part, 0 where there is none.
+// The leaf of number `place` in the list of leaves, 0 where there is none.
 pub fn leaf(leaves: &[u8], place: u32) -> u64
     requires { ⌜ length (now leaves) % 8 ≡ 0 ⌝ }
     ensures { λ r. ⌜ r ≡ leafNo (leafAt (now (leaves .entry)) place) ⌝ }
