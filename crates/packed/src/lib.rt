@@ -95,7 +95,7 @@ fn size(file: &[u8], k: u32) -> u32
     be32(file, PACKED_HEAD + 4 * ((top - k) as usize))
 }
 
-// The bytes of list k.
+// How many bytes list k has.
 fn share(file: &[u8], k: u32) -> u64
     requires { ⌜ Sized (now file) ⌝ }
     requires { ⌜ k ≤ topOf (now file) ⌝ }
@@ -105,7 +105,7 @@ fn share(file: &[u8], k: u32) -> u64
     if k == 0 { 8 * n } else { 2 * n }
 }
 
-// The bytes of the n lists that end the file: whole numbers that don't wrap.
+// How many bytes the n lists that end the file have: whole numbers that don't wrap.
 fn last_lists(file: &[u8], n: u32) -> u64
     requires { ⌜ Sized (now file) ⌝ }
     requires { ⌜ n ≤ suc (topOf (now file)) ⌝ }
