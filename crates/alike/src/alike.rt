@@ -114,7 +114,7 @@ fn records_match(
     true
 }
 
-// The mirrors under which the record at a place matches itself.
+// The mask of the record at a place: bit t is set where it matches itself under mirror t.
 pub fn record_mask(list: &[u8], place: u32, marks: &[u8], unit: usize) -> u8
     requires { ⌜ T (recordOk (now list) place) ⌝ }
     requires { ⌜ unit ≤ 8 ⌝ }

@@ -1,5 +1,6 @@
 // Records of one list beside each other: their masks, and whether two match under some mirror, by places and by the marks
-// one list down.
+// one list down. A list's share is the part of the check's scratch that lies there as the list does in the file; a record's mark is its
+// symmetry mask, at the record's first byte in that share.
 mod alike; // masks and matching
 mod records; // one record
 

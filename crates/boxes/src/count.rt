@@ -1,5 +1,5 @@
 // How many solid voxels a box of a cell holds. The cell is seen under a mirror, and the box lies in its cube. A cell wholly
-// inside the box is counted by a function of its own, which enters equal children once.
+// inside the box is counted by a function of its own, which enters equal children above the leaves once.
 ghost use mathlib.Core.Path.{_≡_};
 ghost use mathlib.Core.Bool.{cond, false};
 ghost use Prim.Native.Nat.{_+_, _<_, _≤_, _^_};
@@ -232,7 +232,7 @@ fn without(cell: [u32; 8], number: u32) -> [u32; 8]
     rest
 }
 
-// All voxels of the leaf that a pointer names.
+// The solid voxels of the leaf that a pointer names, 0 for none.
 fn count_named(store: &[u32], p: u32) -> u64
     requires { ⌜ T (headerOk (now store)) ⌝ }
     requires { ⌜ badPointer (keptCount (now store) 0) p ≡ false ⌝ }
@@ -244,7 +244,7 @@ fn count_named(store: &[u32], p: u32) -> u64
     whole_leaf(leaf_at(store, cell_number(p)))
 }
 
-// All voxels of the leaves of a cell.
+// The solid voxels of the eight leaves that a cell's pointers name.
 fn count_leaves(store: &[u32], cell: [u32; 8]) -> u64
     requires { ⌜ T (headerOk (now store)) ⌝ }
     requires { ⌜ anyBad (keptCount (now store) 0) cell ≡ false ⌝ }
@@ -260,7 +260,7 @@ fn count_leaves(store: &[u32], cell: [u32; 8]) -> u64
     sum
 }
 
-// All voxels of a cell of list k.
+// The solid voxels of a cell of list k, or that a pointer in it or below it is bad.
 pub fn count_whole(store: &[u32], k: u32, number: u32) -> Tally
     requires { ⌜ T (headerOk (now store)) ⌝ }
     requires { ⌜ k < heights ⌝ }
@@ -277,8 +277,8 @@ pub fn count_whole(store: &[u32], k: u32, number: u32) -> Tally
     count_wholes(store, k - 1, cell)
 }
 
-// All voxels of the children of a cell, of list k, the last first: leaves one by one; of other children, those that name one
-// cell are counted by entering it once, and go absent.
+// The solid voxels of the children of a cell, of list k, the last first: leaves one by one; of other children, those that name one
+// cell are counted by entering it once, and their pointers become none.
 fn count_wholes(store: &[u32], k: u32, cell: [u32; 8]) -> Tally
     requires { ⌜ T (headerOk (now store)) ⌝ }
     requires { ⌜ (k < heights) × (anyBad (keptCount (now store) k) cell ≡ false) ⌝ }

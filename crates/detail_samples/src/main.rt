@@ -138,6 +138,7 @@ fn factors(nan: f64, infinity: f64) {
     sight(6, nan, nan);
 }
 
+// Every sample, line by line.
 fn main() {
     let nan = 0.0 / 0.0;
     let infinity = 1.0 / 0.0;

@@ -9,6 +9,7 @@ use Rattle.paper.specs.declared.Refusal.the-variants.{DamagedStore, NoScene}
 use Rattle.entry.specs.declared.Entry.{Entry}
 use Rattle.entry.specs.declared.Entry.the-variants.{Root, Refused}
 
+-- 2 (header), 9, 2 (the scene's two words), or the scene's depth and root pointer
 unfoldable pub entryOf : List ℕ → ℕ → Entry
 entryOf ws n =
     cond (headerOk ws) (cond (noScene ws n) (Refused NoScene) (cond (sceneOk ws n) (Root (sceneDepth ws n) (sceneRoot ws n)) (Refused DamagedStore))) (Refused DamagedStore)

@@ -14,6 +14,7 @@ pub enum Entry {
     Refused(Refusal),
 }
 
+// The depth and root pointer of a scene, or its refusal: 2 (header), 9, 2 (the scene's two words), in this order.
 pub fn enter(store: &[u32], scene: u32) -> Entry
     ensures { λ r. ⌜ r ≡ entryOf (now (store .entry)) scene ⌝ }
 {

@@ -1,2 +1,2 @@
--- Definitions that the contracts cite.
+-- Definitions that the contracts cite: the words after a cell more, a scene more, and after lists are cut back.
 pub mod Keeping

@@ -1,6 +1,6 @@
--- What an `Opened` owns, for the walks: it is put together of the slice's own part and facts of the numbers, and taken apart again.
--- A field that is an array stands in the struct's own row as `map (λ x. x)` of its list, which does not compute away for an unknown list: `there` and `back` carry its facts across.
--- Assumes nothing.
+-- What an `Opened` owns, for the walks: it is put together of the slice's own part and facts of the numbers, and taken apart again. A field that is
+-- an array stands in the struct's own row as `map (λ x. x)` of its list, which does not compute away for an unknown list: `there` and `back` carry
+-- its facts across. Assumes nothing.
 use mathlib.Core.Path.{_≡_, refl, sym, subst}
 use Prim.Native.Nat.{ℕ, _<_, _^_}
 use mathlib.Core.List.{List, [], _∷_, map, map-id}

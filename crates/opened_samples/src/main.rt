@@ -95,7 +95,7 @@ fn main() {
     // nothing, and less than a head
     sample(&[], 0, 0, 0);
     sample(&[0x21, 0, 0, 0, 6, 2], 0, 0, 0);
-    // front byte, length, depth, byte 6, a size, a header with code 3, a leaf that is zero
+    // version byte, length, depth, byte 6, a size, a header with code 3, a leaf that is zero
     changed(0, 0x11);
     changed(4, 0x1C);
     changed(5, 17);

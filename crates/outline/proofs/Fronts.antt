@@ -1,4 +1,4 @@
--- A file's front byte and length field: what each test says where the code has found the file long enough, or too short.
+-- A file's version byte and length field: what each test says where the code has found the file long enough, or too short.
 -- By the value of the first test, at which the conjunction computes. Assumes nothing.
 use mathlib.Core.Path.{_≡_}
 use mathlib.Core.Bool.{Bool, true, false, not, _&&_}

@@ -30,7 +30,7 @@ three-range true true false n = (omega arith, omega arith)
 three-range true true true n = absurd (n refl)
 
 module _ (front head : ℕ) (file : List ℕ) where
-  -- front byte, length field and depth are good
+  -- version byte, length field and depth are good
   pub record Headed : Type 0 where
     pub front-ok : frontOk front file ≡ true
     pub length-ok : lengthOk head file ≡ true

@@ -1,4 +1,4 @@
--- Laws that belong to no one function.
+-- Laws that belong to no one function: a file's first bytes, its records by position and as the paper reads them, the tests in their order.
 pub mod Fronts
 pub mod Records
 pub mod Agreeing

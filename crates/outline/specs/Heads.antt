@@ -6,7 +6,7 @@ use Rattle.paper.specs.Rooms.{depthOk}
 use Rattle.paper.specs.Outline.{frontOk, lengthOk, fileDepth}
 use Rattle.paper.specs.Order.{Test, when, firstOf}
 
--- of a file of this front byte and this head: 3, 4, 5, then the tests of its kind
+-- of a file whose kind has this version byte and at least so many bytes: 3, 4, 5, then the tests of its kind
 abbrev pub headOrder : ℕ → ℕ → List ℕ → List Test → List Test
 headOrder front head file rest = when (not (frontOk front file)) 3 ∷ when (not (lengthOk head file)) 4 ∷ when (not (depthOk (fileDepth file))) 5 ∷ rest
 

@@ -1,3 +1,3 @@
--- Definitions that the contracts cite.
+-- Definitions that the contracts cite: records by position, and the tests of a file's first bytes.
 pub mod Positions
 pub mod Heads

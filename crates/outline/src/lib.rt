@@ -134,7 +134,8 @@ pub fn rules_bad(file: &[u8]) -> bool
 
 // ---- refusals
 
-// The refusal of a file of this front byte and this head by its front byte, its length and its depth: 3, 4, 5 in this order, or 0.
+// The refusal of a file by its version byte, its length and its depth: 3, 4, 5 in this order, or 0. `front` is the version byte of its
+// kind, `head` how many bytes a file of its kind has at least.
 pub fn head_number(file: &[u8], front: u8, head: usize) -> u32
     requires { ⌜ 6 ≤ head ⌝ }
     ensures { λ r. ⌜ r ≡ headNumber front head (now (file .entry)) ⌝ }
@@ -165,7 +166,7 @@ pub fn refusal(file: &[u8]) -> u32
     0
 }
 
-// The refusal of a file by itself, 3 to 6.
+// The refusal of this number, 3 to 6.
 pub fn file_refusal(number: u32) -> Refusal
     requires { ⌜ (3 ≤ number) × (number ≤ 6) ⌝ }
     ensures { λ r. ⌜ numberOf r ≡ number ⌝ }

@@ -33,7 +33,7 @@ use writing::file_length;
 use writing::write_lists;
 use writing::write_sizes;
 
-// The mirror's place says this for an empty scene.
+// Byte 6 of an empty scene.
 const EMPTY: u32 = EMPTY_MARK as u32;
 
 // Scratch takes so many words for each unit of capacity.

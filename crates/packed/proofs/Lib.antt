@@ -1,4 +1,4 @@
--- Laws that belong to no one function.
+-- Laws that belong to no one function: numbers read, the header and its sizes, one record and its codes, the lists of a file, the walk.
 pub mod Reading
 pub mod Header
 pub mod Records

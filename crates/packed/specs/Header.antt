@@ -9,14 +9,14 @@ use Rattle.paper.specs.Rooms.{least, deepest}
 use Rattle.paper.specs.Outline.{fileDepth}
 use Rattle.paper.specs.Packed.{packedHead, topOf, sizeAt, headOk}
 
--- front, length and depth are tested
+-- length and depth are tested: 7 bytes at least, no more than four bytes can say, and a depth of 2 to 16
 pub record Tested (bs : List ℕ) : Type 0 where
   pub long : packedHead ≤ length bs
   pub short : length bs < 2 ^ 32
   pub deep : least ≤ fileDepth bs
   pub flat : fileDepth bs ≤ deepest
 
--- the bytes before the first list: the head and the sizes
+-- how many bytes stand before the first list: the head and the sizes
 abbrev pub frontOf : List ℕ → ℕ
 frontOf bs = packedHead + 4 * suc (topOf bs)
 
@@ -31,11 +31,11 @@ pub record Opens (bs : List ℕ) : Type 0 where
   pub tested : Tested bs
   pub head : T (headOk bs)
 
--- the bytes of list k
+-- how many bytes list k has
 abbrev pub shareAt : List ℕ → ℕ → ℕ
 shareAt bs k = cond (eqb k 0) 8 2 * sizeAt bs k
 
--- the bytes of the n lists that end the file
+-- how many bytes the n lists that end the file have
 unfoldable pub lastLists : List ℕ → ℕ → ℕ
 lastLists bs zero = 0
 lastLists bs (suc n) = lastLists bs n + shareAt bs n

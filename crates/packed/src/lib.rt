@@ -63,9 +63,9 @@ pub enum Reached {
     Empty(u32),
 }
 
-// ---- numbers, high byte first
+// ---- numbers, big-endian
 
-// The number of the two bytes at a place.
+// The number that the two bytes from a position on write.
 pub fn two(s: &[u8], at: usize) -> u32
     requires { ⌜ at + 2 ≤ length (now s) ⌝ }
     ensures { λ r. ⌜ (r ≡ num 2 (drop at (now (s .entry)))) × (r < 65536) ⌝ }
@@ -95,7 +95,7 @@ fn size(file: &[u8], k: u32) -> u32
     be32(file, PACKED_HEAD + 4 * ((top - k) as usize))
 }
 
-// The bytes of list k.
+// How many bytes list k has.
 fn share(file: &[u8], k: u32) -> u64
     requires { ⌜ Sized (now file) ⌝ }
     requires { ⌜ k ≤ topOf (now file) ⌝ }
@@ -105,7 +105,7 @@ fn share(file: &[u8], k: u32) -> u64
     if k == 0 { 8 * n } else { 2 * n }
 }
 
-// The bytes of the n lists that end the file: whole numbers that don't wrap.
+// How many bytes the n lists that end the file have: whole numbers that don't wrap.
 fn last_lists(file: &[u8], n: u32) -> u64
     requires { ⌜ Sized (now file) ⌝ }
     requires { ⌜ n ≤ suc (topOf (now file)) ⌝ }
@@ -267,7 +267,7 @@ fn taken_bad(size: u32, taken: Pointer) -> bool
     taken.code != code_for(taken.place)
 }
 
-// Leaf `place` of the leaf part, 0 where there is none.
+// The leaf of number `place` in the list of leaves, 0 where there is none.
 pub fn leaf(leaves: &[u8], place: u32) -> u64
     requires { ⌜ length (now leaves) % 8 ≡ 0 ⌝ }
     ensures { λ r. ⌜ r ≡ leafNo (leafAt (now (leaves .entry)) place) ⌝ }

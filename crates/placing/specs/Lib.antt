@@ -1,2 +1,2 @@
--- Definitions that the contracts cite.
+-- Definitions that the contracts cite: where the records of a scene come to lie.
 pub mod Placing

@@ -1,4 +1,5 @@
--- Laws that belong to no one function.
+-- Laws that belong to no one function: where the lists of a file lie, loops along a list, counters and what they come to, and each list's share of
+-- the scratch.
 pub mod InFile
 pub mod Along
 pub mod Counts

@@ -1,4 +1,4 @@
--- The records that name a place, counted in the four bytes at its start, and the counters tested along a list. Definitions only.
+-- The records that name a place, counted in the four bytes that start there, and the counters tested along a list. Definitions only.
 use mathlib.Core.Path.{_≡_}
 use mathlib.Core.Bool.{Bool, true, cond, not, _&&_}
 use mathlib.Core.List.{List, [], _∷_, map}

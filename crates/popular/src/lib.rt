@@ -1,5 +1,6 @@
-// Popularity: how many records name each record one list down, counted in the four bytes at its start of a scratch as long as
-// the file, and tested along the list. The lists are whole and every pointer names the start of a record.
+// Popularity: how many records one height up name each record. They are counted in a scratch as long as the file, in the four bytes
+// that lie there as the record's first four do in the file, and the counters are tested along each list. The lists are whole and every
+// pointer names the start of a record.
 ghost use mathlib.Core.Path.{_≡_};
 ghost use mathlib.Core.Bool.{not};
 ghost use Prim.Native.Nat.{_+_, _*_, _%_, _^_, _≤_, _<_};
@@ -85,7 +86,7 @@ fn add_one(counts: &mut [u8], at: usize)
     put_number(counts, at, COUNTER, n + 1);
 }
 
-// Counts a record at the place of pointer i, unless an earlier one goes there.
+// Counts a record at the place of its pointer i, unless one of its earlier pointers goes there.
 fn count_link(list: &[u8], place: u32, i: u32, counts: &mut [u8], unit: usize)
     requires { ⌜ T (countable unit (length (now counts)) (now list) place) ⌝ }
     requires { ⌜ (i < 8) × (unit ≤ 8) ⌝ }
@@ -202,7 +203,7 @@ fn popular_bad(file: &[u8], scratch: &mut [u8], starts: [u32; 15], k: u32) -> bo
     share_bad(&file[above..a], &file[a..b], &mut scratch[a..b], k)
 }
 
-// Whether a list below the top breaks the rules of popularity. The scratch is zero before.
+// Whether a record below the top is not named, or along a list more often than the one before it. The scratch is zero before.
 pub fn popular_lists_bad(file: &[u8], scratch: &mut [u8], starts: [u32; 15], top: u32) -> bool
     requires { ⌜ Listed (now file) starts ⌝ }
     requires { ⌜ SoundLists (now file) ⌝ }

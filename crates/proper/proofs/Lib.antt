@@ -1,4 +1,4 @@
--- Laws that belong to no one function.
+-- Laws that belong to no one function: marks and starts, the rules by places as the paper's, groups of mirrors, the scratch, and the check.
 pub mod Marks
 pub mod Starting
 pub mod ByPlaces

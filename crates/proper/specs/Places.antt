@@ -1,6 +1,5 @@
--- The rules of a proper file as code tests them: by places and marks, not by numbers of records. A list's MARKS are as many bytes as the list has: at
--- the first byte of each record its symmetry mask (bit t: it matches itself under t), 0 elsewhere. A record's mask, its matching and the lowest tag
--- of a pointer to it need the marks one list down only. Definitions only.
+-- The rules of a proper file as code tests them: by places and by the marks of `alike`, not by numbers of records. Here are the marks of each list of a
+-- file, the rules of one list, the root's tag, and all rules together. Definitions only.
 use mathlib.Core.Bool.{Bool, true, cond, _&&_}
 use mathlib.Core.List.{List, [], _∷_}
 use Prim.Native.Nat.{ℕ, zero, suc, _*_}
@@ -35,7 +34,7 @@ listRules bs (suc k) =
 unfoldable pub rootLow : List ℕ → Bool
 rootLow bs = lowBy (markOf (unitAt (topOf bs)) (marksAt bs (topOf bs)) 0) (rootTag bs)
 
--- ---- all rules, of a file that is not empty
+-- ---- all rules, of the file of a scene that is not empty
 
 unfoldable pub rulesBy : List ℕ → Bool
 rulesBy bs = allBelow (suc (topOf bs)) (listRules bs) && topOk bs && rootLow bs && allBelow (topOf bs) (popularRules bs)

@@ -67,7 +67,7 @@ fn root_high(file: &[u8], scratch: &[u8], starts: [u32; 15], top: u32) -> bool
     tag_high(wide(scratch[a]), wide(file[MIRROR_PLACE]))
 }
 
-// Whether a file that is not empty breaks a rule on its records.
+// Whether the file of a scene that is not empty breaks a rule past the sizes, 2 to 8. The scratch is left as the last test has it.
 fn records_broken(file: &[u8], scratch: &mut [u8]) -> bool
     requires { ⌜ Opens (now file) ⌝ }
     requires { ⌜ isEmpty (now file) ≡ false ⌝ }
@@ -90,7 +90,7 @@ fn records_broken(file: &[u8], scratch: &mut [u8]) -> bool
     popular_lists_bad(file, scratch, begins, top)
 }
 
-// Refusal 6, before the scratch is cleared.
+// Refusal 6: whether byte 6, the sizes, a record or a list breaks the rules. The scratch is left as the last test has it.
 fn broken(file: &[u8], scratch: &mut [u8]) -> bool
     requires { ⌜ Tested (now file) ⌝ }
     requires { ⌜ length (now scratch) ≡ length (now file) ⌝ }
@@ -105,7 +105,7 @@ fn broken(file: &[u8], scratch: &mut [u8]) -> bool
     records_broken(file, scratch)
 }
 
-// Refusal 6: whether byte 6, the sizes, a record or a list breaks the rules. The scratch is left zero.
+// The same, and the scratch is left zero.
 fn rules_bad(file: &[u8], scratch: &mut [u8]) -> bool
     requires { ⌜ Tested (now file) ⌝ }
     requires { ⌜ length (now scratch) ≡ length (now file) ⌝ }

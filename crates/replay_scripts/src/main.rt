@@ -11,6 +11,7 @@ fn play(name: &[u8]) {
     libc::close(fd);
 }
 
+// Every script, one after the other.
 fn main() {
     play(b"samples.script");
     play(b"orders.script");

@@ -61,6 +61,7 @@ fn too_long() {
     script::start(&script);
 }
 
+// Every script that ends in `stop`.
 fn main() {
     no_command();
     cut_short();

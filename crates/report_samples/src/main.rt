@@ -18,6 +18,7 @@ fn report_all(all: &[u8]) {
     }
 }
 
+// Reports every input that stands on standard input.
 fn main() {
     let mut all = [0u8; 65536];
     let size = io::read_full(0, &mut all);

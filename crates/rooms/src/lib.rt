@@ -24,35 +24,35 @@ use paper::Written;
 pub use opened::ask;
 pub use opened::open;
 
-// New store: the words of this capacity zeroed, then word 0 set.
+// New store: the words of this capacity zeroed, then word 0 set; refused by 1.
 pub fn new_store(store: &mut [u32], capacity: u32) -> Started
     ensures { λ r. ⌜ outcome (started r) (now (store .exit) ∷ []) ≡ newOutcome capacity (now (store .entry)) ⌝ }
 {
     store::new_store(store, capacity)
 }
 
-// Add: the scene of an outline, its cells merged into those kept.
+// Add: the scene of an outline, its cells merged into those kept; answers its number. Refused by 2, 3, 4, 5, 6, 7, 8.
 pub fn add(store: &mut [u32], file: &[u8]) -> Added
     ensures { λ r. ⌜ outcome (added r) (now (store .exit) ∷ []) ≡ addOutcome (now (store .entry)) (now (file .entry)) ⌝ }
 {
     merge::add(store, file)
 }
 
-// Voxel: solid or empty.
+// Voxel: solid or empty; refused by 2 (header), 9, 2 (the scene's two words), 10, 2 (walk).
 pub fn voxel(store: &[u32], scene: u32, x: u32, y: u32, z: u32) -> Seen
     ensures { λ r. ⌜ outcome (seen r) [] ≡ voxelOutcome (now (store .entry)) scene (point x y z) ⌝ }
 {
     walk::voxel(store, scene, x, y, z)
 }
 
-// Cell: non-empty or empty, x, y and z counted in cells of its height.
+// Cell: non-empty or empty, x, y and z counted in cells of its height; refused as voxel.
 pub fn cell(store: &[u32], scene: u32, height: u32, x: u32, y: u32, z: u32) -> Occupied
     ensures { λ r. ⌜ outcome (occupied r) [] ≡ cellOutcome (now (store .entry)) scene height (point x y z) ⌝ }
 {
     walk::cell(store, scene, height, x, y, z)
 }
 
-// Box: how many solid voxels v have low <= v < high on each axis.
+// Box: how many solid voxels v have low <= v < high on each axis; refused as voxel.
 pub fn box_count(
     store: &[u32],
     scene: u32,
@@ -78,42 +78,42 @@ pub fn box_count(
     boxes::box_count(store, scene, low, high)
 }
 
-// Kept: the cells kept at a height.
+// Kept: how many cells are kept at a height; refused by 2 (header), 10.
 pub fn kept(store: &[u32], height: u32) -> Kept
     ensures { λ r. ⌜ outcome (kept-told r) [] ≡ keptOutcome (now (store .entry)) height ⌝ }
 {
     store::kept(store, height)
 }
 
-// Outline out: the outline of a scene.
+// Outline out: the outline of a scene; answers its length. Refused by 2, 9, 12.
 pub fn outline_out(store: &[u32], scene: u32, out: &mut [u8]) -> Written
     ensures { λ r. ⌜ outcome (written r) (now (out .exit) ∷ []) ≡ outlineOutcome (now (store .entry)) scene (now (out .entry)) ⌝ }
 {
     outline_out::outline_out(store, scene, out)
 }
 
-// Pack: a scene as a packed file.
+// Pack: a scene as a packed file; answers its length. Refused by 2, 9, 11, 12.
 pub fn pack(store: &[u32], scene: u32, scratch: &mut [u32], out: &mut [u8]) -> Written
     ensures { λ r. ⌜ outcome (written r) (now (scratch .exit) ∷ now (out .exit) ∷ []) ≡ packOutcome (now (store .entry)) scene (now (scratch .entry)) (now (out .entry)) ⌝ }
 {
     pack::pack(store, scene, scratch, out)
 }
 
-// Packed check: the depth of a proper file.
+// Packed check: the depth of a proper file; refused by 11, 3, 4, 5, 6.
 pub fn check(file: &[u8], scratch: &mut [u8]) -> Checked
     ensures { λ r. ⌜ outcome (checked r) (now (scratch .exit) ∷ []) ≡ checkOutcome (now (file .entry)) (now (scratch .entry)) ⌝ }
 {
     proper::check(file, scratch)
 }
 
-// Packed voxel: solid or empty, with the number of records read on the way.
+// Packed voxel: solid or empty, with the number of records read on the way; refused by 3, 4, 5, 10, 6.
 pub fn packed_voxel(file: &[u8], x: u32, y: u32, z: u32) -> Found
     ensures { λ r. ⌜ outcome (found r) [] ≡ packedVoxelOutcome (now (file .entry)) (point x y z) ⌝ }
 {
     packed::packed_voxel(file, x, y, z)
 }
 
-// Detail: the height at which to draw a scene of this depth.
+// Detail: the height at which to draw a scene of this depth; refused by 5, 13.
 pub fn detail(depth: u32, wish: Wish) -> Chosen
     ensures { λ r. ⌜ outcome (chosen r) [] ≡ detailOutcome depth wish ⌝ }
 {

@@ -155,7 +155,8 @@ pub extern "C" fn rooms_packed_voxel(
     answer.number()
 }
 
-// Opening: the depth and the fifteen list starts, written to the first sixteen numbers; by 3, 4, 5, 6, then 12 where there are fewer.
+// Opening: the depth and the fifteen list starts, written to the first sixteen numbers; refused by 3, 4, 5, 6, then 12
+// where there are fewer.
 #[no_mangle]
 pub extern "C" fn rooms_open(file: &[u8], numbers: &mut [u32]) -> u32
     ensures { λ r. ⌜ outcome (told r []) (now (numbers .exit) ∷ []) ≡ openCOutcome (now (file .entry)) (now (numbers .entry)) ⌝ }

@@ -1,4 +1,4 @@
--- What the commands of a script say of their answers: that they stay inside the script and the memory. Assumes nothing.
+-- What the commands of a script say of their answers: that they stay inside the script and the memory. Definitions only.
 use Prim.Native.Nat.{ℕ, _+_, _≤_}
 use mathlib.Core.List.{List}
 use lib.ListN.{length}

@@ -1,4 +1,4 @@
--- Laws that belong to no one function.
+-- Laws that belong to no one function: slots in bytes, slots exchanged and mixed, heaps put in order, and what neighbours tell.
 pub mod SlotBytes
 pub mod Exchanges
 pub mod Mixing

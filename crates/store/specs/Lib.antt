@@ -1,2 +1,2 @@
--- Definitions that the contracts cite.
+-- Definitions that the contracts cite: a pointer and a cell mirrored.
 pub mod Mirrored

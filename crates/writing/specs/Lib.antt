@@ -1,2 +1,2 @@
--- Definitions that the contracts cite.
+-- Definitions that the contracts cite: the bytes of a scene's records, lists and sizes.
 pub mod Writing

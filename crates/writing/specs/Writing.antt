@@ -40,7 +40,7 @@ bodyLength sizes (suc k) = 2 * getD sizes (suc k) 0 + bodyLength sizes k
 abbrev pub fileLength : List ℕ → ℕ → ℕ
 fileLength sizes k = packedHead + 4 * (k + 1) + bodyLength sizes k
 
--- the header of a file of this length and depth; m the root's mirror, or 8 for none
+-- the header of a file of this length and depth; m the root's mirror, or 8 for an empty scene
 abbrev pub headOf : ℕ → ℕ → ℕ → List ℕ
 headOf n D m = packedFront ∷ bytes 4 n ++ (D ∷ m ∷ [])
 

@@ -1,5 +1,5 @@
--- `mirror_leaf` meets its contract: one axis after the other is mirrored where it is marked, and that is the mirror (Turning). What an axis asks is computed.
--- Assumes nothing.
+-- `mirror_leaf` meets its contract: one axis after the other is mirrored where it is marked, and that is the mirror (Turning). What an axis asks is
+-- computed. Assumes nothing.
 use mathlib.Core.Path.{ap, _∙_}
 use Prim.Native.Nat.{ℕ, _/_, _%_, _*_}
 use native.Mathlib.Omega.{arith}

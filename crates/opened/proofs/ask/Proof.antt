@@ -1,4 +1,5 @@
--- `opened::ask` meets its contract: a walk of its MIR, by hand. The struct is taken apart, and `ask_bytes` is called on its slice and its numbers. All that the proof knows of `ask_bytes` is that it meets its contract. Assumes nothing.
+-- `opened::ask` meets its contract: a walk of its MIR, by hand. The struct is taken apart, and `ask_bytes` is called on its slice and its numbers.
+-- All that the proof knows of `ask_bytes` is that it meets its contract. Assumes nothing.
 use mathlib.Core.Path.{_≡_, refl}
 use Prim.Native.Nat.{ℕ, _<_, _^_}
 use mathlib.Core.List.{[], _∷_}

@@ -1,4 +1,5 @@
--- `opened::open` meets its contract: a walk of its MIR, by hand, of straight-line code. `read_header` gives the numbers, `part` the bytes to hold, and a struct that holds an `Opened` is made of them. Assumes nothing.
+-- `opened::open` meets its contract: a walk of its MIR, by hand, of straight-line code. `read_header` gives the numbers, `part` the bytes to hold,
+-- and a struct that holds an `Opened` is made of them. Assumes nothing.
 use mathlib.Core.Path.{_≡_, refl, ap}
 use Prim.Native.Nat.{ℕ, _<_, _^_}
 use mathlib.Core.List.{List, [], _∷_}

@@ -1,4 +1,5 @@
--- `opened::open_and_ask` meets its contract: a walk of its MIR, by hand. What `open` returns is held in a local, its scene is passed to `ask`, and its answer is returned. All that the proof knows of `open` and of `ask` is that each meets its contract. Assumes nothing.
+-- `opened::open_and_ask` meets its contract: a walk of its MIR, by hand. What `open` returns is held in a local, its scene is passed to `ask`, and
+-- its answer is returned. All that the proof knows of `open` and of `ask` is that each meets its contract. Assumes nothing.
 use mathlib.Core.Path.{_≡_, refl, ap, _∙_}
 use Prim.Native.Nat.{ℕ, _<_, _^_}
 use mathlib.Core.List.{List, [], _∷_}

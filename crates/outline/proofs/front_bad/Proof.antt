@@ -1,4 +1,4 @@
--- `outline::front_bad` meets its contract: an empty file has no front byte, any other has its first.
+-- `outline::front_bad` meets its contract: an empty file has no version byte, any other has its first byte.
 -- By the law of each way. Assumes nothing.
 use mathlib.Core.Path.{sym}
 use borrow.Author.Needs.{needs}

@@ -1,4 +1,5 @@
--- `list_end` meets its contract. Assumes nothing.
+-- `list_end` meets its contract: the leaves end where the file does, any other list where the next one starts. By cases of the list's number.
+-- Assumes nothing.
 use borrow.Author.Tests.{eq-eqb, ne-eqb}
 use borrow.Author.Needs.{needs}
 use Rattle.popular.proofs.list_end.Statement.{statement}

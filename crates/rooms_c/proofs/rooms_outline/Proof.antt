@@ -1,4 +1,5 @@
--- `rooms_c::rooms_outline` meets its contract: the number and the value of what `rooms::outline_out` answers, which has the paper's outcome. Assumes nothing.
+-- `rooms_c::rooms_outline` meets its contract: the number and the value of what `rooms::outline_out` answers, which has the paper's outcome. Assumes
+-- nothing.
 use Rattle.paper.specs.Answers.{written}
 use Rattle.rooms_c.proofs.Told.{tells-one, written-told}
 use borrow.Author.Needs.{needs}

@@ -1,4 +1,5 @@
--- `rooms_c::rooms_packed_voxel` meets its contract: the number and both values of what `rooms::packed_voxel` answers, which has the paper's outcome. Assumes nothing.
+-- `rooms_c::rooms_packed_voxel` meets its contract: the number and both values of what `rooms::packed_voxel` answers, which has the paper's outcome.
+-- Assumes nothing.
 use Rattle.paper.specs.Answers.{found}
 use Rattle.rooms_c.proofs.Told.{tells-two, found-told}
 use borrow.Author.Needs.{needs}

@@ -1,5 +1,5 @@
--- `store::calls::new_store` meets its contract: refused where the size is bad, and then nothing is written; else the words used are zeroed and word 0 set.
--- Each way is one of the ways through the call. Assumes nothing.
+-- `store::calls::new_store` meets its contract: refused where the size is bad, and then nothing is written; else the words used are zeroed and word 0
+-- set. Each way is one of the ways through the call. Assumes nothing.
 use mathlib.Core.Path.{_≡_, ap, _∙_}
 use mathlib.Core.Bool.{true}
 use Prim.Native.Nat.{ℕ}

@@ -1,5 +1,5 @@
--- `store::damage::lists_not_blank` meets its contract. The invariant: no unused word of the lists from k on is other than zero, so the answer is that of the lists below k.
--- The measure is k. Assumes nothing.
+-- `store::damage::lists_not_blank` meets its contract. The invariant: no unused word of the lists from k on is other than zero, so the answer is that
+-- of the lists below k. The measure is k. Assumes nothing.
 use mathlib.Core.Path.{_≡_, refl, sym, ap}
 use mathlib.Core.Bool.{not}
 use Prim.Native.Nat.{_≤_}
