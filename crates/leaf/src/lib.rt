@@ -7,9 +7,7 @@ ghost use Rattle.paper.specs.Numbers.{bitFor};
 ghost use Rattle.paper.specs.Leaf.{mirrorLeaf};
 ghost use Rattle.laws.specs.Masks.{maskFor};
 ghost use Rattle.leaf.specs.Turns.{turned, swaps, axis};
-
-// The mirrors.
-pub const MIRRORS: u32 = 8;
+use limits::MIRRORS;
 
 // The bits whose number lacks a step of 1, 2, 4, 8, 16 or 32: those that change places with the bit so far above.
 const BELOW_1: u64 = 0x5555555555555555;

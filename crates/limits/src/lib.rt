@@ -39,5 +39,9 @@ pub const LEAF_BYTES: usize = 8;
 
 pub const HALF_BYTES: usize = 2;
 
-// The farthest place of a 2-byte pointer.
+// The farthest place of a 2-byte pointer; the places that a pointer of 2 and one of 4 bytes can name, above which its mirror bits stand.
 pub const FARTHEST_SHORT: u32 = 8191;
+
+pub const SHORT_PLACES: u32 = 8192;
+
+pub const LONG_PLACES: u32 = 536870912;

@@ -23,9 +23,11 @@ use limits::FARTHEST_SHORT;
 use limits::HALF_BYTES;
 use limits::LEAF_BYTES;
 use limits::LEAF_HEIGHT;
+use limits::LONG_PLACES;
 use limits::MIRROR_PLACE;
 use limits::PACKED_FRONT;
 use limits::PACKED_HEAD;
+use limits::SHORT_PLACES;
 use numbers::be32;
 use numbers::be64;
 use numbers::wide;
@@ -43,11 +45,6 @@ const LOW_BITS: u32 = 0x5555;
 
 // The bytes of a record of eight 4-byte pointers: no record is longer.
 const LONGEST: usize = 34;
-
-// The places that a pointer of 2 and one of 4 bytes can name: its mirror bits stand above them.
-const SHORT_PLACES: u32 = FARTHEST_SHORT + 1;
-
-const LONG_PLACES: u32 = 536870912;
 
 // A child's pointer: its code (0 none, 1 of 2 bytes, 2 of 4), its mirror, and the child's place.
 pub struct Pointer {

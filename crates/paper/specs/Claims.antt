@@ -1,4 +1,4 @@
--- The claims C1 to C11, the demands of the mission, as types. This file states all and proves none; docs/READING.md says where each is proved.
+-- The claims C1 to C11, document 01's demands, as types. This file states all and proves none; docs/READING.md says where each is proved.
 -- A claim that speaks of a call speaks of its outcome function (Calls, Detail); the promise of the call ties the code to that function.
 use mathlib.Core.Bool.{true, false}
 use mathlib.Core.List.{List, [], _∷_}

@@ -14,7 +14,9 @@ use limits::CHILDREN;
 use limits::FARTHEST_SHORT;
 use limits::HALF_BYTES;
 use limits::LEAF_BYTES;
+use limits::LONG_PLACES;
 use limits::PACKED_HEAD;
+use limits::SHORT_PLACES;
 use numbers::wider;
 use numbers::write_number;
 use order::ORDERS;
@@ -49,9 +51,9 @@ const LEAF_LENGTH: u64 = LEAF_BYTES as u64;
 const TWO_BITS: u32 = 4;
 
 // The lowest mirror bit of a short and of a long pointer.
-const SHORT_TAG: u64 = 8192;
+const SHORT_TAG: u64 = SHORT_PLACES as u64;
 
-const LONG_TAG: u64 = 536870912;
+const LONG_TAG: u64 = LONG_PLACES as u64;
 
 // Writes a pointer p into list k, or nothing for none; answers the position after it.
 fn write_pointer(c: u32, k: u32, p: u32, scratch: &[u32], out: &mut [u8], at: usize) -> usize
