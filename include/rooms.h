@@ -55,19 +55,19 @@ extern "C" {
 /* ---- refusals ---- */
 
 #define ROOMS_OK 0u
-#define ROOMS_BAD_SIZE 1u       /* new store: capacity out of range or too few words */
-#define ROOMS_DAMAGED_STORE 2u  /* damaged store */
-#define ROOMS_BAD_VERSION 3u    /* file empty or wrong version byte */
-#define ROOMS_BAD_LENGTH 4u     /* outline under 6 bytes, packed under 7, or length field not the slice's length */
-#define ROOMS_BAD_DEPTH 5u      /* depth not 2 to 16 */
-#define ROOMS_BROKEN_RULES 6u   /* a record or list breaks its file's rules */
-#define ROOMS_SCENES_FULL 7u    /* 64 scenes held */
-#define ROOMS_CELLS_FULL 8u     /* a height would keep more than the capacity */
-#define ROOMS_NO_SCENE 9u       /* no such scene */
-#define ROOMS_OUTSIDE 10u       /* point, height or box outside, or low above high */
-#define ROOMS_SCRATCH_SHORT 11u /* scratch too short */
-#define ROOMS_OUTPUT_SHORT 12u  /* output too short */
-#define ROOMS_BAD_WISH 13u      /* wish out of range, NaN or infinite */
+#define ROOMS_BAD_SIZE 1u       /* the capacity is not 1 to 65,536, or the words are too few for it */
+#define ROOMS_DAMAGED_STORE 2u  /* the store is damaged where the call looks */
+#define ROOMS_BAD_VERSION 3u    /* the file has no byte, or its first is not 0x11 (outline) or 0x21 (packed) */
+#define ROOMS_BAD_LENGTH 4u     /* the file is shorter than its header, or its bytes 1 to 4 don't say its length */
+#define ROOMS_BAD_DEPTH 5u      /* the depth is not 2 to 16 */
+#define ROOMS_BROKEN_RULES 6u   /* the file breaks a rule of its kind that the call tests */
+#define ROOMS_SCENES_FULL 7u    /* the store holds 64 scenes */
+#define ROOMS_CELLS_FULL 8u     /* some height would have to keep more cells than the capacity */
+#define ROOMS_NO_SCENE 9u       /* the store holds no scene of this number */
+#define ROOMS_OUTSIDE 10u       /* a point, cell, height or box beyond the room, or low above high */
+#define ROOMS_SCRATCH_SHORT 11u /* the scratch is shorter than the call takes */
+#define ROOMS_OUTPUT_SHORT 12u  /* the output is shorter than what would be written */
+#define ROOMS_BAD_WISH 13u      /* the wish is out of its range, infinite or no number */
 
 /* ---- sizes ---- */
 
