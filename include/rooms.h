@@ -2,10 +2,10 @@
  * rooms.h: the room store, for C. Link target/staticlib/librooms_c.a: x86-64 Linux, and no other machine. Of the C library it
  * needs no more than memset and its kin.
  *
- * A room is a cube of voxels with a depth D, 2 to 16, and edge 2^D. A store keeps up to 64 scenes and each differing cell
- * of theirs once, mirror images included. The thirteen calls below work on memory that the caller lends: they allocate nothing,
- * keep nothing between calls, print nothing and start nothing. docs/RULES.md has the rules of rooms, stores and refusals,
- * docs/FORMATS.md the bytes of the two kinds of file.
+ * A room is a cube of voxels; its depth D, from 2 to 16, gives its edge, 2^D voxels. A store keeps up to 64 scenes and each
+ * differing cell of theirs once, mirror images included. The thirteen calls below work on memory that the caller lends: they
+ * allocate nothing, keep nothing between calls, print nothing and start nothing. docs/RULES.md has the rules of rooms, stores and
+ * refusals, docs/FORMATS.md the bytes of the two kinds of file.
  *
  * What a call answers
  *   Each call returns 0 where it is accepted, or the number of its refusal (ROOMS_..., below). The refusals of a call are
@@ -107,8 +107,8 @@ extern "C" {
 uint32_t rooms_new(uint32_t *store, size_t store_words, uint32_t capacity);
 
 /*
- * Add the room of an outline file: its cells are merged into those kept. *scene is the scene's number, the count of
- * scenes before; an empty scene, and one added twice, takes a number too.
+ * Add the room of an outline file: its cells are merged into those kept. *scene is the scene's number: how many were held
+ * before it. An empty room, and one added twice, takes a number too.
  * Refusals, in order: 2 (the whole store is tested), 3, 4, 5, 6 (the file), 7, 8. The store is then as it was.
  * On a store of these calls 2 is never given, and 8, if nothing before it, exactly where at some height the scenes held and
  * this one have more differing cells, images counted once, than the capacity.
@@ -123,8 +123,8 @@ uint32_t rooms_voxel(const uint32_t *store, size_t store_words, uint32_t scene, 
                      uint32_t *solid);
 
 /*
- * Cell of a height, 0 to D, with x, y and z counted in cells of that height: *full is 1 for non-empty, 0 for empty. On a
- * store of these calls that says whether it has a solid voxel. On any other, from height 2 up *full says whether the store
+ * Cell (x, y, z) among those of a height, 0 to D: *full is 1 for non-empty, 0 for empty. On a store of these calls that
+ * says whether it has a solid voxel. On any other, from height 2 up *full says whether the store
  * has a pointer to the cell, whatever the cell holds; at heights 0 and 1 the leaf's bits decide.
  * Refusals: as for a voxel; 10 also where the height is above D. The last 2 is for the cells above the one asked for.
  */
@@ -132,7 +132,7 @@ uint32_t rooms_cell(const uint32_t *store, size_t store_words, uint32_t scene, u
                     uint32_t z, uint32_t *full);
 
 /*
- * Box: *count is the number of solid voxels v with low <= v < high on each axis. Where low = high on an axis it is 0.
+ * Box: *count is the number of solid voxels from low up to, and not with, high on each axis; 0 where they agree on an axis.
  * Refusals: as for a voxel; 10 where on any axis low is above high, or high is above the edge 2^D. The last 2 is given
  * only for pointers to children that share a voxel with the box.
  */
@@ -177,8 +177,8 @@ uint32_t rooms_pack(const uint32_t *store, size_t store_words, uint32_t scene, u
 uint32_t rooms_check(const uint8_t *file, size_t file_bytes, uint8_t *scratch, size_t scratch_bytes, uint32_t *depth);
 
 /*
- * Voxel (x, y, z) of a packed file: *solid is 1 for solid, 0 for empty; *records is the number of records read on the
- * way, the root's and a leaf's included, 0 for an empty scene. Tested are the header, the sizes and what lies on the path.
+ * Voxel (x, y, z) of a packed file: *solid is 1 for solid, 0 for empty; *records is how many records that took, the top one
+ * and a leaf among them, none in an empty scene. Tested are the header, the sizes and what lies on the path.
  * On a proper file no point inside is refused. On one that is not proper it answers where its path shows no fault: a file of
  * depth 2 with two leaves is answered from the first.
  * Refusals, in order: 3, 4, 5, 10, 6.
