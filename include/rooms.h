@@ -4,8 +4,8 @@
  *
  * A room is a cube of voxels; its depth D, from 2 to 16, gives its edge, 2^D voxels. A store keeps up to 64 scenes and each
  * differing cell of theirs once, mirror images included. The thirteen calls below work on memory that the caller lends: they
- * allocate nothing, keep nothing between calls, print nothing and start nothing. docs/RULES.md has the rules of rooms, stores and
- * refusals, docs/FORMATS.md the bytes of the two kinds of file.
+ * allocate nothing, keep nothing between calls, print nothing and start nothing. docs/RULES.md has the rules of rooms, stores
+ * and refusals, docs/FORMATS.md the bytes of the two kinds of file.
  *
  * What a call answers
  *   Each call returns 0 where it is accepted, or the number of its refusal (ROOMS_..., below). The refusals of a call are
