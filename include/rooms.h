@@ -158,8 +158,8 @@ uint32_t rooms_outline(const uint32_t *store, size_t store_words, uint32_t scene
                        uint32_t *length);
 
 /*
- * Packed file of a scene, written to out; *length is its length in bytes, at most ROOMS_PACKED_MAX_BYTES(capacity). On a store
- * of these calls rooms_check accepts it. scratch may hold anything.
+ * Packed file of a scene, written to out; *length is its length in bytes. On a store of these calls it has at most
+ * ROOMS_PACKED_MAX_BYTES(capacity), and rooms_check accepts it. scratch may hold anything.
  * Refusals, in order: 2 (the whole store is tested), 9, 11 (fewer than ROOMS_PACK_SCRATCH_WORDS(capacity) words), 12.
  * out is then as it was. After 0 and 12 the scratch needed is zero; after 2, 9 and 11 it is as it was.
  */
