@@ -69,6 +69,7 @@ pub mod OpenClaim
 pub mod PackedLists
 pub mod PackedWalk
 pub mod ProperClaim
+pub mod ProperVoxels
 pub mod RecordSizes
 pub mod RecordReading
 pub mod RecordCells
