@@ -70,6 +70,7 @@ pub mod PackedLists
 pub mod PackedWalk
 pub mod ProperClaim
 pub mod ProperVoxels
+pub mod PackedClaims
 pub mod RecordSizes
 pub mod RecordReading
 pub mod RecordCells

@@ -9,24 +9,26 @@ use Prim.Native.Nat.{ℕ, zero, suc, _*_, _+_, _/_, _%_, _^_, _<_, _≤_}
 use native.Mathlib.Nat.{le-of-suc-le-suc, not-suc-le-zero, eq-or-lt-of-le, pow-succ'}
 use native.Mathlib.Decide.{decLt, ℕ-discrete}
 use native.Mathlib.Omega.{arith}
-use borrow.Author.Tests.{eq-eqb, ne-eqb}
+use borrow.Author.Tests.{eq-eqb, ne-eqb, eqb-false}
 use lib.Bits.{bitXor}
-use lib.Dec.{T, eqb, eqb→eq, ltb→lt}
+use lib.Dec.{T, eqb, leb, leb→le, eqb→eq, ltb→lt}
 use lib.ListN.{length, getD, drop, length-map, List·getD-map, List·getD-eq-default}
 use Rattle.paper.specs.Numbers.{allBelow, num, allIn, isIn, indexIn}
-use Rattle.paper.specs.Rooms.{NonEmpty}
-use Rattle.paper.specs.Outline.{edge, lengthOk}
+use Rattle.paper.specs.Rooms.{Room, mirror, mirrored, Same, NonEmpty}
+use Rattle.paper.specs.Outline.{edge, lengthOk, fileDepth}
 use Rattle.paper.specs.Store.{Cell, leafNo, tagOf, cellNo, cellsAt, cellAt}
 use Rattle.paper.specs.Meaning.{pointerVoxel, cellVoxel}
 use Rattle.paper.specs.Match.{matches}
-use Rattle.paper.specs.Packed.{packedHead, topOf, sizeAt, listAt, headerAt, Link, noLink, readLinks, linksAt, leafAt, recordOk, leafOk, codeFor, placesAt, byNumber, cellsOf, graphOf, wholeAt, linkOk, linksOk, namedOk, apartOk, tagLow, pointerLow, tagsOk, fallingOk, rootTag, isEmpty, sizesOk, listsOk, graphOk, proper}
+use Rattle.paper.specs.Packed.{packedHead, topOf, sizeAt, listAt, headerAt, Link, noLink, readLinks, linksAt, leafAt, recordOk, leafOk, codeFor, placesAt, byNumber, cellsOf, graphOf, wholeAt, linkOk, linksOk, namedOk, apartOk, tagLow, pointerLow, tagsOk, fallingOk, rootTag, isEmpty, sizesOk, listsOk, topOk, graphOk, emptyMark, headOk, proper, packedRoom}
 use Rattle.paper.specs.Runs.{Bytes}
+use Rattle.paper.specs.Claims.{recordRoom, pointerAt, RecordsDiffer}
 use Rattle.laws.proofs.Tests.{true-T, and-left, and-right, and5, all-at, all-at2}
 use Rattle.laws.proofs.Lists.{allIn-at, allIn-in, At, isIn-at, map-at, length-tabulate}
 use Rattle.laws.proofs.Bytes.{bytes-drop}
 use Rattle.laws.proofs.Eight.{xor8-lt}
-use Rattle.laws.proofs.Mirrors.{fromChild, fromChild-inside, mirrored-sym}
+use Rattle.laws.proofs.Mirrors.{mirror-inside, mirror-twice, mirror-mirror, fromChild, fromChild-inside, mirrored-sym}
 use Rattle.laws.proofs.Leaves.{leaf-solid}
+use Rattle.laws.proofs.Outlines.{depth-two}
 use Rattle.laws.proofs.Matching.{tag-lt}
 use Rattle.laws.proofs.Invariant.{Names, OkPointer, names-lt, names-ne, OkCell, Alike, LowTag, TwoWords, Inv, pointer-solid, cell-child, match-complete}
 use Rattle.laws.proofs.Adding.{pointer-names}
@@ -37,6 +39,11 @@ use Rattle.laws.proofs.ProperClaim.{Proper, proper-passes, head-sizes}
 never-both : (b : Bool) → T b → T (not b) → ⊥
 never-both true t n = n
 never-both false t n = t
+
+-- a room that two mirrors leave the same is the same under both
+turned : (t u S : ℕ) (r : Room) → t < 8 → u < 8 → Same S (mirrored t S r) (mirrored u S r) → Same S r (mirrored (bitXor u t) S r)
+turned t u S r ht hu e v l =
+    ap r (sym (mirror-twice t S v l)) ∙ e (mirror t S v) (mirror-inside t S v l) ∙ ap r (mirror-mirror u t S v hu ht l)
 
 -- ---- what the rules on a graph say of its cells
 
@@ -339,3 +346,43 @@ module _ (file : List ℕ) (by : Bytes file) (e : proper file ≡ true) (some : 
   -- every list is as a store's should be
   pub proper-inv : (k : ℕ) → Inv (graphOf file) k
   proper-inv = lists-inv file by (passes .long) proper-lists (proper-graph .apart) (proper-graph .tags)
+
+  -- ---- by voxels
+
+  abbrev g : List (List Cell)
+  g = graphOf file
+
+  top-there : 0 < length (cellsAt g (topOf file))
+  unfolding topOk
+  top-there =
+      omega (arith, list-length file by (passes .long) proper-lists (proper-graph .apart) (proper-graph .tags) (topOf file) (omega arith), eqb→eq (length (placesAt file (topOf file))) 1 (proper-lists .top))
+
+  pub root-tag : rootTag file < 8
+  unfolding headOk
+  root-tag =
+      let r : T (leb (rootTag file) emptyMark) = search (and-left, passes .head) in
+      omega (arith, leb→le (rootTag file) emptyMark r, eqb-false (rootTag file) emptyMark some)
+
+  root-low : (u : ℕ) → u < rootTag file → Same (2 ^ fileDepth file) (packedRoom file) (mirrored u (2 ^ fileDepth file) (recordRoom file (topOf file) 0)) → ⊥
+  unfolding packedRoom
+  root-low u hu a =
+      let k : ℕ = topOf file in
+      let t : ℕ = rootTag file in
+      let c : Cell = cellAt g k 0 in
+      let r : Room = recordRoom file k 0 in
+      let S : ℕ = 2 ^ fileDepth file in
+      let hu8 : u < 8 = omega (arith, root-tag) in
+      let e : Same S (mirrored t S r) (mirrored u S r) = λ v l. sym (ap (λ (b : Bool). cond b false (r (mirror t S v))) some) ∙ a v l in
+      let f : Alike g k c c (bitXor u t) = turned t u (edge k) r root-tag hu8 (subst (λ (d : ℕ). Same (2 ^ d) (mirrored t (2 ^ d) r) (mirrored u (2 ^ d) r)) (sym (depth-two (fileDepth file) (passes .deep))) e) in
+      let o : OkCell g k c = proper-inv k .ok 0 top-there in
+      never-both (matches g k c c (bitXor u t)) (match-complete g k (λ j b. proper-inv j) c c (bitXor u t) (xor8-lt u t hu8 root-tag) o o f) (low-said g k t 0 (proper-graph .root) u hu)
+
+  pub records-differ : RecordsDiffer file
+  records-differ = record {
+    full = λ k q h. proper-inv k .solid q h;
+    apart = λ k q r l m i. omega (arith, proper-inv k .apart q r (i .0) m (omega arith) (i .1) (i .2));
+    tags = λ k n i u hn hi ne hu e.
+        let p : ℕ = pointerAt file k n i in
+        proper-inv (suc k) .shape n hn .1 i hi u hu (turned (tagOf p) u (edge k) (recordRoom file k (cellNo p)) (tag-lt p) (omega (arith, tag-lt p)) e);
+    root = root-low;
+  }
