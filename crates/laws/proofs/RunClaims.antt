@@ -15,8 +15,8 @@ use Rattle.paper.specs.Store.{cellsAt, cellAt, scenesHeld, keptCount, keptOf, h
 use Rattle.paper.specs.Match.{matches}
 use Rattle.paper.specs.Answers.{told, outcome}
 use Rattle.paper.specs.Order.{firstOf}
-use Rattle.paper.specs.Calls.{keptOrder, keptOutcome}
-use Rattle.paper.specs.Runs.{Scene, sceneOf, Held, State, Number, keptRoom}
+use Rattle.paper.specs.Calls.{nextScene, addOutcome, keptOrder, keptOutcome}
+use Rattle.paper.specs.Runs.{Scene, sceneOf, Held, holding, State, Outnumbered, Number, keptRoom}
 use Rattle.paper.specs.Claims.{C3, Demand3, C4, C5}
 use Rattle.laws.proofs.Tests.{T-true, true-T}
 use Rattle.laws.proofs.Invariant.{match-voxels}
@@ -26,7 +26,7 @@ use Rattle.laws.proofs.OutlineClaim.{refusal-none}
 use Rattle.laws.proofs.Undamaged.{depth-low}
 use Rattle.laws.proofs.Refusals.{settled-accepted}
 use Rattle.laws.proofs.Running.{Running, reached-running}
-use Rattle.laws.proofs.Holding.{Holds, held-at, header-ok, running-holds, reached-holds}
+use Rattle.laws.proofs.Holding.{Holds, held-at, header-ok, running-holds, running-capacity, reached-holds}
 use Rattle.laws.proofs.NoDamage.{never-damaged}
 use Rattle.laws.proofs.Differing.{kept-number, eight-outnumbered}
 use Rattle.laws.proofs.RoomAnswers.{voxel-answer, cell-answer, box-answer, outline-answer}
@@ -71,8 +71,11 @@ demand3 s r =
       apart = kept-apart h;
       occur = h .occur;
       voxels = λ n sc v e l. voxel-answer h n (held-at h n sc e) v l;
-      capacity = λ file b e room. eight-outnumbered s r file b (refusal-none file e) room;
+      capacity = λ file b e room.
+          subst (λ (C : ℕ). (addOutcome (s .words) file .number ≡ 8) ↔ Outnumbered (holding (nextScene (s .words)) (sceneOf file) (s .held)) C) (running-capacity s r)
+          (eight-outnumbered s r file b (refusal-none file e) room);
       kept = kept-answer h;
+      given = running-capacity s r;
       numbers = held-numbers h;
     }
 

@@ -78,9 +78,11 @@ pub record Demand3 (s : State) : Type 0 where
       → voxelOutcome (s .words) n v ≡ outcome (told 0 (bitFor (sc .room v) ∷ [])) []
   -- (e) an outline that meets no earlier refusal is refused by 8 exactly when the cells of the accepted scenes and its own outnumber C
   pub capacity : (file : List ℕ) → Bytes file → outlineRefusal file ≡ 0 → scenesFull (s .words) ≡ false
-      → (addOutcome (s .words) file .number ≡ 8) ↔ Outnumbered (holding (nextScene (s .words)) (sceneOf file) (s .held)) (capacityOf (s .words))
+      → (addOutcome (s .words) file .number ≡ 8) ↔ Outnumbered (holding (nextScene (s .words)) (sceneOf file) (s .held)) (s .capacity)
   -- (f) kept at h answers the number of differing non-empty cells of height h in the accepted scenes, images counted once
   pub kept : (h : ℕ) → T (depthOk h) → (n : ℕ) × (keptOutcome (s .words) h ≡ outcome (told 0 (n ∷ [])) []) × Number (s .held) h n
+  -- word 0 is the capacity given to the last accepted new store
+  pub given : capacityOf (s .words) ≡ s .capacity
   -- the scenes held are those below the count, so that a number is never given twice
   pub numbers : (n : ℕ) → (n < scenesHeld (s .words)) ↔ ((sc : Scene) × (s .held n ≡ some sc))
 
