@@ -1,6 +1,6 @@
 -- The claims C1 to C11, document 01's demands, as types. This file states all and proves none; docs/READING.md says where each is proved.
 -- A claim that speaks of a call speaks of its outcome function (Calls, Detail); the promise of the call ties the code to that function.
-use mathlib.Core.Bool.{true, false}
+use mathlib.Core.Bool.{true, false, cond}
 use mathlib.Core.List.{List, [], _∷_}
 use mathlib.Core.Option.{some}
 use mathlib.Core.Logic.{_↔_}
@@ -12,7 +12,7 @@ use lib.Ieee.{Float, binary64, fits, le}
 use lib.Ieee.Exact.{HasValue}
 use lib.Ieee.Positive.{num, den}
 use lib.ListN.{length, take, drop, getD}
-use Rattle.paper.specs.Numbers.{allIn, bitFor}
+use Rattle.paper.specs.Numbers.{allIn, bitFor, isIn}
 use Rattle.paper.specs.Rooms.{Point, Room, deepest, depthOk, Inside, cellOf, childRoom, mirror, mirrored, Same, Image, NonEmpty, boxCount, nonEmpty}
 use Rattle.paper.specs.Outline.{edge, IsOutline, outlineOf, fileDepth, fileRoom}
 use Rattle.paper.specs.Store.{Cell, leafNo, tagOf, cellNo, anyBad, capacityOf, scenesHeld, keptOf, cellsAt, cellAt}
@@ -226,3 +226,9 @@ pub record C11 : Type 0 where
       → SameBut (lengthIn (packOutcome ws n scratch out)) (packOutcome ws n scratch out) (packOutcome ws n scratch′ out′) out out′ 1
   pub checks : (file scratch scratch′ : List ℕ) → length scratch ≡ length scratch′
       → (checkOutcome file scratch .number ≡ checkOutcome file scratch′ .number) × (checkOutcome file scratch .values ≡ checkOutcome file scratch′ .values)
+  -- pack's scratch is zero afterwards as far as it was needed, but as it was after 2, 9 and 11
+  pub pack-scratch : (ws : List ℕ) (n : ℕ) (scratch out : List ℕ)
+      → getD (packOutcome ws n scratch out .lent) 0 [] ≡ cond (isIn (packOutcome ws n scratch out .number) (2 ∷ 9 ∷ 11 ∷ [])) scratch (cleared (scratchFor ws) scratch)
+  -- check's after 0 and 6, else as it was
+  pub check-scratch : (file scratch : List ℕ)
+      → getD (checkOutcome file scratch .lent) 0 [] ≡ cond (isIn (checkOutcome file scratch .number) (0 ∷ 6 ∷ [])) (cleared (length file) scratch) scratch
