@@ -18,7 +18,7 @@ use Rattle.paper.specs.Outline.{edge, IsOutline, outlineOf, fileDepth, f
 use Rattle.paper.specs.Store.{Cell, leafNo, tagOf, cellNo, anyBad, capacityOf, scenesHeld, keptOf, cellsAt, cellAt}
 use Rattle.paper.specs.Meaning.{cellVoxel}
 use Rattle.paper.specs.Match.{matches}
-use Rattle.paper.specs.Packed.{rootTag, isEmpty, topOf, graphOf, proper, packedRoom, packedPath}
+use Rattle.paper.specs.Packed.{rootTag, isEmpty, topOf, graphOf, proper, packedRoom, packedPath, startsOf}
 use Rattle.paper.specs.Answers.{Outcome, told, outcome}
 use Rattle.paper.specs.Order.{firstOf}
 use Rattle.paper.specs.Detail.{factorOk, distanceOk, reaches, doubled}
@@ -169,6 +169,11 @@ pub record C7 : Type 0 where
       → packedVoxelOutcome file v ≡ outcome (told 0 (bitFor (packedRoom file v) ∷ packedPath file v ∷ [])) []
   -- its records differ by voxels
   pub differ : (file : List ℕ) → Bytes file → proper file ≡ true → isEmpty file ≡ false → RecordsDiffer file
+  -- it opens
+  pub opened : (file : List ℕ) → proper file ≡ true → openOutcome file ≡ outcome (told 0 (fileDepth file ∷ startsOf file)) (file ∷ [])
+  -- and a question on the opened scene gives its room's voxel
+  pub questioned : (file : List ℕ) (v : Point) → Bytes file → proper file ≡ true → Inside (2 ^ fileDepth file) v
+      → askOutcome file (fileDepth file) (startsOf file) v ≡ outcome (told 0 (bitFor (packedRoom file v) ∷ packedPath file v ∷ [])) []
 
 -- ---- C8, opened scenes
 
