@@ -81,4 +81,5 @@ pub mod PackedOrder
 pub mod PackedReached
 pub mod PackedGraph
 pub mod Packing
+pub mod SamePack
 pub mod PackClaim

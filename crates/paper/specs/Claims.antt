@@ -131,8 +131,15 @@ pub record Packs (s : State) (n : ℕ) (sc : Scene) (file : List ℕ) : Type 0 w
   pub voxels : (v : Point) → Inside (2 ^ sc .depth) v
       → packedVoxelOutcome file v ≡ outcome (told 0 (bitFor (sc .room v) ∷ packedPath file v ∷ [])) []
 
+pub record Packing (s : State) : Type 0 where
+  -- each scene held packs
+  pub each : (n : ℕ) (sc : Scene) → s .held n ≡ some sc → Packs s n sc (packBytes (s .words) n)
+  -- two scenes held with the same depth and voxels pack to the same bytes
+  pub same : (n n′ : ℕ) (sc sc′ : Scene) → s .held n ≡ some sc → s .held n′ ≡ some sc′ → sc .depth ≡ sc′ .depth → Same (2 ^ sc .depth) (sc .room) (sc′ .room)
+      → packBytes (s .words) n ≡ packBytes (s .words) n′
+
 abbrev pub C6 : Type 0
-C6 = (s : State) → Reached s → (n : ℕ) (sc : Scene) → s .held n ≡ some sc → Packs s n sc (packBytes (s .words) n)
+C6 = (s : State) → Reached s → Packing s
 
 -- ---- C7, proper files
 
