@@ -19,7 +19,7 @@ use Rattle.paper.specs.Outline.{edge, lengthOk, fileDepth}
 use Rattle.paper.specs.Store.{Cell, leafNo, tagOf, cellNo, cellsAt, cellAt}
 use Rattle.paper.specs.Meaning.{pointerVoxel, cellVoxel}
 use Rattle.paper.specs.Match.{matches}
-use Rattle.paper.specs.Packed.{packedHead, topOf, sizeAt, listAt, headerAt, Link, noLink, readLinks, linksAt, leafAt, recordOk, leafOk, codeFor, placesAt, byNumber, cellsOf, graphOf, wholeAt, linkOk, linksOk, namedOk, apartOk, tagLow, pointerLow, tagsOk, fallingOk, rootTag, isEmpty, sizesOk, listsOk, topOk, graphOk, emptyMark, headOk, proper, packedRoom}
+use Rattle.paper.specs.Packed.{packedHead, topOf, listAt, headerAt, Link, noLink, readLinks, linksAt, leafAt, recordOk, leafOk, codeFor, placesAt, byNumber, cellsOf, graphOf, wholeAt, linkOk, linksOk, namedOk, apartOk, tagLow, pointerLow, tagsOk, fallingOk, rootTag, isEmpty, sizesOk, listsOk, topOk, graphOk, emptyMark, headOk, proper, packedRoom}
 use Rattle.paper.specs.Runs.{Bytes}
 use Rattle.paper.specs.Claims.{recordRoom, pointerAt, RecordsDiffer}
 use Rattle.laws.proofs.Tests.{true-T, and-left, and-right, and5, all-at, all-at2}

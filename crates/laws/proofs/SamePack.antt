@@ -1,5 +1,5 @@
--- Two scenes held with the same depth and voxels pack to the same bytes, for claim C6: their roots name the same kept cell, since no two kept cells are
--- images, under the same tag, since tags are lowest; and a packed file depends on nothing else. Assumes nothing.
+-- Two scenes held with the same depth and voxels pack to the same bytes, for claim C6: their roots name the same kept cell, since no two kept cells
+-- are images, under the same tag, since tags are lowest; and a packed file depends on nothing else. Assumes nothing.
 use mathlib.Core.Path.{_≡_, sym, _∙_, subst, ap, ap₂}
 use mathlib.Core.Bool.{false≢true}
 use mathlib.Core.List.{List, [], _∷_}
