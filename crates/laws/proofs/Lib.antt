@@ -43,6 +43,7 @@ pub mod Places
 pub mod UnseenWords
 pub mod UnseenAnswers
 pub mod UnseenWrites
+pub mod Scratch
 pub mod Unseen
 -- a scene's record by its pointers
 pub mod StoreFacts
@@ -69,6 +70,8 @@ pub mod OpenClaim
 pub mod PackedLists
 pub mod PackedWalk
 pub mod ProperClaim
+pub mod ProperVoxels
+pub mod PackedClaims
 pub mod RecordSizes
 pub mod RecordReading
 pub mod RecordCells
@@ -78,4 +81,5 @@ pub mod PackedOrder
 pub mod PackedReached
 pub mod PackedGraph
 pub mod Packing
+pub mod SamePack
 pub mod PackClaim
