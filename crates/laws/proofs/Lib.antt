@@ -79,3 +79,5 @@ pub mod PackedReached
 pub mod PackedGraph
 pub mod Packing
 pub mod PackClaim
+pub mod RecordBytes
+pub mod RoundTrip

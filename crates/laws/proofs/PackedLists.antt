@@ -39,7 +39,7 @@ num4-lt (a ∷ b ∷ c ∷ d ∷ l) h = omega (arith, h 0, h 1, h 2, h 3)
 abbrev pub Fits : Link → Type 0
 Fits r = r .code ≡ codeFor (r .place) → (r .tag < 8) × (r .place < 2 ^ 29)
 
-link-fits : (c : ℕ) (l : List ℕ) → Bytes l → Fits (linkOf c (num (2 * c) l))
+pub link-fits : (c : ℕ) (l : List ℕ) → Bytes l → Fits (linkOf c (num (2 * c) l))
 link-fits c l h e = go (leb (linkOf c (num (2 * c) l) .place) farthestShort) e
   where
     go : (b : Bool) → c ≡ cond b 1 2 → (linkOf c (num (2 * c) l) .tag < 8) × (linkOf c (num (2 * c) l) .place < 2 ^ 29)

@@ -89,7 +89,7 @@ proper-passes bs t = record {
   rules = search (and-left, and-right);
 }
 
-head-sizes : (bs : List ℕ) → T (headOk bs) → T (cond (isEmpty bs) true (sizesOk bs))
+pub head-sizes : (bs : List ℕ) → T (headOk bs) → T (cond (isEmpty bs) true (sizesOk bs))
 unfolding headOk
 head-sizes bs t = and-right (rootOk bs) (cond (isEmpty bs) true (sizesOk bs)) t
 
