@@ -69,6 +69,8 @@ pub mod OpenClaim
 pub mod PackedLists
 pub mod PackedWalk
 pub mod ProperClaim
+pub mod ProperVoxels
+pub mod PackedClaims
 pub mod RecordSizes
 pub mod RecordReading
 pub mod RecordCells

@@ -13,11 +13,12 @@ use lib.Ieee.Exact.{HasValue}
 use lib.Ieee.Positive.{num, den}
 use lib.ListN.{length, take, drop, getD}
 use Rattle.paper.specs.Numbers.{allIn, bitFor}
-use Rattle.paper.specs.Rooms.{Point, Room, deepest, depthOk, Inside, cellOf, childRoom, mirror, mirrored, Same, Image, boxCount, nonEmpty}
+use Rattle.paper.specs.Rooms.{Point, Room, deepest, depthOk, Inside, cellOf, childRoom, mirror, mirrored, Same, Image, NonEmpty, boxCount, nonEmpty}
 use Rattle.paper.specs.Outline.{edge, IsOutline, outlineOf, fileDepth, fileRoom}
-use Rattle.paper.specs.Store.{capacityOf, scenesHeld, keptOf, cellsAt, cellAt}
+use Rattle.paper.specs.Store.{tagOf, cellNo, capacityOf, scenesHeld, keptOf, cellsAt, cellAt}
+use Rattle.paper.specs.Meaning.{cellVoxel}
 use Rattle.paper.specs.Match.{matches}
-use Rattle.paper.specs.Packed.{proper, packedRoom, packedPath}
+use Rattle.paper.specs.Packed.{rootTag, isEmpty, topOf, graphOf, proper, packedRoom, packedPath}
 use Rattle.paper.specs.Answers.{Outcome, told, outcome}
 use Rattle.paper.specs.Order.{firstOf}
 use Rattle.paper.specs.Detail.{factorOk, distanceOk, reaches, doubled}
@@ -125,6 +126,30 @@ C6 = (s : State) → Reached s → (n : ℕ) (sc : Scene) → s .held n ≡ some
 
 -- ---- C7, proper files
 
+-- the records of list k of a packed file, and the voxels of record q of it
+abbrev pub recordsAt : List ℕ → ℕ → ℕ
+recordsAt file k = length (cellsAt (graphOf file) k)
+
+abbrev pub recordRoom : List ℕ → ℕ → ℕ → Room
+recordRoom file k q = cellVoxel (graphOf file) k (cellAt (graphOf file) k q)
+
+-- pointer i of record n of list k + 1, by number
+abbrev pub pointerAt : List ℕ → ℕ → ℕ → ℕ → ℕ
+pointerAt file k n i = getD (cellAt (graphOf file) (suc k) n) i 0
+
+-- a proper file that isn't empty, by voxels
+pub record RecordsDiffer (file : List ℕ) : Type 0 where
+  -- each record has a solid voxel
+  pub full : (k q : ℕ) → q < recordsAt file k → NonEmpty (edge k) (recordRoom file k q)
+  -- no two of one height are images
+  pub apart : (k q r : ℕ) → r < q → q < recordsAt file k → ¬ Image (edge k) (recordRoom file k q) (recordRoom file k r)
+  -- a lower tag gives other voxels
+  pub tags : (k n i u : ℕ) → n < recordsAt file (suc k) → i < 8 → ¬ (pointerAt file k n i ≡ 0) → u < tagOf (pointerAt file k n i)
+      → ¬ Same (edge k) (mirrored (tagOf (pointerAt file k n i)) (edge k) (recordRoom file k (cellNo (pointerAt file k n i))))
+      (mirrored u (edge k) (recordRoom file k (cellNo (pointerAt file k n i))))
+  -- the root's too
+  pub root : (u : ℕ) → u < rootTag file → ¬ Same (2 ^ fileDepth file) (packedRoom file) (mirrored u (2 ^ fileDepth file) (recordRoom file (topOf file) 0))
+
 pub record C7 : Type 0 where
   -- check answers 0 exactly on proper files (with scratch enough to look)
   pub checked : (file scratch : List ℕ) → Bytes file → (checkOutcome file scratch .number ≡ 0) ↔ ((proper file ≡ true) × (length file ≤ length scratch))
@@ -132,6 +157,8 @@ pub record C7 : Type 0 where
   -- is the length of the path in the definition
   pub asked : (file : List ℕ) (v : Point) → Bytes file → proper file ≡ true → Inside (2 ^ fileDepth file) v
       → packedVoxelOutcome file v ≡ outcome (told 0 (bitFor (packedRoom file v) ∷ packedPath file v ∷ [])) []
+  -- its records differ by voxels
+  pub differ : (file : List ℕ) → Bytes file → proper file ≡ true → isEmpty file ≡ false → RecordsDiffer file
 
 -- ---- C8, opened scenes
 

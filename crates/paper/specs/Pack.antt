@@ -1,5 +1,5 @@
--- Document 01, 'Packing writes the cells reachable from the root as the store holds them, each list by that number falling, equal ones by cell
--- number': the graph of a scene, and a graph laid out as bytes. Definitions only.
+-- Document 01, 'The packed file', 'Packing writes': the graph of a scene, its cells as the store has them, each list the most popular first and
+-- equally popular ones by their numbers in the store; and a graph laid out as bytes. Definitions only.
 use mathlib.Core.Bool.{cond}
 use mathlib.Core.List.{List, [], _∷_, _++_, map}
 use Prim.Native.Nat.{ℕ, zero, suc, _+_, _-_, _*_, _^_}
@@ -97,7 +97,7 @@ ordered f (suc c) m = withCount f (suc c) m 0 ++ ordered f c m
 unfoldable pub next : List (List Cell) → ℕ → List ℕ → List ℕ
 next K k ns = ordered (popularity (map (cellAt K (suc k)) ns)) (length ns) (length (cellsAt K k))
 
--- 'the cells reachable from the root': the numbers of list j, if those of list k are ns
+-- the cells under those numbered ns of list k ('reachable'): the numbers in list j
 unfoldable pub reached : List (List Cell) → ℕ → List ℕ → ℕ → List ℕ
 reached K zero ns j = ns
 reached K (suc k) ns j = let r = reached K k (next K k ns) j in cond (eqb j (suc k)) ns r
