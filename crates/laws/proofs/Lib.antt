@@ -76,10 +76,10 @@ pub mod RecordReading
 pub mod RecordCells
 pub mod Layouts
 pub mod LayoutBytes
+pub mod RecordBytes
+pub mod RoundTrip
 pub mod PackedOrder
 pub mod PackedReached
 pub mod PackedGraph
 pub mod Packing
 pub mod PackClaim
-pub mod RecordBytes
-pub mod RoundTrip

@@ -3,6 +3,7 @@ use mathlib.Core.Path.{sym, _∙_}
 use Rattle.paper.specs.Claims.{C7}
 use Rattle.laws.proofs.ProperClaim.{check-passed, passed-check, check-number, proper-voxel}
 use Rattle.laws.proofs.ProperVoxels.{records-differ}
+use Rattle.laws.proofs.RoundTrip.{file-laid, file-empty, file-same}
 
 pub claim7 : C7
 claim7 = record {
@@ -12,4 +13,7 @@ claim7 = record {
   );
   asked = proper-voxel;
   differ = records-differ;
+  laid = file-laid;
+  laid-empty = file-empty;
+  same = file-same;
 }

@@ -6,17 +6,17 @@ use mathlib.Core.List.{List, [], _∷_, _++_, map, append-nil}
 use Prim.Native.Nat.{ℕ, zero, suc, _+_, _-_, _*_, _/_, _%_, _^_, _<_, _≤_}
 use native.Mathlib.Nat.{div-add-mod'}
 use native.Mathlib.Omega.{arith}
-use borrow.Author.Tests.{eqb-true, eqb-false, ltb-true, ltb-false}
-use lib.Dec.{T, eqb, leb, ltb, eqb→eq, leb→le}
+use borrow.Author.Tests.{eqb-true, eqb-false, ltb-false}
+use lib.Dec.{T, eqb, ltb, eqb→eq, leb→le}
 use lib.ListN.{length, getD, take, drop, take-append-drop, length-drop, drop-of-length-le}
 use lib.Seq.{length-take-le, take-add, drop-drop}
-use Rattle.paper.specs.Numbers.{bytes, be, num, flatten, count, allIn, isIn, indexIn}
+use Rattle.paper.specs.Numbers.{bytes, num, flatten, count, allIn, isIn, indexIn}
 use Rattle.paper.specs.Store.{Cell, tagOf, pointer}
-use Rattle.paper.specs.Packed.{headerAt, halves, codesOk, Link, linkOf, readLinks, linksAt, leafAt, recordOk, codeFor, startsFrom, byNumber, linkOk}
+use Rattle.paper.specs.Packed.{headerAt, halves, Link, linkOf, readLinks, linksAt, leafAt, recordOk, codeFor, startsFrom, byNumber, linkOk}
 use Rattle.paper.specs.Pack.{placeOf, code, pointerBytes, header, width, recordBytes, leafBytes, placesFrom}
 use Rattle.paper.specs.Runs.{Bytes}
 use Rattle.laws.proofs.Tests.{and-left, and-right}
-use Rattle.laws.proofs.Lists.{allIn-head, allIn-tail, At, isIn-at}
+use Rattle.laws.proofs.Lists.{allIn-head, allIn-tail, isIn-at}
 use Rattle.laws.proofs.Bytes.{bytes-take, bytes-drop, bytes-be}
 use Rattle.laws.proofs.Adding.{pointer-cell, pointer-tag}
 use Rattle.laws.proofs.RecordSizes.{no-code, no-bytes, some-code, some-bytes}
@@ -129,9 +129,6 @@ module _ (ps : List ℕ) (small : (p : ℕ) → T (isIn p ps) → p < 2 ^ 29 →
   pub record ListBack (l : List ℕ) (a : ℕ) (ss : List ℕ) : Type 0 where
     pub are-places : placesFrom ps a (map (cellRead l) ss) ≡ ss
     pub are-bytes : flatten (map (recordBytes ps) (map (cellRead l) ss)) ≡ drop (2 * a) l
-
-  abbrev Read : List ℕ → List ℕ → Type 0
-  Read l ss = T (allIn (recordOk l) ss) → T (allIn (λ p. allIn (linkOk ps) (linksAt l p)) ss) → (a : ℕ) → ListBack l a ss
 
   pub list-back : (l : List ℕ) → Bytes l → (n a : ℕ) → length l ≤ 2 * (a + n) → T (allIn (recordOk l) (startsFrom l n a))
       → T (allIn (λ p. allIn (linkOk ps) (linksAt l p)) (startsFrom l n a)) → ListBack l a (startsFrom l n a)

@@ -1,10 +1,9 @@
 -- A proper file that isn't empty is exactly what is laid out for its depth, root's tag and graph, an empty one the 7 bytes of its depth; so two
 -- proper files that agree on these are the same bytes. Lists are written back from the leaves up, then sizes and head. Assumes nothing.
 use mathlib.Core.Path.{_≡_, refl, sym, _∙_, subst, ap, ap₂}
-use mathlib.Core.Bool.{Bool, true, false, cond, _&&_}
+use mathlib.Core.Bool.{Bool, true, false, cond}
 use mathlib.Core.List.{List, [], _∷_, _++_, map}
 use Prim.Native.Nat.{ℕ, zero, suc, _+_, _-_, _*_, _^_, _<_, _≤_}
-use native.Mathlib.Nat.{not-suc-le-zero}
 use native.Mathlib.Omega.{arith}
 use borrow.Author.Tests.{eqb-true}
 use lib.Dec.{T, eqb, leb, ltb, eqb→eq, leb→le}
@@ -13,8 +12,8 @@ use lib.Seq.{take-add, drop-drop}
 use Rattle.paper.specs.Numbers.{bytes, num, flatten, count, isIn, indexIn}
 use Rattle.paper.specs.Outline.{fileDepth, lengthOk}
 use Rattle.paper.specs.Store.{Cell, cellsAt}
-use Rattle.paper.specs.Packed.{packedFront, packedHead, emptyMark, rootTag, isEmpty, topOf, sizeAt, tailAt, startAt, listAt, leafAt, placesAt, cellsOf, graphOf, sizesOk, wholeAt, linksOk, listsOk, graphOk, rootOk, headOk, proper}
-use Rattle.paper.specs.Pack.{recordBytes, leafBytes, placesFrom, sizeOf, places, size, listBytes, sizeBytes, body, layout, emptyFile}
+use Rattle.paper.specs.Packed.{packedFront, packedHead, emptyMark, rootTag, isEmpty, topOf, sizeAt, tailAt, startAt, listAt, leafAt, placesAt, cellsOf, graphOf, wholeAt, linksOk, headOk, proper}
+use Rattle.paper.specs.Pack.{recordBytes, leafBytes, placesFrom, places, size, listBytes, sizeBytes, body, layout, emptyFile}
 use Rattle.paper.specs.Runs.{Bytes}
 use Rattle.laws.proofs.Tests.{and-left, and-right, true-T}
 use Rattle.laws.proofs.Lists.{length-count}
@@ -22,8 +21,9 @@ use Rattle.laws.proofs.Bytes.{bytes-drop}
 use Rattle.laws.proofs.Outlines.{depth-two}
 use Rattle.laws.proofs.RecordSizes.{list-length}
 use Rattle.laws.proofs.PackedLists.{Whole, sizes-whole, tail-in, leaves-length, inner-length, list-bytes, start-small, graph-cells}
-use Rattle.laws.proofs.PackedWalk.{SoundLists, lists-of, few-leaves}
-use Rattle.laws.proofs.ProperClaim.{Proper, proper-passes, head-sizes}
+use Rattle.laws.proofs.PackedWalk.{SoundLists, few-leaves}
+use Rattle.laws.proofs.ProperClaim.{Proper, proper-passes}
+use Rattle.laws.proofs.ProperVoxels.{proper-lists}
 use Rattle.laws.proofs.RecordBytes.{bytes-num, ListBack, list-back, leaves-back}
 
 -- ---- the lists of a file whose lists are sound
@@ -127,13 +127,9 @@ module _ (bs : List ℕ) (by : Bytes bs) (p : Proper bs) where
       head-split bs seven ∙ ap₂ (λ (x : ℕ) (l : List ℕ). x ∷ l ++ (fileDepth bs ∷ rootTag bs ∷ drop packedHead bs)) front (sym four)
       ∙ ap (λ (l : List ℕ). packedFront ∷ bytes 4 (packedHead + length rest) ++ (fileDepth bs ∷ rootTag bs ∷ l)) (sym e)
 
-  laid-out : isEmpty bs ≡ false → bs ≡ layout (topOf bs) (rootTag bs) (graphOf bs)
+  laid-out : SoundLists bs → bs ≡ layout (topOf bs) (rootTag bs) (graphOf bs)
   unfolding layout
-  laid-out e =
-      let rules : Bool = graphOk (topOf bs) (rootTag bs) (graphOf bs) in
-      let s : SoundLists bs =
-      lists-of bs (subst (λ (b : Bool). T (cond b true (sizesOk bs))) e (head-sizes bs (p .head)))
-      (and-left (listsOk bs) rules (subst (λ (b : Bool). T (cond b true (listsOk bs && rules))) e (p .rules))) in
+  laid-out s =
       let tail : List ℕ = sizeBytes (graphOf bs) (topOf bs) ++ body (graphOf bs) (topOf bs) in
       head-back tail (rest-back bs by (p .long) s)
       ∙ ap (λ (D : ℕ). packedFront ∷ bytes 4 (packedHead + length tail) ++ (D ∷ rootTag bs ∷ tail)) (sym (depth-two (fileDepth bs) (p .deep)))
@@ -151,7 +147,7 @@ module _ (bs : List ℕ) (by : Bytes bs) (p : Proper bs) where
 -- ---- claimed of every proper file
 
 pub file-laid : (file : List ℕ) → Bytes file → proper file ≡ true → isEmpty file ≡ false → file ≡ layout (topOf file) (rootTag file) (graphOf file)
-file-laid file by e = laid-out file by (proper-passes file (true-T e))
+file-laid file by e z = laid-out file by (proper-passes file (true-T e)) (proper-lists file by e z)
 
 pub file-empty : (file : List ℕ) → Bytes file → proper file ≡ true → isEmpty file ≡ true → file ≡ emptyFile (fileDepth file)
 file-empty file by e = laid-none file by (proper-passes file (true-T e))

@@ -19,6 +19,7 @@ use Rattle.paper.specs.Store.{tagOf, cellNo, capacityOf, scenesHeld, kep
 use Rattle.paper.specs.Meaning.{cellVoxel}
 use Rattle.paper.specs.Match.{matches}
 use Rattle.paper.specs.Packed.{rootTag, isEmpty, topOf, graphOf, proper, packedRoom, packedPath}
+use Rattle.paper.specs.Pack.{layout, emptyFile}
 use Rattle.paper.specs.Answers.{Outcome, told, outcome}
 use Rattle.paper.specs.Order.{firstOf}
 use Rattle.paper.specs.Detail.{factorOk, distanceOk, reaches, doubled}
@@ -159,6 +160,12 @@ pub record C7 : Type 0 where
       → packedVoxelOutcome file v ≡ outcome (told 0 (bitFor (packedRoom file v) ∷ packedPath file v ∷ [])) []
   -- its records differ by voxels
   pub differ : (file : List ℕ) → Bytes file → proper file ≡ true → isEmpty file ≡ false → RecordsDiffer file
+  -- it is what is laid out for its depth, root's tag and graph
+  pub laid : (file : List ℕ) → Bytes file → proper file ≡ true → isEmpty file ≡ false → file ≡ layout (topOf file) (rootTag file) (graphOf file)
+  pub laid-empty : (file : List ℕ) → Bytes file → proper file ≡ true → isEmpty file ≡ true → file ≡ emptyFile (fileDepth file)
+  -- so two proper files with the same depth, root's tag and graph are the same bytes
+  pub same : (file file′ : List ℕ) → Bytes file → Bytes file′ → proper file ≡ true → proper file′ ≡ true → fileDepth file ≡ fileDepth file′ → rootTag file ≡ rootTag file′
+      → graphOf file ≡ graphOf file′ → file ≡ file′
 
 -- ---- C8, opened scenes
 
