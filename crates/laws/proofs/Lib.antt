@@ -82,4 +82,5 @@ pub mod PackedOrder
 pub mod PackedReached
 pub mod PackedGraph
 pub mod Packing
+pub mod PackedMost
 pub mod PackClaim
