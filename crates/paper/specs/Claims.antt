@@ -5,7 +5,7 @@ use mathlib.Core.List.{List, [], _∷_}
 use mathlib.Core.Option.{some}
 use mathlib.Core.Logic.{_↔_}
 use mathlib.Core.Path.{_≡_}
-use Prim.Native.Nat.{ℕ, suc, _-_, _*_, _<_, _≤_, _^_}
+use Prim.Native.Nat.{ℕ, zero, suc, _-_, _*_, _<_, _≤_, _^_}
 use lib.Bits.{bitXor}
 use lib.Dec.{T}
 use lib.Ieee.{Float, binary64, fits, le}
@@ -15,7 +15,7 @@ use lib.ListN.{length, take, drop, getD}
 use Rattle.paper.specs.Numbers.{allIn, bitFor}
 use Rattle.paper.specs.Rooms.{Point, Room, deepest, depthOk, Inside, cellOf, childRoom, mirror, mirrored, Same, Image, NonEmpty, boxCount, nonEmpty}
 use Rattle.paper.specs.Outline.{edge, IsOutline, outlineOf, fileDepth, fileRoom}
-use Rattle.paper.specs.Store.{tagOf, cellNo, capacityOf, scenesHeld, keptOf, cellsAt, cellAt}
+use Rattle.paper.specs.Store.{Cell, leafNo, tagOf, cellNo, anyBad, capacityOf, scenesHeld, keptOf, cellsAt, cellAt}
 use Rattle.paper.specs.Meaning.{cellVoxel}
 use Rattle.paper.specs.Match.{matches}
 use Rattle.paper.specs.Packed.{rootTag, isEmpty, topOf, graphOf, proper, packedRoom, packedPath}
@@ -57,10 +57,18 @@ pub record C2 : Type 0 where
 
 -- ---- C3, the match rule agrees with the voxels, on every store that only the calls wrote
 
+-- a cell that may be sought in list k: a leaf of 64 bits, or eight pointers none of which is bad
+abbrev pub Sought : List (List Cell) → ℕ → Cell → Type 0
+Sought K zero c = leafNo c < 2 ^ 64
+Sought K (suc k) c = anyBad (length (cellsAt K k)) c ≡ false
+
 pub record MatchesVoxels (s : State) : Type 0 where
-  pub agree : (k a b t : ℕ) → a < length (cellsAt (keptOf (s .words)) k) → b < length (cellsAt (keptOf (s .words)) k) → t < 8
-      → (matches (keptOf (s .words)) k (cellAt (keptOf (s .words)) k a) (cellAt (keptOf (s .words)) k b) t ≡ true)
-      ↔ Same (edge k) (keptRoom (s .words) k a) (mirrored t (edge k) (keptRoom (s .words) k b))
+  -- any two cells that may be sought, kept or not
+  pub agree : (k : ℕ) (a b : Cell) (t : ℕ) → Sought (keptOf (s .words)) k a → Sought (keptOf (s .words)) k b → t < 8
+      → (matches (keptOf (s .words)) k a b t ≡ true)
+      ↔ Same (edge k) (cellVoxel (keptOf (s .words)) k a) (mirrored t (edge k) (cellVoxel (keptOf (s .words)) k b))
+  -- kept cells are such
+  pub kept : (k q : ℕ) → q < length (cellsAt (keptOf (s .words)) k) → Sought (keptOf (s .words)) k (cellAt (keptOf (s .words)) k q)
 
 abbrev pub C3 : Type 0
 C3 = (s : State) → Reached s → MatchesVoxels s
@@ -79,9 +87,11 @@ pub record Demand3 (s : State) : Type 0 where
       → voxelOutcome (s .words) n v ≡ outcome (told 0 (bitFor (sc .room v) ∷ [])) []
   -- (e) an outline that meets no earlier refusal is refused by 8 exactly when the cells of the accepted scenes and its own outnumber C
   pub capacity : (file : List ℕ) → Bytes file → outlineRefusal file ≡ 0 → scenesFull (s .words) ≡ false
-      → (addOutcome (s .words) file .number ≡ 8) ↔ Outnumbered (holding (nextScene (s .words)) (sceneOf file) (s .held)) (capacityOf (s .words))
+      → (addOutcome (s .words) file .number ≡ 8) ↔ Outnumbered (holding (nextScene (s .words)) (sceneOf file) (s .held)) (s .capacity)
   -- (f) kept at h answers the number of differing non-empty cells of height h in the accepted scenes, images counted once
   pub kept : (h : ℕ) → T (depthOk h) → (n : ℕ) × (keptOutcome (s .words) h ≡ outcome (told 0 (n ∷ [])) []) × Number (s .held) h n
+  -- word 0 is the capacity given to the last accepted new store
+  pub given : capacityOf (s .words) ≡ s .capacity
   -- the scenes held are those below the count, so that a number is never given twice
   pub numbers : (n : ℕ) → (n < scenesHeld (s .words)) ↔ ((sc : Scene) × (s .held n ≡ some sc))
 
