@@ -19,7 +19,7 @@ use Rattle.paper.specs.Store.{Cell, leafNo, tagOf, cellNo, anyBad, capac
 use Rattle.paper.specs.Meaning.{cellVoxel}
 use Rattle.paper.specs.Match.{matches}
 use Rattle.paper.specs.Packed.{rootTag, isEmpty, topOf, graphOf, proper, packedRoom, packedPath}
-use Rattle.paper.specs.Pack.{layout, emptyFile}
+use Rattle.paper.specs.Pack.{layout, emptyFile, packedMost}
 use Rattle.paper.specs.Answers.{Outcome, told, outcome}
 use Rattle.paper.specs.Order.{firstOf}
 use Rattle.paper.specs.Detail.{factorOk, distanceOk, reaches, doubled}
@@ -131,6 +131,8 @@ pub record Packs (s : State) (n : ℕ) (sc : Scene) (file : List ℕ) : Type 0 w
   -- packed voxel on it gives the room's voxel
   pub voxels : (v : Point) → Inside (2 ^ sc .depth) v
       → packedVoxelOutcome file v ≡ outcome (told 0 (bitFor (sc .room v) ∷ packedPath file v ∷ [])) []
+  -- what a caller has to lend at most
+  pub most : length file ≤ packedMost (s .capacity)
 
 abbrev pub C6 : Type 0
 C6 = (s : State) → Reached s → (n : ℕ) (sc : Scene) → s .held n ≡ some sc → Packs s n sc (packBytes (s .words) n)
