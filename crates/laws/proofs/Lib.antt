@@ -61,6 +61,7 @@ pub mod Walks
 pub mod Holding
 pub mod NoDamage
 pub mod Differing
+pub mod Alone
 pub mod CellWalk
 pub mod RoomAnswers
 pub mod RunClaims
