@@ -72,6 +72,7 @@ pub mod PackedWalk
 pub mod ProperClaim
 pub mod ProperVoxels
 pub mod PackedClaims
+pub mod GraphCounts
 pub mod RecordSizes
 pub mod RecordReading
 pub mod RecordCells
