@@ -43,6 +43,7 @@ pub mod Places
 pub mod UnseenWords
 pub mod UnseenAnswers
 pub mod UnseenWrites
+pub mod Scratch
 pub mod Unseen
 -- a scene's record by its pointers
 pub mod StoreFacts
@@ -85,4 +86,5 @@ pub mod PackedReached
 pub mod PackedGraph
 pub mod Packing
 pub mod PackedMost
+pub mod SamePack
 pub mod PackClaim

@@ -1,5 +1,6 @@
 -- Claim C6, packing, on every store that only the calls wrote: what pack writes for an accepted scene is written whole, is proper, means that scene's
--- room, is accepted by check, and answers the packed voxel as the room does. From what the words hold and the laws of packing. Assumes nothing.
+-- room, is accepted by check, and answers the packed voxel as the room does; and the same room packs to the same bytes. From what the words hold and the
+-- laws of packing. Assumes nothing.
 use mathlib.Core.Path.{_≡_, sym, _∙_, subst, ap}
 use mathlib.Core.Bool.{Bool, true}
 use mathlib.Core.List.{List, [], _∷_}
@@ -26,6 +27,7 @@ use Rattle.laws.proofs.Running.{reached-running}
 use Rattle.laws.proofs.Holding.{Means, Holds, HeldAt, root-room, held-at, below-there, running-capacity, reached-holds}
 use Rattle.laws.proofs.ProperClaim.{check-accepts, proper-voxel}
 use Rattle.laws.proofs.PackedReached.{Packable}
+use Rattle.laws.proofs.SamePack.{scenes-same}
 use Rattle.laws.proofs.Packing.{pack-proper, pack-depth, pack-room, pack-bytes}
 use Rattle.laws.proofs.PackedMost.{pack-most}
 
@@ -105,7 +107,11 @@ module _ (s : State) (h : Holds (s .words) (s .held)) where
       }
 
 pub claim6 : C6
-claim6 s r n sc e =
+claim6 s r =
     let h : Holds (s .words) (s .held) = reached-holds s r in
-    let a : HeldAt (s .words) n sc (h .file n) = held-at h n sc e in
-    subst (λ (c : Scene). Packs s n c (packBytes (s .words) n)) (sym (a .is)) (scene-packs s h n (h .file n) (a .means) (a .below) (running-capacity s (reached-running s r)))
+    record {
+      each = λ n sc e.
+          let a : HeldAt (s .words) n sc (h .file n) = held-at h n sc e in
+          subst (λ (c : Scene). Packs s n c (packBytes (s .words) n)) (sym (a .is)) (scene-packs s h n (h .file n) (a .means) (a .below) (running-capacity s (reached-running s r)));
+      same = scenes-same h;
+    }

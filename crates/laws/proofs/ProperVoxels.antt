@@ -19,31 +19,26 @@ use Rattle.paper.specs.Outline.{edge, lengthOk, fileDepth}
 use Rattle.paper.specs.Store.{Cell, leafNo, tagOf, cellNo, cellsAt, cellAt}
 use Rattle.paper.specs.Meaning.{pointerVoxel, cellVoxel}
 use Rattle.paper.specs.Match.{matches}
-use Rattle.paper.specs.Packed.{packedHead, topOf, sizeAt, listAt, headerAt, Link, noLink, readLinks, linksAt, leafAt, recordOk, leafOk, codeFor, placesAt, byNumber, cellsOf, graphOf, wholeAt, linkOk, linksOk, namedOk, apartOk, tagLow, pointerLow, tagsOk, fallingOk, rootTag, isEmpty, sizesOk, listsOk, topOk, graphOk, emptyMark, headOk, proper, packedRoom}
+use Rattle.paper.specs.Packed.{packedHead, topOf, listAt, headerAt, Link, noLink, readLinks, linksAt, leafAt, recordOk, leafOk, codeFor, placesAt, byNumber, cellsOf, graphOf, wholeAt, linkOk, linksOk, namedOk, apartOk, tagLow, pointerLow, tagsOk, fallingOk, rootTag, isEmpty, sizesOk, listsOk, topOk, graphOk, emptyMark, headOk, proper, packedRoom}
 use Rattle.paper.specs.Runs.{Bytes}
 use Rattle.paper.specs.Claims.{recordRoom, pointerAt, RecordsDiffer}
 use Rattle.laws.proofs.Tests.{true-T, and-left, and-right, and5, all-at, all-at2}
 use Rattle.laws.proofs.Lists.{allIn-at, allIn-in, At, isIn-at, map-at, length-tabulate}
 use Rattle.laws.proofs.Bytes.{bytes-drop}
 use Rattle.laws.proofs.Eight.{xor8-lt}
-use Rattle.laws.proofs.Mirrors.{mirror-inside, mirror-twice, mirror-mirror, fromChild, fromChild-inside, mirrored-sym}
+use Rattle.laws.proofs.Mirrors.{fromChild, fromChild-inside, mirrored-sym, mirrored-turn}
 use Rattle.laws.proofs.Leaves.{leaf-solid}
 use Rattle.laws.proofs.Outlines.{depth-two}
 use Rattle.laws.proofs.Matching.{tag-lt}
 use Rattle.laws.proofs.Invariant.{Names, OkPointer, names-lt, names-ne, OkCell, Alike, LowTag, TwoWords, Inv, pointer-solid, cell-child, match-complete}
 use Rattle.laws.proofs.Adding.{pointer-names}
-use Rattle.laws.proofs.PackedLists.{num2-lt, num4-lt, Fits, links-fit, list-bytes, start-small, link-some, graph-cells}
+use Rattle.laws.proofs.PackedLists.{num2-lt, num4-lt, Fits, links-fit, list-bytes, start-small, link-some, graph-cells, records-length}
 use Rattle.laws.proofs.PackedWalk.{SoundLists, lists-of, few-leaves}
 use Rattle.laws.proofs.ProperClaim.{Proper, proper-passes, head-sizes}
 
 never-both : (b : Bool) → T b → T (not b) → ⊥
 never-both true t n = n
 never-both false t n = t
-
--- a room that two mirrors leave the same is the same under both
-turned : (t u S : ℕ) (r : Room) → t < 8 → u < 8 → Same S (mirrored t S r) (mirrored u S r) → Same S r (mirrored (bitXor u t) S r)
-turned t u S r ht hu e v l =
-    ap r (sym (mirror-twice t S v l)) ∙ e (mirror t S v) (mirror-inside t S v l) ∙ ap r (mirror-mirror u t S v hu ht l)
 
 -- ---- what the rules on a graph say of its cells
 
@@ -93,13 +88,6 @@ module _ (bs : List ℕ) (by : Bytes bs) (long : T (lengthOk packedHead bs)) (li
   abbrev G : List (List Cell)
   G = graphOf bs
 
-  -- list k has a record for each start
-  list-length : (k : ℕ) → k ≤ topOf bs → length (cellsAt G k) ≡ length (placesAt bs k)
-  unfolding cellsOf
-  list-length zero h = ap length (graph-cells bs 0 h) ∙ length-map (placesAt bs 0) (leafAt (listAt bs 0))
-  list-length (suc k) h =
-      ap length (graph-cells bs (suc k) h) ∙ length-map (placesAt bs (suc k)) (λ p. map (byNumber (placesAt bs k)) (linksAt (listAt bs (suc k)) p))
-
   -- no record above the top
   none-above : (k q : ℕ) → topOf bs < k → q < length (cellsAt G k) → ⊥
   unfolding graphOf
@@ -130,7 +118,7 @@ module _ (bs : List ℕ) (by : Bytes bs) (long : T (lengthOk packedHead bs)) (li
   unfolding cellsOf
   leaf-is q h =
       ap (λ (cs : List Cell). getD cs q []) (graph-cells bs 0 (omega arith))
-      ∙ map-at (leafAt (listAt bs 0)) (placesAt bs 0) q 0 [] (omega (arith, list-length 0 (omega arith)))
+      ∙ map-at (leafAt (listAt bs 0)) (placesAt bs 0) q 0 [] (omega (arith, records-length bs 0 (omega arith)))
 
   leaf-two : (p : ℕ) → TwoWords (leafAt (listAt bs 0) p)
   unfolding leafAt
@@ -153,7 +141,7 @@ module _ (bs : List ℕ) (by : Bytes bs) (long : T (lengthOk packedHead bs)) (li
   leaf-some q h =
       subst (λ (c : Cell). 0 < leafNo c) (sym (leaf-is q h))
       (ltb→lt 0 (leafNo (leafAt (listAt bs 0) (getD (placesAt bs 0) q 0)))
-      (allIn-in (leafOk (listAt bs 0)) 0 (placesAt bs 0) (lists .whole 0 (omega arith)) q (omega (arith, list-length 0 (omega arith)))))
+      (allIn-in (leafOk (listAt bs 0)) 0 (placesAt bs 0) (lists .whole 0 (omega arith)) q (omega (arith, records-length bs 0 (omega arith)))))
 
   leaves-inv : Inv G 0
   unfolding cellVoxel
@@ -189,7 +177,7 @@ module _ (bs : List ℕ) (by : Bytes bs) (long : T (lengthOk packedHead bs)) (li
       c = cellAt G (suc k) q
 
       there : q < length (placesAt bs (suc k))
-      there = omega (arith, list-length (suc k) h)
+      there = omega (arith, records-length bs (suc k) h)
 
       record-is : c ≡ map (byNumber ps) (linksAt l (placeAt q))
       unfolding cellsOf
@@ -219,7 +207,7 @@ module _ (bs : List ℕ) (by : Bytes bs) (long : T (lengthOk packedHead bs)) (li
           let i : T (isIn (r .place) ps) = search and-left in
           let fit : (r .tag < 8) × (r .place < 2 ^ 29) = f (eqb→eq (r .code) (codeFor (r .place)) (search and-right)) in
           let a : At (r .place) ps = isIn-at (r .place) ps i in
-          rw (link-some ps r ne, list-length k (omega arith))
+          rw (link-some ps r ne, records-length bs k (omega arith))
           (pointer-names (r .tag) (indexIn (r .place) ps) (length ps)
           (start-small bs by (lists .whole) (few-leaves bs by long lists) k (r .place) (omega arith) i (fit .1)) (a .inside))
 
@@ -355,7 +343,7 @@ module _ (file : List ℕ) (by : Bytes file) (e : proper file ≡ true) (some : 
   top-there : 0 < length (cellsAt g (topOf file))
   unfolding topOk
   top-there =
-      omega (arith, list-length file by (passes .long) proper-lists (proper-graph .apart) (proper-graph .tags) (topOf file) (omega arith), eqb→eq (length (placesAt file (topOf file))) 1 (proper-lists .top))
+      omega (arith, records-length file (topOf file) (omega arith), eqb→eq (length (placesAt file (topOf file))) 1 (proper-lists .top))
 
   pub root-tag : rootTag file < 8
   unfolding headOk
@@ -373,7 +361,7 @@ module _ (file : List ℕ) (by : Bytes file) (e : proper file ≡ true) (some : 
       let S : ℕ = 2 ^ fileDepth file in
       let hu8 : u < 8 = omega (arith, root-tag) in
       let e : Same S (mirrored t S r) (mirrored u S r) = λ v l. sym (ap (λ (b : Bool). cond b false (r (mirror t S v))) some) ∙ a v l in
-      let f : Alike g k c c (bitXor u t) = turned t u (edge k) r root-tag hu8 (subst (λ (d : ℕ). Same (2 ^ d) (mirrored t (2 ^ d) r) (mirrored u (2 ^ d) r)) (sym (depth-two (fileDepth file) (passes .deep))) e) in
+      let f : Alike g k c c (bitXor u t) = mirrored-turn t u (edge k) r r root-tag hu8 (subst (λ (d : ℕ). Same (2 ^ d) (mirrored t (2 ^ d) r) (mirrored u (2 ^ d) r)) (sym (depth-two (fileDepth file) (passes .deep))) e) in
       let o : OkCell g k c = proper-inv k .ok 0 top-there in
       never-both (matches g k c c (bitXor u t)) (match-complete g k (λ j b. proper-inv j) c c (bitXor u t) (xor8-lt u t hu8 root-tag) o o f) (low-said g k t 0 (proper-graph .root) u hu)
 
@@ -383,6 +371,6 @@ module _ (file : List ℕ) (by : Bytes file) (e : proper file ≡ true) (some : 
     apart = λ k q r l m i. omega (arith, proper-inv k .apart q r (i .0) m (omega arith) (i .1) (i .2));
     tags = λ k n i u hn hi ne hu e.
         let p : ℕ = pointerAt file k n i in
-        proper-inv (suc k) .shape n hn .1 i hi u hu (turned (tagOf p) u (edge k) (recordRoom file k (cellNo p)) (tag-lt p) (omega (arith, tag-lt p)) e);
+        proper-inv (suc k) .shape n hn .1 i hi u hu (mirrored-turn (tagOf p) u (edge k) (recordRoom file k (cellNo p)) (recordRoom file k (cellNo p)) (tag-lt p) (omega (arith, tag-lt p)) e);
     root = root-low;
   }

@@ -7,12 +7,12 @@ use Prim.Native.Nat.{ℕ, zero, suc, _+_, _-_, _*_, _^_, _<_, _≤_}
 use native.Mathlib.Omega.{arith}
 use borrow.Author.Tests.{eqb-true}
 use lib.Dec.{T, eqb, leb, ltb, eqb→eq, leb→le}
-use lib.ListN.{length, getD, take, drop, take-append-drop, length-map, length-drop, drop-of-length-le}
+use lib.ListN.{length, getD, take, drop, take-append-drop, length-drop, drop-of-length-le}
 use lib.Seq.{take-add, drop-drop}
 use Rattle.paper.specs.Numbers.{bytes, num, flatten, count, isIn, indexIn}
 use Rattle.paper.specs.Outline.{fileDepth, lengthOk}
 use Rattle.paper.specs.Store.{Cell, cellsAt}
-use Rattle.paper.specs.Packed.{packedFront, packedHead, emptyMark, rootTag, isEmpty, topOf, sizeAt, tailAt, startAt, listAt, leafAt, placesAt, cellsOf, graphOf, wholeAt, linksOk, headOk, proper}
+use Rattle.paper.specs.Packed.{packedFront, packedHead, emptyMark, rootTag, isEmpty, topOf, sizeAt, tailAt, startAt, listAt, placesAt, cellsOf, graphOf, wholeAt, linksOk, headOk, proper}
 use Rattle.paper.specs.Pack.{recordBytes, leafBytes, placesFrom, places, size, listBytes, sizeBytes, body, layout, emptyFile}
 use Rattle.paper.specs.Runs.{Bytes}
 use Rattle.laws.proofs.Tests.{and-left, and-right, true-T}
@@ -20,7 +20,7 @@ use Rattle.laws.proofs.Lists.{length-count}
 use Rattle.laws.proofs.Bytes.{bytes-drop}
 use Rattle.laws.proofs.Outlines.{depth-two}
 use Rattle.laws.proofs.RecordSizes.{list-length}
-use Rattle.laws.proofs.PackedLists.{Whole, sizes-whole, tail-in, leaves-length, inner-length, list-bytes, start-small, graph-cells}
+use Rattle.laws.proofs.PackedLists.{Whole, sizes-whole, tail-in, leaves-length, inner-length, list-bytes, start-small, graph-cells, records-length}
 use Rattle.laws.proofs.PackedWalk.{SoundLists, few-leaves}
 use Rattle.laws.proofs.ProperClaim.{Proper, proper-passes}
 use Rattle.laws.proofs.ProperVoxels.{proper-lists}
@@ -46,9 +46,7 @@ module _ (bs : List ℕ) (by : Bytes bs) (long : T (lengthOk packedHead bs)) (s 
 
   places-back : (j : ℕ) → j ≤ topOf bs → places G j ≡ placesAt bs j
   unfolding places placesAt cellsOf
-  places-back zero h =
-      ap (λ (cs : List Cell). count 0 (length cs)) (graph-cells bs 0 h)
-      ∙ ap (count 0) (length-map (count 0 (sizeAt bs 0)) (leafAt (listAt bs 0)) ∙ length-count (sizeAt bs 0) 0)
+  places-back zero h = ap (count 0) (records-length bs 0 h ∙ length-count (sizeAt bs 0) 0)
   places-back (suc j) h =
       ap₂ (λ (ps : List ℕ) (cs : List Cell). placesFrom ps 0 cs) (places-back j (omega arith)) (graph-cells bs (suc j) h) ∙ back-at j h .are-places
 
@@ -61,8 +59,8 @@ module _ (bs : List ℕ) (by : Bytes bs) (long : T (lengthOk packedHead bs)) (s 
       ap₂ (λ (ps : List ℕ) (cs : List Cell). flatten (map (recordBytes ps) cs)) (places-back j (omega arith)) (graph-cells bs (suc j) h) ∙ back-at j h .are-bytes
 
   size-back : (j : ℕ) → j ≤ topOf bs → size G j ≡ sizeAt bs j
-  unfolding size listBytes placesAt cellsOf
-  size-back zero h = ap length (graph-cells bs 0 h) ∙ length-map (count 0 (sizeAt bs 0)) (leafAt (listAt bs 0)) ∙ length-count (sizeAt bs 0) 0
+  unfolding size listBytes placesAt
+  size-back zero h = records-length bs 0 h ∙ length-count (sizeAt bs 0) 0
   size-back (suc j) h =
       omega (arith, list-length (places G j) (cellsAt G (suc j)), ap length (bytes-back (suc j) h), inner-length bs whole j h)
 

@@ -1,6 +1,6 @@
 -- The claims C1 to C11, document 01's demands, as types. This file states all and proves none; docs/READING.md says where each is proved.
 -- A claim that speaks of a call speaks of its outcome function (Calls, Detail); the promise of the call ties the code to that function.
-use mathlib.Core.Bool.{true, false}
+use mathlib.Core.Bool.{true, false, cond}
 use mathlib.Core.List.{List, [], _∷_}
 use mathlib.Core.Option.{some}
 use mathlib.Core.Logic.{_↔_}
@@ -12,13 +12,13 @@ use lib.Ieee.{Float, binary64, fits, le}
 use lib.Ieee.Exact.{HasValue}
 use lib.Ieee.Positive.{num, den}
 use lib.ListN.{length, take, drop, getD}
-use Rattle.paper.specs.Numbers.{allIn, bitFor}
+use Rattle.paper.specs.Numbers.{allIn, bitFor, isIn}
 use Rattle.paper.specs.Rooms.{Point, Room, deepest, depthOk, Inside, cellOf, childRoom, mirror, mirrored, Same, Image, NonEmpty, boxCount, nonEmpty}
 use Rattle.paper.specs.Outline.{edge, IsOutline, outlineOf, fileDepth, fileRoom}
 use Rattle.paper.specs.Store.{Cell, leafNo, tagOf, cellNo, anyBad, capacityOf, scenesHeld, keptOf, cellsAt, cellAt}
 use Rattle.paper.specs.Meaning.{cellVoxel}
 use Rattle.paper.specs.Match.{matches}
-use Rattle.paper.specs.Packed.{rootTag, isEmpty, topOf, graphOf, proper, packedRoom, packedPath}
+use Rattle.paper.specs.Packed.{rootTag, isEmpty, topOf, graphOf, proper, packedRoom, packedPath, startsOf}
 use Rattle.paper.specs.Pack.{layout, emptyFile, packedMost}
 use Rattle.paper.specs.Answers.{Outcome, told, outcome}
 use Rattle.paper.specs.Order.{firstOf}
@@ -134,8 +134,15 @@ pub record Packs (s : State) (n : ℕ) (sc : Scene) (file : List ℕ) : Type 0 w
   -- what a caller has to lend at most
   pub most : length file ≤ packedMost (s .capacity)
 
+pub record Packing (s : State) : Type 0 where
+  -- each scene held packs
+  pub each : (n : ℕ) (sc : Scene) → s .held n ≡ some sc → Packs s n sc (packBytes (s .words) n)
+  -- two scenes held with the same depth and voxels pack to the same bytes
+  pub same : (n n′ : ℕ) (sc sc′ : Scene) → s .held n ≡ some sc → s .held n′ ≡ some sc′ → sc .depth ≡ sc′ .depth → Same (2 ^ sc .depth) (sc .room) (sc′ .room)
+      → packBytes (s .words) n ≡ packBytes (s .words) n′
+
 abbrev pub C6 : Type 0
-C6 = (s : State) → Reached s → (n : ℕ) (sc : Scene) → s .held n ≡ some sc → Packs s n sc (packBytes (s .words) n)
+C6 = (s : State) → Reached s → Packing s
 
 -- ---- C7, proper files
 
@@ -178,6 +185,11 @@ pub record C7 : Type 0 where
   -- so two proper files with the same depth, root's tag and graph are the same bytes
   pub same : (file file′ : List ℕ) → Bytes file → Bytes file′ → proper file ≡ true → proper file′ ≡ true → fileDepth file ≡ fileDepth file′ → rootTag file ≡ rootTag file′
       → graphOf file ≡ graphOf file′ → file ≡ file′
+  -- it opens
+  pub opened : (file : List ℕ) → proper file ≡ true → openOutcome file ≡ outcome (told 0 (fileDepth file ∷ startsOf file)) (file ∷ [])
+  -- and a question on the opened scene gives its room's voxel
+  pub questioned : (file : List ℕ) (v : Point) → Bytes file → proper file ≡ true → Inside (2 ^ fileDepth file) v
+      → askOutcome file (fileDepth file) (startsOf file) v ≡ outcome (told 0 (bitFor (packedRoom file v) ∷ packedPath file v ∷ [])) []
 
 -- ---- C8, opened scenes
 
@@ -235,3 +247,9 @@ pub record C11 : Type 0 where
       → SameBut (lengthIn (packOutcome ws n scratch out)) (packOutcome ws n scratch out) (packOutcome ws n scratch′ out′) out out′ 1
   pub checks : (file scratch scratch′ : List ℕ) → length scratch ≡ length scratch′
       → (checkOutcome file scratch .number ≡ checkOutcome file scratch′ .number) × (checkOutcome file scratch .values ≡ checkOutcome file scratch′ .values)
+  -- pack's scratch is zero afterwards as far as it was needed, but as it was after 2, 9 and 11
+  pub pack-scratch : (ws : List ℕ) (n : ℕ) (scratch out : List ℕ)
+      → getD (packOutcome ws n scratch out .lent) 0 [] ≡ cond (isIn (packOutcome ws n scratch out .number) (2 ∷ 9 ∷ 11 ∷ [])) scratch (cleared (scratchFor ws) scratch)
+  -- check's after 0 and 6, else as it was
+  pub check-scratch : (file scratch : List ℕ)
+      → getD (checkOutcome file scratch .lent) 0 [] ≡ cond (isIn (checkOutcome file scratch .number) (0 ∷ 6 ∷ [])) (cleared (length file) scratch) scratch
