@@ -1,6 +1,5 @@
--- A graph under one root whose records below the top are all named: each record occurs in the root's room, mirrored as the way to it says. So where
--- its lists are as they should be, the records of a height are the differing non-empty cells of that room. By going down from the root. Assumes
--- nothing.
+-- A graph under one root whose records below the top are all named: each occurs in the root's room, mirrored as the way to it says. So where lists
+-- are as they should be, the records of a height are the differing cells of that room. By going down from the root. Assumes nothing.
 use mathlib.Core.Path.{_≡_, refl, sym, subst, ap}
 use mathlib.Core.Bool.{Bool, true, false, false≢true, cond}
 use mathlib.Core.List.{List, [], _∷_}

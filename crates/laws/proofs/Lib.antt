@@ -81,6 +81,7 @@ pub mod Layouts
 pub mod LayoutBytes
 pub mod RecordBytes
 pub mod RoundTrip
+pub mod ProperCounts
 pub mod PackedOrder
 pub mod PackedReached
 pub mod PackedGraph

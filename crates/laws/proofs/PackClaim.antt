@@ -30,6 +30,7 @@ use Rattle.laws.proofs.PackedReached.{Packable}
 use Rattle.laws.proofs.SamePack.{scenes-same}
 use Rattle.laws.proofs.Packing.{pack-proper, pack-depth, pack-room, pack-bytes}
 use Rattle.laws.proofs.PackedMost.{pack-most}
+use Rattle.laws.proofs.ProperCounts.{means-counts, means-fewest}
 
 module _ (s : State) (h : Holds (s .words) (s .held)) where
   abbrev ws : List ℕ
@@ -103,6 +104,9 @@ module _ (s : State) (h : Holds (s .words) (s .held)) where
         voxels = λ v i.
             proper-voxel packed v packed-bytes packed-proper (subst (λ (d : ℕ). Inside (2 ^ d) v) (sym packed-depth) i)
             ∙ ap (λ (b : Bool). outcome (told 0 (bitFor b ∷ packedPath packed v ∷ [])) []) (packed-means v i);
+        counts = means-counts packed packed-bytes packed-proper (fileDepth file) (fileRoom file) packed-depth packed-means;
+        fewest = λ other by e d same.
+            means-fewest packed other packed-bytes by packed-proper e (fileDepth file) (fileRoom file) packed-depth d packed-means same;
         most = subst (λ (C : ℕ). length packed ≤ packedMost C) given packed-most;
       }
 

@@ -132,7 +132,8 @@ module _ (bs : List ℕ) (by : Bytes bs) (p : Proper bs) where
       head-back tail (rest-back bs by (p .long) s)
       ∙ ap (λ (D : ℕ). packedFront ∷ bytes 4 (packedHead + length tail) ++ (D ∷ rootTag bs ∷ tail)) (sym (depth-two (fileDepth bs) (p .deep)))
 
-  nothing-more : isEmpty bs ≡ true → drop packedHead bs ≡ []
+  -- an empty file ends after its head
+  pub nothing-more : isEmpty bs ≡ true → drop packedHead bs ≡ []
   unfolding headOk
   nothing-more e =
       let alone = subst (λ (b : Bool). T (cond b (eqb (length bs) packedHead) true)) e (search (and-left, and-right)) in
