@@ -72,7 +72,6 @@ pub mod PackedLists
 pub mod PackedWalk
 pub mod ProperClaim
 pub mod ProperVoxels
-pub mod PackedClaims
 pub mod GraphCounts
 pub mod RecordSizes
 pub mod RecordReading
@@ -89,3 +88,4 @@ pub mod Packing
 pub mod PackedMost
 pub mod SamePack
 pub mod PackClaim
+pub mod PackedClaims

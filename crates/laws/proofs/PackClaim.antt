@@ -1,6 +1,6 @@
 -- Claim C6, packing, on every store that only the calls wrote: what pack writes for an accepted scene is written whole, is proper, means that scene's
--- room, is accepted by check, and answers the packed voxel as the room does; and the same room packs to the same bytes. From what the words hold and the
--- laws of packing. Assumes nothing.
+-- room, is accepted by check, answers the packed voxel as the room does, and has the records and at most the bytes claimed; and the same room packs
+-- to the same bytes. From what the words hold and the laws of packing. Assumes nothing.
 use mathlib.Core.Path.{_≡_, sym, _∙_, subst, ap}
 use mathlib.Core.Bool.{Bool, true}
 use mathlib.Core.List.{List, [], _∷_}
