@@ -17,6 +17,8 @@ use Rattle.laws.proofs.Refusals.{settled-accepted}
 use Rattle.laws.proofs.OpenClaim.{opened-opens, opens-ask}
 use Rattle.laws.proofs.ProperClaim.{check-passed, passed-check, check-number, Proper, proper-passes, proper-voxel}
 use Rattle.laws.proofs.ProperVoxels.{records-differ}
+use Rattle.laws.proofs.RoundTrip.{file-laid, file-empty, file-same}
+use Rattle.laws.proofs.ProperCounts.{file-counts}
 
 -- a proper file opens
 proper-opens : (file : List ℕ) → proper file ≡ true → openOutcome file ≡ outcome (told 0 (fileDepth file ∷ startsOf file)) (file ∷ [])
@@ -46,6 +48,10 @@ claim7 = record {
   );
   asked = proper-voxel;
   differ = records-differ;
+  counts = file-counts;
+  laid = file-laid;
+  laid-empty = file-empty;
+  same = file-same;
   opened = proper-opens;
   questioned = proper-asked;
 }

@@ -32,7 +32,7 @@ use Rattle.laws.proofs.Outlines.{depth-two}
 use Rattle.laws.proofs.Matching.{tag-lt}
 use Rattle.laws.proofs.Invariant.{Names, OkPointer, names-lt, names-ne, OkCell, Alike, LowTag, TwoWords, Inv, pointer-solid, cell-child, match-complete}
 use Rattle.laws.proofs.Adding.{pointer-names}
-use Rattle.laws.proofs.PackedLists.{num2-lt, num4-lt, Fits, links-fit, list-bytes, start-small, link-some, graph-cells}
+use Rattle.laws.proofs.PackedLists.{num2-lt, num4-lt, Fits, links-fit, list-bytes, start-small, link-some, graph-cells, records-length}
 use Rattle.laws.proofs.PackedWalk.{SoundLists, lists-of, few-leaves}
 use Rattle.laws.proofs.ProperClaim.{Proper, proper-passes, head-sizes}
 
@@ -88,13 +88,6 @@ module _ (bs : List ℕ) (by : Bytes bs) (long : T (lengthOk packedHead bs)) (li
   abbrev G : List (List Cell)
   G = graphOf bs
 
-  -- list k has a record for each start
-  list-length : (k : ℕ) → k ≤ topOf bs → length (cellsAt G k) ≡ length (placesAt bs k)
-  unfolding cellsOf
-  list-length zero h = ap length (graph-cells bs 0 h) ∙ length-map (placesAt bs 0) (leafAt (listAt bs 0))
-  list-length (suc k) h =
-      ap length (graph-cells bs (suc k) h) ∙ length-map (placesAt bs (suc k)) (λ p. map (byNumber (placesAt bs k)) (linksAt (listAt bs (suc k)) p))
-
   -- no record above the top
   none-above : (k q : ℕ) → topOf bs < k → q < length (cellsAt G k) → ⊥
   unfolding graphOf
@@ -125,7 +118,7 @@ module _ (bs : List ℕ) (by : Bytes bs) (long : T (lengthOk packedHead bs)) (li
   unfolding cellsOf
   leaf-is q h =
       ap (λ (cs : List Cell). getD cs q []) (graph-cells bs 0 (omega arith))
-      ∙ map-at (leafAt (listAt bs 0)) (placesAt bs 0) q 0 [] (omega (arith, list-length 0 (omega arith)))
+      ∙ map-at (leafAt (listAt bs 0)) (placesAt bs 0) q 0 [] (omega (arith, records-length bs 0 (omega arith)))
 
   leaf-two : (p : ℕ) → TwoWords (leafAt (listAt bs 0) p)
   unfolding leafAt
@@ -148,7 +141,7 @@ module _ (bs : List ℕ) (by : Bytes bs) (long : T (lengthOk packedHead bs)) (li
   leaf-some q h =
       subst (λ (c : Cell). 0 < leafNo c) (sym (leaf-is q h))
       (ltb→lt 0 (leafNo (leafAt (listAt bs 0) (getD (placesAt bs 0) q 0)))
-      (allIn-in (leafOk (listAt bs 0)) 0 (placesAt bs 0) (lists .whole 0 (omega arith)) q (omega (arith, list-length 0 (omega arith)))))
+      (allIn-in (leafOk (listAt bs 0)) 0 (placesAt bs 0) (lists .whole 0 (omega arith)) q (omega (arith, records-length bs 0 (omega arith)))))
 
   leaves-inv : Inv G 0
   unfolding cellVoxel
@@ -184,7 +177,7 @@ module _ (bs : List ℕ) (by : Bytes bs) (long : T (lengthOk packedHead bs)) (li
       c = cellAt G (suc k) q
 
       there : q < length (placesAt bs (suc k))
-      there = omega (arith, list-length (suc k) h)
+      there = omega (arith, records-length bs (suc k) h)
 
       record-is : c ≡ map (byNumber ps) (linksAt l (placeAt q))
       unfolding cellsOf
@@ -214,7 +207,7 @@ module _ (bs : List ℕ) (by : Bytes bs) (long : T (lengthOk packedHead bs)) (li
           let i : T (isIn (r .place) ps) = search and-left in
           let fit : (r .tag < 8) × (r .place < 2 ^ 29) = f (eqb→eq (r .code) (codeFor (r .place)) (search and-right)) in
           let a : At (r .place) ps = isIn-at (r .place) ps i in
-          rw (link-some ps r ne, list-length k (omega arith))
+          rw (link-some ps r ne, records-length bs k (omega arith))
           (pointer-names (r .tag) (indexIn (r .place) ps) (length ps)
           (start-small bs by (lists .whole) (few-leaves bs by long lists) k (r .place) (omega arith) i (fit .1)) (a .inside))
 
@@ -350,7 +343,7 @@ module _ (file : List ℕ) (by : Bytes file) (e : proper file ≡ true) (some : 
   top-there : 0 < length (cellsAt g (topOf file))
   unfolding topOk
   top-there =
-      omega (arith, list-length file by (passes .long) proper-lists (proper-graph .apart) (proper-graph .tags) (topOf file) (omega arith), eqb→eq (length (placesAt file (topOf file))) 1 (proper-lists .top))
+      omega (arith, records-length file (topOf file) (omega arith), eqb→eq (length (placesAt file (topOf file))) 1 (proper-lists .top))
 
   pub root-tag : rootTag file < 8
   unfolding headOk

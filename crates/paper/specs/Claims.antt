@@ -19,11 +19,12 @@ use Rattle.paper.specs.Store.{Cell, leafNo, tagOf, cellNo, anyBad, capac
 use Rattle.paper.specs.Meaning.{cellVoxel}
 use Rattle.paper.specs.Match.{matches}
 use Rattle.paper.specs.Packed.{rootTag, isEmpty, topOf, graphOf, proper, packedRoom, packedPath, startsOf}
+use Rattle.paper.specs.Pack.{layout, emptyFile, packedMost}
 use Rattle.paper.specs.Answers.{Outcome, told, outcome}
 use Rattle.paper.specs.Order.{firstOf}
 use Rattle.paper.specs.Detail.{factorOk, distanceOk, reaches, doubled}
 use Rattle.paper.specs.Calls.{over, cleared, nextScene, scenesFull, outlineOrder, addOutcome, voxelOutcome, cellOutcome, boxOutcome, keptOutcome, outlineOutcome, scratchFor, packBytes, packOutcome, checkOutcome, packedVoxelOutcome, openOutcome, askOutcome}
-use Rattle.paper.specs.Runs.{Call, Bytes, Given, outcomeOf, wordsAfter, besides, Scene, sceneOf, holding, State, Reached, Occurs, Outnumbered, Number, keptRoom, usedBy}
+use Rattle.paper.specs.Runs.{Call, Bytes, Given, outcomeOf, wordsAfter, besides, Scene, sceneOf, holding, alone, State, Reached, Occurs, Outnumbered, Number, keptRoom, usedBy}
 use Rattle.paper.specs.Samples.{samples, holds}
 
 -- ---- C1, mirror laws, once over the edge
@@ -116,6 +117,10 @@ C5 = (s : State) → Reached s → AnswersAreTheRooms s
 
 -- ---- C6, packing, on such a store: of every accepted scene, with `file` what pack writes for it
 
+-- the records of list k of a packed file
+abbrev pub recordsAt : List ℕ → ℕ → ℕ
+recordsAt file k = length (cellsAt (graphOf file) k)
+
 pub record Packs (s : State) (n : ℕ) (sc : Scene) (file : List ℕ) : Type 0 where
   -- it is written, into scratch and output that hold it
   pub written : (scratch out : List ℕ) → scratchFor (s .words) ≤ length scratch → length file ≤ length out
@@ -130,6 +135,13 @@ pub record Packs (s : State) (n : ℕ) (sc : Scene) (file : List ℕ) : Type 0 w
   -- packed voxel on it gives the room's voxel
   pub voxels : (v : Point) → Inside (2 ^ sc .depth) v
       → packedVoxelOutcome file v ≡ outcome (told 0 (bitFor (sc .room v) ∷ packedPath file v ∷ [])) []
+  -- its records of each height are as many as the scene's differing non-empty cells there, images counted once
+  pub counts : (k : ℕ) → suc (suc k) ≤ sc .depth → Number (alone (sc .depth) (sc .room)) (suc (suc k)) (recordsAt file k)
+  -- and every proper file that means the room has just as many
+  pub fewest : (other : List ℕ) → Bytes other → proper other ≡ true → fileDepth other ≡ sc .depth → Same (2 ^ sc .depth) (packedRoom other) (sc .room)
+      → (k : ℕ) → suc (suc k) ≤ sc .depth → recordsAt other k ≡ recordsAt file k
+  -- what a caller has to lend at most
+  pub most : length file ≤ packedMost (s .capacity)
 
 pub record Packing (s : State) : Type 0 where
   -- each scene held packs
@@ -143,10 +155,7 @@ C6 = (s : State) → Reached s → Packing s
 
 -- ---- C7, proper files
 
--- the records of list k of a packed file, and the voxels of record q of it
-abbrev pub recordsAt : List ℕ → ℕ → ℕ
-recordsAt file k = length (cellsAt (graphOf file) k)
-
+-- the voxels of record q of list k of a packed file
 abbrev pub recordRoom : List ℕ → ℕ → ℕ → Room
 recordRoom file k q = cellVoxel (graphOf file) k (cellAt (graphOf file) k q)
 
@@ -176,6 +185,15 @@ pub record C7 : Type 0 where
       → packedVoxelOutcome file v ≡ outcome (told 0 (bitFor (packedRoom file v) ∷ packedPath file v ∷ [])) []
   -- its records differ by voxels
   pub differ : (file : List ℕ) → Bytes file → proper file ≡ true → isEmpty file ≡ false → RecordsDiffer file
+  -- its records of each height are as many as the differing non-empty cells of the room that it means, images counted once
+  pub counts : (file : List ℕ) → Bytes file → proper file ≡ true → (k : ℕ) → k ≤ topOf file → Number (alone (fileDepth file) (packedRoom file)) (suc (suc k)) (recordsAt file k)
+  -- it is what is laid out for its depth, root's tag and graph (lists in order)
+  pub laid : (file : List ℕ) → Bytes file → proper file ≡ true → isEmpty file ≡ false → file ≡ layout (topOf file) (rootTag file) (graphOf file)
+  -- or, where it is empty, the 7 bytes of its depth
+  pub laid-empty : (file : List ℕ) → Bytes file → proper file ≡ true → isEmpty file ≡ true → file ≡ emptyFile (fileDepth file)
+  -- so two proper files with the same depth, root's tag and graph are the same bytes
+  pub same : (file file′ : List ℕ) → Bytes file → Bytes file′ → proper file ≡ true → proper file′ ≡ true → fileDepth file ≡ fileDepth file′ → rootTag file ≡ rootTag file′
+      → graphOf file ≡ graphOf file′ → file ≡ file′
   -- it opens
   pub opened : (file : List ℕ) → proper file ≡ true → openOutcome file ≡ outcome (told 0 (fileDepth file ∷ startsOf file)) (file ∷ [])
   -- and a question on the opened scene gives its room's voxel

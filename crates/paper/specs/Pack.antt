@@ -6,7 +6,7 @@ use Prim.Native.Nat.{ℕ, zero, suc, _+_, _-_, _*_, _^_}
 use lib.Dec.{eqb}
 use lib.ListN.{length, getD}
 use Rattle.paper.specs.Numbers.{bytes, flatten, count, tabulate, indexIn}
-use Rattle.paper.specs.Store.{Cell, cellsAt, cellAt, tagOf, cellNo, pointer}
+use Rattle.paper.specs.Store.{Cell, heights, cellsAt, cellAt, tagOf, cellNo, pointer}
 use Rattle.paper.specs.Packed.{packedFront, packedHead, emptyMark, codeFor, popularity}
 
 -- ---- a graph's bytes
@@ -80,6 +80,14 @@ layout k m K =
 -- the 7 bytes of an empty scene
 unfoldable pub emptyFile : ℕ → List ℕ
 emptyFile D = packedFront ∷ bytes 4 packedHead ++ (D ∷ emptyMark ∷ [])
+
+-- the most bytes of a record: header and eight long pointers
+abbrev pub mostRecord : ℕ
+mostRecord = 34
+
+-- the most bytes of a packed scene of a store of capacity C: head, sizes, one record on top, C records in each list between, C leaves
+abbrev pub packedMost : ℕ → ℕ
+packedMost C = packedHead + 4 * heights + mostRecord + (8 + (heights - 2) * mostRecord) * C
 
 -- ---- the graph of a scene
 

@@ -114,6 +114,10 @@ nothing n = O.none
 abbrev pub holding : ℕ → Scene → Held → Held
 holding n s held m = cond (eqb m n) (some s) (held m)
 
+-- a room alone, under number 0
+abbrev pub alone : ℕ → Room → Held
+alone D r = holding 0 (record { file = []; depth = D; room = r }) nothing
+
 -- ---- a run
 
 pub record State : Type 0 where
