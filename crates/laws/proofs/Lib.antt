@@ -75,6 +75,7 @@ pub mod RecordCells
 pub mod Layouts
 pub mod LayoutBytes
 pub mod PackedOrder
+pub mod RenumberedPointers
 pub mod Renumbering
 pub mod PackedReached
 pub mod PackedGraph

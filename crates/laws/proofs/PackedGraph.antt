@@ -4,7 +4,7 @@ use mathlib.Core.Path.{_≡_, _∙_, subst₂, ap}
 use mathlib.Core.Bool.{Bool, true, false, cond, not}
 use mathlib.Core.List.{List, [], map}
 use mathlib.Core.Logic.{inr}
-use Prim.Native.Nat.{ℕ, zero, suc, _-_, _<_, _≤_}
+use Prim.Native.Nat.{ℕ, suc, _-_, _<_, _≤_}
 use native.Mathlib.Nat.{zero-add}
 use native.Mathlib.Omega.{arith}
 use borrow.Author.Tests.{lt-ltb, le-leb}
@@ -23,7 +23,8 @@ use Rattle.laws.proofs.Lists.{isIn-at, in-head, getD-tabulate}
 use Rattle.laws.proofs.Eight.{xor8-lt}
 use Rattle.laws.proofs.Matching.{tag-lt, match-sound}
 use Rattle.laws.proofs.Invariant.{Names, names-ne, LowTag, Inv}
-use Rattle.laws.proofs.Renumbering.{Listed, listed-cell, listed-tag, AllListed, cell-pointer, Renumbered, renumbered-length, renumbered-cell, kept-voxels, renumbered-popularity, renumbered-low, renumbered-inv}
+use Rattle.laws.proofs.RenumberedPointers.{Listed, listed-cell, listed-tag}
+use Rattle.laws.proofs.Renumbering.{Renumbered, renumbered-length, renumbered-cell, renumbered-pointer, renumbered-voxels, renumbered-popularity, pointer-low, renumbered-inv}
 use Rattle.laws.proofs.PackedOrder.{every-at, pairs-at, Before, Counted}
 use Rattle.laws.proofs.PackedReached.{Packable, numbers, keptAt, uses, N-top, N-chosen, N-few, N-used, N-falls, all-listed, before-le}
 
@@ -59,9 +60,9 @@ tag-low G j p low =
     all-T (tagOf p) _ (λ u hu. not-T (matches G j c c (bitXor u (tagOf p))) (λ w.
     low u hu (match-sound G j c c (bitXor u (tagOf p)) (xor8-lt u (tagOf p) (omega (arith, tag-lt p)) (tag-lt p)) w)))
 
-pointer-low : (G : List (List Cell)) (j p : ℕ) → LowTag G j p → T (pointerLow G j p)
+named-low : (G : List (List Cell)) (j p : ℕ) → LowTag G j p → T (pointerLow G j p)
 unfolding pointerLow
-pointer-low G j p low = go (eqb p 0)
+named-low G j p low = go (eqb p 0)
   where
     go : (b : Bool) → T (cond b true (tagLow G j (tagOf p) (cellNo p)))
     go true = tt
@@ -71,7 +72,7 @@ tags-ok : (G : List (List Cell)) (j : ℕ) → Inv G (suc j) → T (tagsOk G j)
 unfolding tagsOk
 tags-ok G j inv =
     all-T (length (cellsAt G (suc j))) _ (λ n hn. all-T 8 (λ i. pointerLow G j (getD (cellAt G (suc j) n) i 0)) (λ i hi.
-    pointer-low G j (getD (cellAt G (suc j) n) i 0) (inv .shape n hn .1 i hi)))
+    named-low G j (getD (cellAt G (suc j) n) i 0) (inv .shape n hn .1 i hi)))
 
 module _ (K : List (List Cell)) (s : Packable K) (k p : ℕ) (hp : Names (length (cellsAt K k)) p) where
   abbrev N : ℕ → List ℕ
@@ -88,17 +89,13 @@ module _ (K : List (List Cell)) (s : Packable K) (k p : ℕ) (hp : Names (length
 
   -- ---- the graph's cells are the store's renumbered
 
-  all-closed : (j : ℕ) → j ≤ k → (n : ℕ) → n < length (N j) → AllListed N j (kept j n)
-  all-closed zero h n m = tt
-  all-closed (suc j) h n m = all-listed K s k p hp j h n m
-
   pub graph-renumbered : Renumbered K G N k
   graph-renumbered = record {
     list = graph-list K k p;
     below = λ j h. N-chosen K s k p hp j h .below;
     once = λ j h. N-chosen K s k p hp j h .once;
     few = N-few K s k p hp;
-    closed = all-closed;
+    closed = all-listed K s k p hp;
   }
 
   pub graph-length : (j : ℕ) → j ≤ k → length (cellsAt G j) ≡ length (N j)
@@ -111,10 +108,10 @@ module _ (K : List (List Cell)) (s : Packable K) (k p : ℕ) (hp : Names (length
   graph-cell j h = renumbered-cell graph-renumbered (suc j) h
 
   pub graph-pointer : (j : ℕ) → j < k → (n : ℕ) → n < length (N (suc j)) → (i : ℕ) → getD (cellAt G (suc j) n) i 0 ≡ renumber (N j) (getD (kept (suc j) n) i 0)
-  graph-pointer j h n m i = ap (λ (c : Cell). getD c i 0) (graph-cell j h n m) ∙ cell-pointer N j (kept (suc j) n) i
+  graph-pointer = renumbered-pointer graph-renumbered
 
   pub graph-voxels : (j : ℕ) → j ≤ k → (n : ℕ) (v : Point) → n < length (N j) → cellVoxel G j (cellAt G j n) v ≡ cellVoxel K j (kept j n) v
-  graph-voxels j h n v m = kept-voxels graph-renumbered j h n m v
+  graph-voxels j h n v m = renumbered-voxels graph-renumbered j h n m v
 
   graph-inv : (j : ℕ) → j ≤ k → Inv G j
   graph-inv j h = renumbered-inv graph-renumbered j h (s .invs j)
@@ -155,7 +152,7 @@ module _ (K : List (List Cell)) (s : Packable K) (k p : ℕ) (hp : Names (length
       let few : length (N k) ≤ mostCapacity = N-few K s k p hp k (omega arith) in
       let first : indexIn (cellNo p) (N k) ≡ 0 = omega (arith, root-listed .at .inside, ap length (N-top K k p)) in
       subst₂ (λ (t n : ℕ). T (tagLow G k t n)) (listed-tag (N k) few p root-listed) (listed-cell (N k) few p root-listed ∙ first)
-      (tag-low G k (renumber (N k) p) (renumbered-low graph-renumbered k (omega arith) p (inr root-listed) low))
+      (tag-low G k (renumber (N k) p) (pointer-low graph-renumbered k (omega arith) p (inr root-listed) low))
 
   pub graph-ok : LowTag K k p → T (graphOk k (tagOf p) G)
   unfolding graphOk

@@ -17,7 +17,7 @@ use Rattle.paper.specs.Packed.{names, popularity}
 use Rattle.paper.specs.Pack.{ordered, next, reached}
 use Rattle.laws.proofs.Lists.{map-at, isIn-at, Once}
 use Rattle.laws.proofs.Invariant.{Names, OkPointer, Inv}
-pub use Rattle.laws.proofs.Renumbering.{Listed, InList, none-renumbered, listed-is, listed-small, listed-some, listed-cell, listed-tag}
+pub use Rattle.laws.proofs.RenumberedPointers.{Listed, InList, none-renumbered, listed-is, listed-small, listed-some, listed-cell, listed-tag}
 use Rattle.laws.proofs.PackedOrder.{Every, Pairs, every-at, Before, Counted, ordered-counted, ordered-pairs, ordered-all, ordered-once, ordered-length}
 
 -- ---- which cells are named
