@@ -26,6 +26,7 @@ pub mod Undamaged
 pub mod SoundWords
 -- walks
 pub mod Walking
+pub mod Deciding
 pub mod CellVoxels
 -- matching and adding
 pub mod Matching

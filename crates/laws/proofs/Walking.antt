@@ -4,7 +4,7 @@
 use mathlib.Core.Path.{_≡_, refl, sym, _∙_, ap, ap₂, subst}
 use mathlib.Core.Bool.{Bool, true, false, false≢true}
 use mathlib.Core.List.{List, [], _∷_, map}
-use Prim.Native.Nat.{ℕ, zero, suc, _+_, _-_, _*_, _/_, _%_, _^_, _<_}
+use Prim.Native.Nat.{ℕ, zero, suc, _+_, _-_, _*_, _/_, _%_, _^_, _<_, _≤_}
 use native.Mathlib.Nat.{mod-lt, mod-eq-of-lt, mul-comm, div-lt-iff-lt-mul, pow-succ'}
 use native.Mathlib.Omega.{arith}
 use lib.Arith.{mod-mul, digits-mod}
@@ -136,14 +136,14 @@ LeafAt u damaged = Unit {0}
 LeafAt u (absent h) = Unit {0}
 LeafAt u (inLeaf n w) = w ≡ u
 
--- the point mirrored once, in the leaf that holds it
-abbrev pub leafPoint : ℕ → Point → Point
-leafPoint m v = mirror m (edge 0) (inChild (edge 0) v)
+-- the point in the cell of list j that holds it, mirrored once
+abbrev pub pointIn : ℕ → ℕ → Point → Point
+pointIn j m v = mirror m (edge j) (inChild (edge j) v)
 
 -- the mirror in force at the end of a walk to v is one, and sees v where the walk ends
 pub record Seen (v : Point) (w : Walk) : Type 0 where
   pub one : mirrorIn w < 8
-  pub is : LeafAt (leafPoint (mirrorIn w) v) (w .end)
+  pub is : LeafAt (pointIn 0 (mirrorIn w) v) (w .end)
 
 pub seen-damaged : (v : Point) → Seen v damagedWalk
 unfolding inForce
@@ -154,7 +154,7 @@ seen-unless true v w s = s
 seen-unless false v w s = seen-damaged v
 
 -- one step more, under tag t, from the child's point u to v
-seen-after : (s : Step) (u v : Point) (e : End) (path : List Step) → s .tag < 8 → ((m : ℕ) → m < 8 → leafPoint m u ≡ leafPoint (bitXor (s .tag) m) v)
+seen-after : (s : Step) (u v : Point) (e : End) (path : List Step) → s .tag < 8 → ((m : ℕ) → m < 8 → pointIn 0 m u ≡ pointIn 0 (bitXor (s .tag) m) v)
     → Seen u (record { end = e; path = path }) → Seen v (after s (record { end = e; path = path }))
 unfolding inForce
 seen-after s u v damaged path h same r = record { one = lit< tt; is = tt }
@@ -195,22 +195,23 @@ reduced-mirror t H M v h l =
     ∙ ap (inChild H) (mirror-place t H M c u lc (reduced-inside H v h))
     ∙ (λ i. point (digits-mod (at .x) (lu .inX) i) (digits-mod (at .y) (lu .inY) i) (digits-mod (at .z) (lu .inZ) i))
 
--- the edge of list k in leaves
-edge-leaves : (k : ℕ) → edge k ≡ 2 ^ k * edge 0
-edge-leaves k = ap (λ (n : ℕ). 2 ^ n) (omega arith) ∙ pow-add 2 k 2
+-- the edge of list k in cells of list j
+edge-cells : (j k : ℕ) → j ≤ k → edge k ≡ 2 ^ (k - j) * edge j
+edge-cells j k h = ap (λ (n : ℕ). 2 ^ n) (omega arith) ∙ pow-add 2 (k - j) (suc (suc j))
 
 -- the point in a child, mirrored, is the point mirrored by both
-leaf-down : (k t m : ℕ) (v : Point) → t < 8 → m < 8 → Inside (edge (suc k)) v
-    → leafPoint m (inChild (edge k) (mirror t (edge (suc k)) v)) ≡ leafPoint (bitXor t m) v
-leaf-down k t m v ht hm l =
+pub point-down : (j k t m : ℕ) (v : Point) → j ≤ k → t < 8 → m < 8 → Inside (edge (suc k)) v
+    → pointIn j m (inChild (edge k) (mirror t (edge (suc k)) v)) ≡ pointIn j (bitXor t m) v
+point-down j k t m v h ht hm l =
     let w : Point = mirror t (edge (suc k)) v in
-    let four : 0 < edge 0 = lit< tt in
-    ap (λ (n : ℕ). mirror m (edge 0) (inChild (edge 0) (inChild n w))) (edge-leaves k)
-    ∙ ap (mirror m (edge 0)) (reduced-twice (edge 0) (2 ^ k) w four (pow-pos k)
-    ∙ ap (λ (n : ℕ). inChild (edge 0) (mirror t n v)) (edge-leaves (suc k))
-    ∙ reduced-mirror t (edge 0) (2 ^ suc k) v four (subst (λ (n : ℕ). Inside n v) (edge-leaves (suc k)) l))
-    ∙ mirror-mirror m t (edge 0) (inChild (edge 0) v) hm ht (reduced-inside (edge 0) v four)
-    ∙ ap (λ (n : ℕ). leafPoint n v) (xor-comm m t)
+    let pos : 0 < edge j = pow-pos (suc (suc j)) in
+    let up : edge (suc k) ≡ 2 ^ (suc k - j) * edge j = edge-cells j (suc k) (omega arith) in
+    ap (λ (n : ℕ). mirror m (edge j) (inChild (edge j) (inChild n w))) (edge-cells j k h)
+    ∙ ap (mirror m (edge j)) (reduced-twice (edge j) (2 ^ (k - j)) w pos (pow-pos (k - j))
+    ∙ ap (λ (n : ℕ). inChild (edge j) (mirror t n v)) up
+    ∙ reduced-mirror t (edge j) (2 ^ (suc k - j)) v pos (subst (λ (n : ℕ). Inside n v) up l))
+    ∙ mirror-mirror m t (edge j) (inChild (edge j) v) hm ht (reduced-inside (edge j) v pos)
+    ∙ ap (λ (n : ℕ). pointIn j n v) (xor-comm m t)
 
 -- where the voxel lies in the child, inside
 pub child-inside : (k t : ℕ) (v : Point) → Inside (edge (suc k)) v → Inside (edge k) (inChild (edge k) (mirror t (edge (suc k)) v))
@@ -234,7 +235,7 @@ walk-seen R low (suc k) p t v h l =
     let below : Seen u on =
     seen-onward (suc (suc k)) f u c (λ t′ q. low k p (childNo (edge k) w) t′ q) (λ t′ q h′. walk-seen R low k q t′ u h′ (child-inside k t v l)) in
     seen-unless (R .ok (suc k) p) v (after (record { list = suc k; place = p; tag = t }) on)
-    (seen-after (record { list = suc k; place = p; tag = t }) u v (on .end) (on .path) h (λ m hm. leaf-down k t m v h hm l) below)
+    (seen-after (record { list = suc k; place = p; tag = t }) u v (on .end) (on .path) h (λ m hm. point-down 0 k t m v (omega arith) h hm l) below)
 
 -- ---- an absent child
 
