@@ -9,6 +9,7 @@ pub mod Eight
 pub mod Mirrors
 pub mod Leaves
 pub mod Trees
+pub mod CellPlaces
 -- outlines
 pub mod Orders
 pub mod OutlineCells
@@ -23,6 +24,10 @@ pub mod Padded
 pub mod Words
 pub mod Undamaged
 pub mod SoundWords
+-- walks
+pub mod Walking
+pub mod Deciding
+pub mod CellVoxels
 -- matching and adding
 pub mod Matching
 pub mod Invariant
@@ -82,6 +87,8 @@ pub mod RecordBytes
 pub mod RoundTrip
 pub mod ProperCounts
 pub mod PackedOrder
+pub mod RenumberedPointers
+pub mod Renumbering
 pub mod PackedReached
 pub mod PackedGraph
 pub mod Packing

@@ -12,8 +12,9 @@ use Rattle.paper.specs.Outline.{outlineFront, outlineHead, longest, outl
 use Rattle.paper.specs.Store.{Cell, Store, mostScenes, used, capacityOf, scenesHeld, keptCount, capacityOk, keptOf, storeOf, wordsOf, sceneDepth, sceneRoot, headerOk, sceneOk, storeOk}
 use Rattle.paper.specs.Meaning.{rootRoom}
 use Rattle.paper.specs.Match.{Adding, full, added, addTree}
-use Rattle.paper.specs.Questions.{voxelSolid, voxelWay, cellFull, cellWay, boxSolid, boxWay}
-use Rattle.paper.specs.Packed.{packedFront, packedHead, headOk, packedRules, wayIn, solid, records, isBroken, startsOf}
+use Rattle.paper.specs.Walk.{isDamaged, solidAt}
+use Rattle.paper.specs.Questions.{voxelWalk, cellFull, cellWay, boxSolid, boxWay}
+use Rattle.paper.specs.Packed.{packedFront, packedHead, headOk, packedRules, fileWalk, startsOf}
 use Rattle.paper.specs.Pack.{packedFile}
 use Rattle.paper.specs.Answers.{Outcome}
 use Rattle.paper.specs.Order.{Test, when, firstOf, settled}
@@ -112,11 +113,11 @@ unfoldable pub voxelOutside : List ℕ → ℕ → Point → Bool
 voxelOutside ws n v = not (inside (2 ^ sceneDepth ws n) v)
 
 unfoldable pub voxelDamaged : List ℕ → ℕ → Point → Bool
-voxelDamaged ws n v = ofScene voxelWay ws n v
+voxelDamaged ws n v = isDamaged (ofScene voxelWalk ws n v .end)
 
 unfoldable pub voxelOutcome : List ℕ → ℕ → Point → Outcome
 voxelOutcome ws n v =
-    let value : ℕ = bitFor (ofScene voxelSolid ws n v) in
+    let value : ℕ = bitFor (solidAt (ofScene voxelWalk ws n v .end)) in
     settled (firstOf (questionOrder ws n (voxelOutside ws n v) (voxelDamaged ws n v))) (value ∷ []) [] []
 
 -- the height is above the room's, or no cell of that height has these coordinates
@@ -237,14 +238,14 @@ unfoldable pub packedOutside : List ℕ → Point → Bool
 packedOutside file v = not (inside (2 ^ fileDepth file) v)
 
 unfoldable pub packedBroken : List ℕ → Point → Bool
-packedBroken file v = isBroken (wayIn file v)
+packedBroken file v = isDamaged (fileWalk file v .end)
 
 -- the order ('Packed voxel:')
 abbrev pub packedVoxelOrder : List ℕ → Point → List Test
 packedVoxelOrder file v = packedOrder file (when (packedOutside file v) 10 ∷ when (packedBroken file v) 6 ∷ [])
 
 abbrev pub packedValues : List ℕ → Point → List ℕ
-packedValues file v = bitFor (solid (wayIn file v)) ∷ records (wayIn file v) ∷ []
+packedValues file v = bitFor (solidAt (fileWalk file v .end)) ∷ length (fileWalk file v .path) ∷ []
 
 unfoldable pub packedVoxelOutcome : List ℕ → Point → Outcome
 packedVoxelOutcome file v = settled (firstOf (packedVoxelOrder file v)) (packedValues file v) [] []

@@ -6,6 +6,7 @@ pub mod Outline
 pub mod Store
 pub mod Meaning
 pub mod Match
+pub mod Walk
 pub mod Questions
 pub mod Packed
 pub mod Pack

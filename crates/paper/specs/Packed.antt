@@ -10,13 +10,13 @@ use lib.Dec.{eqb, leb, ltb}
 use lib.Bits.{bitXor}
 use lib.ListN.{length, take, drop, getD, replicate}
 use Rattle.paper.specs.Numbers.{allBelow, num, count, tabulate, allIn, isIn, indexIn}
-use Rattle.paper.specs.Rooms.{Point, Room, mirror, childNo, inChild, depthOk}
-use Rattle.paper.specs.Leaf.{leafVoxel}
-use Rattle.paper.specs.Outline.{edge, fileDepth, frontOk, lengthOk}
+use Rattle.paper.specs.Rooms.{Point, Room, mirror, depthOk}
+use Rattle.paper.specs.Outline.{fileDepth, frontOk, lengthOk}
 use Rattle.paper.specs.Store.{Cell, heights, cellsAt, cellAt, leafNo, tagOf, cellNo, pointer}
 use Rattle.paper.specs.Meaning.{cellVoxel}
 use Rattle.paper.specs.Match.{matches}
-use Rattle.paper.specs.Questions.{entered}
+use Rattle.paper.specs.Walk.{Child, none, wrong, to, Reading, Walk, unless, rootWalk}
+use Rattle.paper.specs.Questions.{graphReading}
 
 -- ---- the header
 
@@ -237,68 +237,36 @@ packedRoom bs v =
     let r : Bool = cellVoxel (graphOf bs) k (cellAt (graphOf bs) k 0) (inTop bs v) in
     cond (isEmpty bs) false r
 
+-- what the scene sees: its top record under the root's mirror, or nothing
+abbrev pub rootOf : List ℕ → Child
+rootOf bs = cond (isEmpty bs) none (to (rootTag bs) 0)
+
 -- how many records are on the path to v ('records read'): the top one, then each that a pointer taken names, to a leaf or an absent child
 unfoldable pub packedPath : List ℕ → Point → ℕ
-packedPath bs v =
-    let k : ℕ = topOf bs in
-    let r : ℕ = length (entered (graphOf bs) k (cellAt (graphOf bs) k 0) (inTop bs v)) in
-    cond (isEmpty bs) 0 r
+packedPath bs v = length (rootWalk (graphReading (graphOf bs)) (fileDepth bs) (rootOf bs) v .path)
 
 -- ---- the walk of a packed voxel question, on any bytes
 
--- a record entered: its list, its place, and the tag under which it is seen
-pub record Step : Type 0 where
-  pub list : ℕ
-  pub place : ℕ
-  pub tag : ℕ
+-- what a pointer of list k + 1 leads to: wrong where it leads past list k, or hasn't the code that its place calls for
+unfoldable pub linkTo : List ℕ → ℕ → Link → Child
+linkTo bs k l = cond (eqb (l .code) 0) none (cond (ltb (l .place) (sizeAt bs k) && eqb (l .code) (codeFor (l .place))) (to (l .tag) (l .place)) wrong)
 
--- how a walk ends: broken, or solid or empty with the records read, the root's first
-pub data Way : Type 0 where
-  broken : Way
-  ended : Bool → List Step → Way
+-- the tests on entering place p of list k
+abbrev pub entryOk : List ℕ → ℕ → ℕ → Bool
+entryOk bs zero p = leafOk (listAt bs 0) p
+entryOk bs (suc k) p = recordOk (listAt bs (suc k)) p
 
--- one record before the others
-abbrev pub after : Step → Way → Way
-after s broken = broken
-after s (ended b path) = ended b (s ∷ path)
-
--- the records read are all of the path
-abbrev pub records : Way → ℕ
-records broken = 0
-records (ended b path) = length path
-
-abbrev pub solid : Way → Bool
-solid broken = false
-solid (ended b path) = b
-
-abbrev pub isBroken : Way → Bool
-isBroken broken = true
-isBroken (ended b path) = false
-
--- broken unless the test passes
-abbrev pub unless : Bool → Way → Way
-unless true w = w
-unless false w = broken
-
--- from the record at place p of list k, seen under tag t ('on its path'): broken where a record entered is, or where the pointer taken leads past the
--- next list or hasn't the code that its place calls for; nothing off the path is looked at
-unfoldable pub packedWay : List ℕ → ℕ → ℕ → ℕ → Point → Way
-packedWay bs zero p t v =
-    unless (leafOk (listAt bs 0) p) (ended (leafVoxel (leafNo (leafAt (listAt bs 0) p)) (mirror t (edge 0) v)) (record { list = 0; place = p; tag = t } ∷ []))
-packedWay bs (suc k) p t v =
-    let here : Step = record { list = suc k; place = p; tag = t } in
-    let l : List ℕ = listAt bs (suc k) in
-    let w : Point = mirror t (edge (suc k)) v in
-    let q : Link = getD (linksAt l p) (childNo (edge k) w) noLink in
-    let on : Way = after here (packedWay bs k (q .place) (q .tag) (inChild (edge k) w)) in
-    let to : Way = unless (ltb (q .place) (sizeAt bs k) && eqb (q .code) (codeFor (q .place))) on in
-    unless (recordOk l p) (cond (eqb (q .code) 0) (ended false (here ∷ [])) to)
+-- records by place ('on its path'): nothing off the path is looked at
+abbrev pub fileReading : List ℕ → Reading
+fileReading bs = record {
+  ok = entryOk bs;
+  leaf = λ p. leafNo (leafAt (listAt bs 0) p);
+  child = λ k p i. linkTo bs k (getD (linksAt (listAt bs (suc k)) p) i noLink);
+}
 
 -- from the root; an empty scene reads nothing
-unfoldable pub wayIn : List ℕ → Point → Way
-wayIn bs v =
-    let r : Way = packedWay bs (topOf bs) 0 (rootTag bs) v in
-    unless (headOk bs) (cond (isEmpty bs) (ended false []) r)
+unfoldable pub fileWalk : List ℕ → Point → Walk
+fileWalk bs v = unless (headOk bs) (rootWalk (fileReading bs) (fileDepth bs) (rootOf bs) v)
 
 -- ---- opening: the list starts, 0 above the depth and for an empty scene
 

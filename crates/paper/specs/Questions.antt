@@ -1,14 +1,38 @@
--- Document 01, 'Questions', on a store's cells: what a voxel, cell or box question finds, and where its walk meets damage. Definitions only.
--- K are the kept cells, list k those of height k + 2; a walk goes down by coordinates, as the meaning of a pointer does.
+-- Document 01, 'Questions', on a store's cells: the walk of a voxel question, what a cell or box question finds, and where it meets damage.
+-- Definitions only. K are the kept cells, list k those of height k + 2; a walk goes down by coordinates, as the meaning of a pointer does.
 use mathlib.Core.Bool.{Bool, true, false, cond, not}
-use mathlib.Core.List.{List, [], _∷_}
+use mathlib.Core.List.{List}
 use Prim.Native.Nat.{ℕ, zero, suc, _-_, _*_, _^_}
 use lib.Dec.{eqb, leb, ltb}
-use lib.ListN.{length}
-use Rattle.paper.specs.Rooms.{Point, point, Room, mirror, inChild, cellOf, nonEmpty, boxCount}
+use lib.ListN.{length, getD}
+use Rattle.paper.specs.Rooms.{Point, point, mirror, inChild, cellOf, nonEmpty, boxCount}
 use Rattle.paper.specs.Outline.{edge}
-use Rattle.paper.specs.Store.{Cell, cellsAt, cellAt, tagOf, cellNo, badPointer, anyBad}
+use Rattle.paper.specs.Store.{Cell, cellsAt, cellAt, leafNo, tagOf, cellNo, badPointer, anyBad}
 use Rattle.paper.specs.Meaning.{pointerFor, rootRoom}
+use Rattle.paper.specs.Walk.{Child, none, to, Reading, Walk, rootWalk}
+
+-- ---- voxel: the walk to it
+
+-- what a pointer leads to
+abbrev pub childFor : ℕ → Child
+childFor p = cond (eqb p 0) none (to (tagOf p) (cellNo p))
+
+-- cells by number, without a test
+abbrev pub graphReading : List (List Cell) → Reading
+graphReading K = record { ok = λ k n. true; leaf = λ n. leafNo (cellAt K 0 n); child = λ k n i. childFor (getD (cellAt K (suc k) n) i 0) }
+
+-- no pointer of cell n of list k is bad; a leaf has none
+abbrev pub pointersOk : List (List Cell) → ℕ → ℕ → Bool
+pointersOk K zero n = true
+pointersOk K (suc k) n = not (anyBad (length (cellsAt K k)) (cellAt K (suc k) n))
+
+-- kept cells: damaged where a cell entered has a bad pointer among its eight ('of a cell entered')
+abbrev pub keptReading : List (List Cell) → Reading
+keptReading K = record { ok = pointersOk K; leaf = graphReading K .leaf; child = graphReading K .child }
+
+-- from the root pointer p of a scene of depth D
+unfoldable pub voxelWalk : List (List Cell) → ℕ → ℕ → Point → Walk
+voxelWalk K D p v = rootWalk (keptReading K) D (childFor p) v
 
 -- ---- one step down: the pointer taken from a cell of list k + 1 to voxel v; the cell that it names; v in that cell
 
@@ -21,18 +45,10 @@ below K k p = cellAt K k (cellNo p)
 abbrev pub inBelow : ℕ → ℕ → Point → Point
 inBelow k p v = mirror (tagOf p) (edge k) (inChild (edge k) v)
 
--- the cells entered on the way to voxel v of cell c of list k: c first, then that of the pointer taken, to a leaf or an absent child
-unfoldable pub entered : List (List Cell) → ℕ → Cell → Point → List Cell
-entered K zero c v = c ∷ []
-entered K (suc k) c v =
-    let p : ℕ = taken k c v in
-    let r : List Cell = c ∷ entered K k (below K k p) (inBelow k p v) in
-    cond (eqb p 0) (c ∷ []) r
+-- ---- damage on the way to a cell or to the voxels of a box
 
--- ---- damage on a walk
-
--- voxel and cell ('of a cell entered'): one of the cells entered has a bad pointer. Cells above list `stop` are entered: all above the leaf for a
--- voxel, and for a cell those above the one asked for ('stops above')
+-- cell ('of a cell entered'): one of the cells entered has a bad pointer. Cells above list `stop` are entered: those above the one asked for
+-- ('stops above')
 unfoldable pub wayDamaged : List (List Cell) → ℕ → ℕ → Cell → Point → Bool
 wayDamaged K stop zero c v = false
 wayDamaged K stop (suc k) c v =
@@ -67,13 +83,6 @@ pointerTo K stop (suc k) p v =
 -- the low corner of the cell of height h at c
 abbrev pub corner : ℕ → Point → Point
 corner h c = point (c .x * 2 ^ h) (c .y * 2 ^ h) (c .z * 2 ^ h)
-
--- voxel: is it solid
-abbrev pub voxelSolid : List (List Cell) → ℕ → ℕ → Room
-voxelSolid K D p = rootRoom K D p
-
-abbrev pub voxelWay : List (List Cell) → ℕ → ℕ → Point → Bool
-voxelWay K D p v = fromRoot (wayDamaged K 0) K D p v
 
 -- cell ('pointer or bits'): from height 2 up it is non-empty where there is a pointer to it, below that where the leaf has a solid voxel in it
 unfoldable pub cellFull : List (List Cell) → ℕ → ℕ → ℕ → Point → Bool

@@ -14,12 +14,12 @@ use Rattle.paper.specs.Rooms.{Point, Inside, inside, depthOk, deepest, cellOf, 
 use Rattle.paper.specs.Store.{Cell, tagOf, cellNo, sceneDepth, sceneRoot, keptOf}
 use Rattle.paper.specs.Meaning.{rootRoom}
 use Rattle.paper.specs.Answers.{told, outcome, numberOf}
-use Rattle.paper.specs.Questions.{corner, pointerTo, cellFull, cellWay, fromRoot, wayDamaged, voxelWay}
+use Rattle.paper.specs.Questions.{corner, pointerTo, cellFull, cellWay, fromRoot, wayDamaged}
 use Rattle.paper.specs.Calls.{cellOutside, cellDamaged, cellOutcome}
 use Rattle.paper.specs.declared.Refusal.{Refusal}
 use Rattle.laws.proofs.OutlineCells.{no-voxel-empty}
 use Rattle.laws.proofs.Tests.{T-true, true-T, not-not}
-use Rattle.walk.specs.Walk.{reachOf, cellEnd, smallAt, toldBy, cellOut, cellAsked, cellTold}
+use Rattle.walk.specs.Walk.{walkTo, cellEnd, smallAt, toldBy, cellOut, cellAsked, cellTold}
 use Rattle.entry.specs.declared.Entry.the-variants.{Refused}
 use Rattle.entry.specs.Entry.{pastEntry}
 use Rattle.entry.proofs.Asked.{refusedBy}
@@ -54,19 +54,19 @@ cell-none K D p h c e = ap (λ (b : Bool). told 0 (bitFor b ∷ [])) (sym (none-
 -- ---- the end of its walk
 
 pub cell-high : (K : List (List Cell)) (D p h : ℕ) (c : Point) → T (depthOk D) → 2 ≤ h → h ≤ D → Inside (2 ^ (D - h)) c → T (not (eqb p 0))
-    → toldBy (cellEnd (reachOf K (h - 2) (D - 2) (cellNo p) (tagOf p) (corner h c))) ≡ cellAsked K D p h c
+    → toldBy (cellEnd (walkTo K (h - 2) (D - 2) (cellNo p) (tagOf p) (corner h c))) ≡ cellAsked K D p h c
 cell-high K D p h c d l m i z =
     ap toldBy (pointer-root K (h - 2) D p (corner h c) d (corner-inside D h c m i) z)
     ∙ told-end (cellWay K D p h c) (not (eqb (pointerTo K (h - 2) (D - 2) p (corner h c)) 0))
     ∙ ap (λ (b : Bool). pastEntry false (cellWay K D p h c) (bitFor b)) (sym (full-high K D p h c l))
 
 pub cell-low : (K : List (List Cell)) (D p h : ℕ) (c : Point) → T (depthOk D) → h < 2 → h ≤ D → Inside (2 ^ (D - h)) c → T (not (eqb p 0))
-    → toldBy (smallAt K h (corner h c) (reachOf K (h - 2) (D - 2) (cellNo p) (tagOf p) (corner h c))) ≡ cellAsked K D p h c
+    → toldBy (smallAt K h (corner h c) (walkTo K (h - 2) (D - 2) (cellNo p) (tagOf p) (corner h c))) ≡ cellAsked K D p h c
 cell-low K D p h c d l m i z =
     let e : h - 2 ≡ 0 = omega arith in
-    ap (λ (s : ℕ). toldBy (smallAt K h (corner h c) (reachOf K s (D - 2) (cellNo p) (tagOf p) (corner h c)))) e
+    ap (λ (s : ℕ). toldBy (smallAt K h (corner h c) (walkTo K s (D - 2) (cellNo p) (tagOf p) (corner h c)))) e
     ∙ ap toldBy (small-root K D p h c d l m i z)
-    ∙ told-end (voxelWay K D p (corner h c)) (nonEmpty (2 ^ h) (cellOf (rootRoom K D p) h c))
+    ∙ told-end (fromRoot (wayDamaged K 0) K D p (corner h c)) (nonEmpty (2 ^ h) (cellOf (rootRoom K D p) h c))
     ∙ ap₂ (λ (s : ℕ) (b : Bool). pastEntry false (fromRoot (wayDamaged K s) K D p (corner h c)) (bitFor b)) (sym e) (sym (full-low K D p h c l))
 
 -- ---- outside

@@ -15,14 +15,15 @@ use Rattle.paper.specs.Rooms.{Point, point, Inside, depthOk, mirror, cellOf, no
 use Rattle.paper.specs.Outline.{edge}
 use Rattle.paper.specs.Store.{Cell, cellsAt, cellAt, tagOf, cellNo, anyBad}
 use Rattle.paper.specs.Meaning.{rootRoom}
-use Rattle.paper.specs.Questions.{below, wayDamaged, fromRoot, corner, pointerTo, voxelWay}
-use Rattle.laws.proofs.Bits.{bitFor-is}
+use Rattle.paper.specs.Walk.{isDamaged, solidAt}
+use Rattle.paper.specs.Questions.{voxelWalk, below, wayDamaged, fromRoot, corner, pointerTo}
+use Rattle.laws.proofs.CellVoxels.{voxel-means}
 use Rattle.laws.proofs.OutlineCells.{nonEmpty-same, no-voxel-empty}
-use Rattle.walk.specs.Walk.{takenFrom, reachOf, voxelEnd, cellEnd, leafSeen, smallAt}
+use Rattle.walk.specs.Walk.{takenFrom, walkTo, endOf, cellEnd, leafSeen, smallAt}
 use Rattle.points.specs.Seeing.{octant, seenAt}
-use Rattle.walk.specs.declared.ways.Reach.{Reach}
-use Rattle.walk.specs.declared.ways.Reach.the-variants.{Absent, At, Damaged}
-use Rattle.walk.proofs.Ends.{orDamage, isDamaged, pointer-end}
+use Rattle.walk.specs.declared.walks.Ended.{Ended}
+use Rattle.walk.specs.declared.walks.Ended.the-variants.{Absent, At, Damaged}
+use Rattle.walk.proofs.Ends.{orDamage, metDamage, end-damage, pointer-end}
 use Rattle.walk.proofs.Roots.{root-seen, root-damaged, voxel-root}
 
 -- ---- the corner lies inside
@@ -40,12 +41,12 @@ plain-seen : (D : ℕ) (v : Point) → T (depthOk D) → Inside (2 ^ D) v → se
 plain-seen D v d h = sym (root-seen D 0 v d h)
 
 pub pointer-root : (K : List (List Cell)) (stop D p : ℕ) (v : Point) → T (depthOk D) → Inside (2 ^ D) v → T (not (eqb p 0))
-    → cellEnd (reachOf K stop (D - 2) (cellNo p) (tagOf p) v) ≡ orDamage (fromRoot (wayDamaged K stop) K D p v) (bitFor (not (eqb (pointerTo K stop (D - 2) p v) 0)))
+    → cellEnd (walkTo K stop (D - 2) (cellNo p) (tagOf p) v) ≡ orDamage (fromRoot (wayDamaged K stop) K D p v) (bitFor (not (eqb (pointerTo K stop (D - 2) p v) 0)))
 pointer-root K stop D p v d h n =
     let t : ℕ = tagOf p in
     let e : bitXor t 0 ≡ t = xor-zero-r t in
     let c : Cell = below K (D - 2) p in
-    ap (λ (m : ℕ). cellEnd (reachOf K stop (D - 2) (cellNo p) m v)) (sym e)
+    ap (λ (m : ℕ). cellEnd (walkTo K stop (D - 2) (cellNo p) m v)) (sym e)
     ∙ pointer-end K stop (D - 2) p 0 v (omega arith) n
     ∙ ap₂ (λ (w u : Point). orDamage (wayDamaged K stop (D - 2) c w) (bitFor (not (eqb (pointerTo K stop (D - 2) p u) 0))))
     (ap (λ (m : ℕ). seenAt (D - 2) m v) e ∙ sym (root-seen D t v d h)) (plain-seen D v d h)
@@ -75,15 +76,15 @@ half-fours x y k e = ap (λ (n : ℕ). n % 2) (by-fours x k ∙ ap (λ (n : ℕ)
 octant-fours : (k : ℕ) (v w : Point) → InFours v w → octant k v ≡ octant k w
 octant-fours k v w s = λ i. half-fours (v .x) (w .x) k (s .ofX) i + 2 * half-fours (v .y) (w .y) k (s .ofY) i + 4 * half-fours (v .z) (w .z) k (s .ofZ) i
 
-pub reach-fours : (K : List (List Cell)) (stop k n m : ℕ) (v w : Point) → InFours v w → reachOf K stop k n m v ≡ reachOf K stop k n m w
-unfolding reachOf
-reach-fours K stop zero n m v w s = refl
-reach-fours K stop (suc k) n m v w s =
+pub walk-fours : (K : List (List Cell)) (stop k n m : ℕ) (v w : Point) → InFours v w → walkTo K stop k n m v ≡ walkTo K stop k n m w
+unfolding walkTo
+walk-fours K stop zero n m v w s = refl
+walk-fours K stop (suc k) n m v w s =
     let c : Cell = cellAt K (suc k) n in
     let q : ℕ = takenFrom k c m w in
-    let at : ℕ → Reach → Reach = λ p r. cond (leb (suc k) stop) (At n m) (cond (anyBad (length (cellsAt K k)) c) Damaged (cond (eqb p 0) (Absent k) r)) in
-    ap (λ (i : ℕ). at (getD c (bitXor i m) 0) (reachOf K stop k (cellNo (getD c (bitXor i m) 0)) (bitXor (tagOf (getD c (bitXor i m) 0)) m) v)) (octant-fours k v w s)
-    ∙ ap (at q) (reach-fours K stop k (cellNo q) (bitXor (tagOf q) m) v w s)
+    let at : ℕ → Ended → Ended = λ p r. cond (leb (suc k) stop) (At n m) (cond (anyBad (length (cellsAt K k)) c) Damaged (cond (eqb p 0) (Absent (suc (suc k))) r)) in
+    ap (λ (i : ℕ). at (getD c (bitXor i m) 0) (walkTo K stop k (cellNo (getD c (bitXor i m) 0)) (bitXor (tagOf (getD c (bitXor i m) 0)) m) v)) (octant-fours k v w s)
+    ∙ ap (at q) (walk-fours K stop k (cellNo q) (bitXor (tagOf q) m) v w s)
 
 -- ---- below height 2
 
@@ -92,7 +93,7 @@ abbrev pub within : ℕ → Point → Point → Point
 within h c u = point (c .x * 2 ^ h + u .x) (c .y * 2 ^ h + u .y) (c .z * 2 ^ h + u .z)
 
 -- the end of such a question
-abbrev pub smallEnd : List (List Cell) → ℕ → Point → Reach → ℕ
+abbrev pub smallEnd : List (List Cell) → ℕ → Point → Ended → ℕ
 smallEnd K h c r = smallAt K h (corner h c) r
 
 same-four : (a h u : ℕ) → h < 2 → u < 2 ^ h → (a * 2 ^ h + u) / 4 ≡ a * 2 ^ h / 4
@@ -109,30 +110,25 @@ within-inside D h c u l i j =
     let at : (x y : ℕ) → x < 2 ^ (D - h) → y < 2 ^ h → x * 2 ^ h + y < 2 ^ D = λ x y q r. subst (λ (n : ℕ). x * 2 ^ h + y < n) e (omega (arith, mul-le-mul-right (2 ^ h) q)) in
     record { inX = at (c .x) (u .x) (i .inX) (j .inX); inY = at (c .y) (u .y) (i .inY) (j .inY); inZ = at (c .z) (u .z) (i .inZ) (j .inZ) }
 
-bitFor-same : (a b : Bool) → bitFor a ≡ bitFor b → a ≡ b
-bitFor-same a b e = sym (bitFor-is a) ∙ ap (λ (n : ℕ). eqb n 1) e ∙ bitFor-is b
-
 module _ (K : List (List Cell)) (D p h : ℕ) (c : Point) (d : T (depthOk D)) (l : h < 2) (low : h ≤ D) (i : Inside (2 ^ (D - h)) c) (n : T (not (eqb p 0))) where
-  abbrev end : Reach
-  end = reachOf K 0 (D - 2) (cellNo p) (tagOf p) (corner h c)
+  abbrev end : Ended
+  end = walkTo K 0 (D - 2) (cellNo p) (tagOf p) (corner h c)
 
   -- each voxel of the cell is seen where that one walk ended
-  each-seen : (R : Reach) → end ≡ R → (u : Point) → Inside (2 ^ h) u → orDamage (isDamaged R) (bitFor (rootRoom K D p (within h c u))) ≡ voxelEnd K (within h c u) R
-  each-seen R e u j =
+  each-seen : (R : Ended) → end ≡ R → metDamage R ≡ false → (u : Point) → Inside (2 ^ h) u → rootRoom K D p (within h c u) ≡ solidAt (endOf K (within h c u) R)
+  each-seen R e o u j =
       let w : Point = within h c u in
       let q : Inside (2 ^ D) w = within-inside D h c u low i j in
-      let r : reachOf K 0 (D - 2) (cellNo p) (tagOf p) w ≡ R = reach-fours K 0 (D - 2) (cellNo p) (tagOf p) w (corner h c) (within-fours h c u l j) ∙ e in
-      ap (λ (b : Bool). orDamage b (bitFor (rootRoom K D p w))) (sym (root-damaged K 0 D p w d q n ∙ ap isDamaged r))
-      ∙ sym (voxel-root K D p w d q n) ∙ ap (voxelEnd K w) r
+      let r : voxelWalk K D p w .end ≡ endOf K w R =
+      sym (voxel-root K D p w d q n) ∙ ap (endOf K w) (walk-fours K 0 (D - 2) (cellNo p) (tagOf p) w (corner h c) (within-fours h c u l j) ∙ e) in
+      sym (voxel-means K D p d w (ap isDamaged r ∙ end-damage K w R ∙ o)) ∙ ap solidAt r
 
-  by-end : (R : Reach) → end ≡ R → smallEnd K h c R ≡ orDamage (isDamaged R) (bitFor (nonEmpty (2 ^ h) (cellOf (rootRoom K D p) h c)))
-  by-end (Absent k) e =
-      ap bitFor (sym (nonEmpty-same (2 ^ h) (cellOf (rootRoom K D p) h c) (λ u. false) (λ u j. bitFor-same (rootRoom K D p (within h c u)) false (each-seen (Absent k) e u j)) ∙ no-voxel-empty (2 ^ h)))
-  by-end (At q m) e =
-      ap bitFor (sym (nonEmpty-same (2 ^ h) (cellOf (rootRoom K D p) h c) (λ u. leafSeen K q m (within h c u)) (λ u j. bitFor-same (rootRoom K D p (within h c u)) (leafSeen K q m (within h c u)) (each-seen (At q m) e u j))))
+  by-end : (R : Ended) → end ≡ R → smallEnd K h c R ≡ orDamage (metDamage R) (bitFor (nonEmpty (2 ^ h) (cellOf (rootRoom K D p) h c)))
+  by-end (Absent g) e = ap bitFor (sym (nonEmpty-same (2 ^ h) (cellOf (rootRoom K D p) h c) (λ u. false) (each-seen (Absent g) e refl) ∙ no-voxel-empty (2 ^ h)))
+  by-end (At q m) e = ap bitFor (sym (nonEmpty-same (2 ^ h) (cellOf (rootRoom K D p) h c) (λ u. leafSeen K q m (within h c u)) (each-seen (At q m) e refl)))
   by-end Damaged e = refl
 
-  pub small-root : smallEnd K h c end ≡ orDamage (voxelWay K D p (corner h c)) (bitFor (nonEmpty (2 ^ h) (cellOf (rootRoom K D p) h c)))
+  pub small-root : smallEnd K h c end ≡ orDamage (fromRoot (wayDamaged K 0) K D p (corner h c)) (bitFor (nonEmpty (2 ^ h) (cellOf (rootRoom K D p) h c)))
   small-root =
       by-end end refl
       ∙ ap (λ (b : Bool). orDamage b (bitFor (nonEmpty (2 ^ h) (cellOf (rootRoom K D p) h c)))) (sym (root-damaged K 0 D p (corner h c) d (corner-inside D h c low i) n))

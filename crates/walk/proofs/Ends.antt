@@ -1,5 +1,5 @@
--- What is read off a walk by numbers is what paper's walk by coordinates finds: its damage, its voxel, its pointer. By induction on the list, one
--- step down being the same for all three. Assumes nothing.
+-- A walk by numbers ends as paper's walk by coordinates does; stopped at a list, it has the damage and the pointer that a cell question finds. By
+-- induction on the list, one step down being the same for all three. Assumes nothing.
 use mathlib.Core.Path.{_≡_, refl, sym, ap, ap₂, _∙_, subst⁻¹}
 use mathlib.Core.Bool.{Bool, true, false, cond, not}
 use mathlib.Core.List.{List}
@@ -8,18 +8,18 @@ use lib.Bits.{bitXor}
 use lib.Dec.{T, eqb, leb, leb·suc-zero, eqb→eq}
 use lib.ListN.{length, getD}
 use Rattle.paper.specs.Numbers.{bitFor}
-use Rattle.paper.specs.Rooms.{Point, mirror, inChild}
+use Rattle.paper.specs.Rooms.{Point, mirror, childNo, inChild}
 use Rattle.paper.specs.Outline.{edge}
-use Rattle.paper.specs.Store.{Cell, cellsAt, cellAt, tagOf, cellNo, anyBad}
-use Rattle.paper.specs.Meaning.{cellVoxel}
-use Rattle.paper.specs.Questions.{taken, below, inBelow, wayDamaged, pointerTo}
+use Rattle.paper.specs.Store.{Cell, cellsAt, cellAt, leafNo, tagOf, cellNo, anyBad}
+use Rattle.paper.specs.Walk.{End, inLeaf, Step, Walk, isDamaged, unless, after, none, to, onward, walkIn}
+use Rattle.paper.specs.Questions.{childFor, keptReading, taken, below, inBelow, wayDamaged, pointerTo}
 use Rattle.laws.proofs.Matching.{tag-lt}
 use Rattle.laws.proofs.Tests.{T-true}
-use Rattle.walk.specs.Walk.{takenFrom, reachOf, voxelEnd, cellEnd, toldBy}
+use Rattle.walk.specs.Walk.{takenFrom, walkTo, endOf, cellEnd, toldBy}
 use Rattle.entry.specs.Entry.{pastEntry}
 use Rattle.points.specs.Seeing.{seenAt}
-use Rattle.walk.specs.declared.ways.Reach.{Reach}
-use Rattle.walk.specs.declared.ways.Reach.the-variants.{Absent, At, Damaged}
+use Rattle.walk.specs.declared.walks.Ended.{Ended}
+use Rattle.walk.specs.declared.walks.Ended.the-variants.{Absent, At, Damaged}
 use Rattle.points.proofs.Seen.{tag-joins, child-seen, in-seen, tag-seen}
 
 -- one step down: the pointer taken, and the voxel in the cell below
@@ -30,21 +30,27 @@ below-seen : (k m p : ℕ) (v : Point) → m < 8 → inBelow k p (seenAt (suc k)
 below-seen k m p v h = ap (mirror (tagOf p) (edge k)) (in-seen k m v h) ∙ tag-seen k (tagOf p) m v (tag-lt p) h
 
 -- damage
-abbrev pub isDamaged : Reach → Bool
-isDamaged (Absent k) = false
-isDamaged (At n m) = false
-isDamaged Damaged = true
+abbrev pub metDamage : Ended → Bool
+metDamage (Absent h) = false
+metDamage (At n m) = false
+metDamage Damaged = true
+
+-- the damage is that of the end
+pub end-damage : (K : List (List Cell)) (v : Point) (r : Ended) → isDamaged (endOf K v r) ≡ metDamage r
+end-damage K v (Absent h) = refl
+end-damage K v (At n m) = refl
+end-damage K v Damaged = refl
 
 -- the same tests on both sides
-same-tests : (a b c : Bool) (r : Bool) (x : Reach) (n m k : ℕ) → r ≡ isDamaged x
-    → cond a false (cond b true (cond c false r)) ≡ isDamaged (cond a (At n m) (cond b Damaged (cond c (Absent k) x)))
-same-tests true b c r x n m k e = refl
-same-tests false true c r x n m k e = refl
-same-tests false false true r x n m k e = refl
-same-tests false false false r x n m k e = e
+same-tests : (a b c : Bool) (r : Bool) (x : Ended) (n m h : ℕ) → r ≡ metDamage x
+    → cond a false (cond b true (cond c false r)) ≡ metDamage (cond a (At n m) (cond b Damaged (cond c (Absent h) x)))
+same-tests true b c r x n m h e = refl
+same-tests false true c r x n m h e = refl
+same-tests false false true r x n m h e = refl
+same-tests false false false r x n m h e = e
 
-pub way-damaged : (K : List (List Cell)) (stop k n m : ℕ) (v : Point) → m < 8 → wayDamaged K stop k (cellAt K k n) (seenAt k m v) ≡ isDamaged (reachOf K stop k n m v)
-unfolding wayDamaged reachOf
+pub way-damaged : (K : List (List Cell)) (stop k n m : ℕ) (v : Point) → m < 8 → wayDamaged K stop k (cellAt K k n) (seenAt k m v) ≡ metDamage (walkTo K stop k n m v)
+unfolding wayDamaged walkTo
 way-damaged K stop zero n m v h = refl
 way-damaged K stop (suc k) n m v h =
     let c : Cell = cellAt K (suc k) n in
@@ -52,12 +58,12 @@ way-damaged K stop (suc k) n m v h =
     let e : wayDamaged K stop (suc k) c (seenAt (suc k) m v) ≡ cond (leb (suc k) stop) false (cond (anyBad (length (cellsAt K k)) c) true (cond (eqb p 0) false (wayDamaged K stop k (below K k p) (inBelow k p (seenAt (suc k) m v))))) =
     ap (λ (q : ℕ). cond (leb (suc k) stop) false (cond (anyBad (length (cellsAt K k)) c) true (cond (eqb q 0) false (wayDamaged K stop k (below K k q) (inBelow k q (seenAt (suc k) m v)))))) (taken-seen k m c v h) in
     e ∙ same-tests (leb (suc k) stop) (anyBad (length (cellsAt K k)) c) (eqb p 0) (wayDamaged K stop k (below K k p) (inBelow k p (seenAt (suc k) m v)))
-    (reachOf K stop k (cellNo p) (bitXor (tagOf p) m) v) n m k
+    (walkTo K stop k (cellNo p) (bitXor (tagOf p) m) v) n m (suc (suc k))
     (ap (wayDamaged K stop k (below K k p)) (below-seen k m p v h) ∙ way-damaged K stop k (cellNo p) (bitXor (tagOf p) m) v (tag-joins p m h))
 
 -- ---- the voxel
 
--- 2 for damage, else the voxel's number
+-- 2 for damage, else the number
 abbrev pub orDamage : Bool → ℕ → ℕ
 orDamage true n = 2
 orDamage false n = n
@@ -68,34 +74,33 @@ told-end true b = refl
 told-end false true = refl
 told-end false false = refl
 
-same-voxel : (a b c r s : Bool) (K : List (List Cell)) (v : Point) (x : Reach) (k n m : ℕ) → T (not a) → voxelEnd K v x ≡ orDamage r (bitFor s)
-    → voxelEnd K v (cond a (At n m) (cond b Damaged (cond c (Absent k) x))) ≡ orDamage (cond a false (cond b true (cond c false r))) (bitFor (cond c false s))
-same-voxel true b c r s K v x k n m d e = absurd d
-same-voxel false true c r s K v x k n m d e = refl
-same-voxel false false true r s K v x k n m d e = refl
-same-voxel false false false r s K v x k n m d e = e
-
 -- a voxel question stops at no list above the leaves
 stops-low : (k : ℕ) → T (not (leb (suc k) 0))
 stops-low k = subst⁻¹ (λ (b : Bool). T (not b)) (leb·suc-zero k) tt
 
-pub voxel-end : (K : List (List Cell)) (k n m : ℕ) (v : Point) → m < 8
-    → voxelEnd K v (reachOf K 0 k n m v) ≡ orDamage (wayDamaged K 0 k (cellAt K k n) (seenAt k m v)) (bitFor (cellVoxel K k (cellAt K k n) (seenAt k m v)))
-unfolding wayDamaged reachOf cellVoxel
-voxel-end K zero n m v h = refl
-voxel-end K (suc k) n m v h =
+-- the same tests on both sides
+same-end : (a b c : Bool) (K : List (List Cell)) (v : Point) (x : Ended) (n m h : ℕ) (s : Step) (f : ℕ → ℕ → Walk) (t q : ℕ) → T (not a) → endOf K v x ≡ f t q .end
+    → endOf K v (cond a (At n m) (cond b Damaged (cond c (Absent h) x))) ≡ unless (not b) (after s (onward h f (cond c none (to t q)))) .end
+same-end true b c K v x n m h s f t q d e = absurd d
+same-end false true c K v x n m h s f t q d e = refl
+same-end false false true K v x n m h s f t q d e = refl
+same-end false false false K v x n m h s f t q d e = e
+
+-- from cell n entered under tag t to the point u of it, which is v seen under m
+pub voxel-end : (K : List (List Cell)) (k n m t : ℕ) (u v : Point) → m < 8 → mirror t (edge k) u ≡ seenAt k m v → endOf K v (walkTo K 0 k n m v) ≡ walkIn (keptReading K) k n t u .end
+unfolding walkTo walkIn
+voxel-end K zero n m t u v h e = ap (inLeaf (leafNo (cellAt K 0 n))) (sym e)
+voxel-end K (suc k) n m t u v h e =
     let c : Cell = cellAt K (suc k) n in
-    let w : Point = seenAt (suc k) m v in
     let bad : Bool = anyBad (length (cellsAt K k)) c in
     let p : ℕ = takenFrom k c m v in
-    let at : ℕ → ℕ = λ q. orDamage (cond (leb (suc k) 0) false (cond bad true (cond (eqb q 0) false (wayDamaged K 0 k (below K k q) (inBelow k q w))))) (bitFor (cond (eqb q 0) false (cellVoxel K k (below K k q) (inBelow k q w)))) in
-    let u : Point = seenAt k (bitXor (tagOf p) m) v in
-    let ih : voxelEnd K v (reachOf K 0 k (cellNo p) (bitXor (tagOf p) m) v) ≡ orDamage (wayDamaged K 0 k (below K k p) u) (bitFor (cellVoxel K k (below K k p) u)) =
-    voxel-end K k (cellNo p) (bitXor (tagOf p) m) v (tag-joins p m h) in
-    let to : voxelEnd K v (reachOf K 0 k (cellNo p) (bitXor (tagOf p) m) v) ≡ orDamage (wayDamaged K 0 k (below K k p) (inBelow k p w)) (bitFor (cellVoxel K k (below K k p) (inBelow k p w))) =
-    ih ∙ ap (λ (y : Point). orDamage (wayDamaged K 0 k (below K k p) y) (bitFor (cellVoxel K k (below K k p) y))) (sym (below-seen k m p v h)) in
-    same-voxel (leb (suc k) 0) bad (eqb p 0) (wayDamaged K 0 k (below K k p) (inBelow k p w)) (cellVoxel K k (below K k p) (inBelow k p w)) K v (reachOf K 0 k (cellNo p) (bitXor (tagOf p) m) v) k n m (stops-low k) to
-    ∙ ap at (sym (taken-seen k m c v h))
+    let here : Step = record { list = suc k; place = n; tag = t } in
+    let f : Point → ℕ → ℕ → Walk = λ w t′ q. walkIn (keptReading K) k q t′ w in
+    let at : ℕ → Point → End = λ i w. unless (not bad) (after here (onward (suc (suc k)) (f w) (childFor (getD c i 0)))) .end in
+    same-end (leb (suc k) 0) bad (eqb p 0) K v (walkTo K 0 k (cellNo p) (bitXor (tagOf p) m) v) n m (suc (suc k)) here (f (seenAt k m v)) (tagOf p) (cellNo p) (stops-low k)
+    (voxel-end K k (cellNo p) (bitXor (tagOf p) m) (tagOf p) (seenAt k m v) v (tag-joins p m h) (tag-seen k (tagOf p) m v (tag-lt p) h))
+    ∙ ap₂ at (sym (child-seen k m v h)) (sym (in-seen k m v h))
+    ∙ ap (λ (w : Point). at (childNo (edge k) w) (inChild (edge k) w)) (sym e)
 
 -- a pointer that is not none
 drop-test : (p s : ℕ) → T (not (eqb p 0)) → cond (eqb p 0) 0 s ≡ s
@@ -107,12 +112,12 @@ drop-test p s d = go (eqb p 0) d
 
 -- ---- the pointer of the cell asked for, under a pointer p of list k that is not none; m is the mirror under which p is seen
 
-same-cell : (a b c r : Bool) (x : Reach) (k n m p s : ℕ) → T (not (eqb p 0)) → (T (not a) → T (not c) → cellEnd x ≡ orDamage r (bitFor (not (eqb s 0)))) → (T c → s ≡ 0)
-    → cellEnd (cond a (At n m) (cond b Damaged (cond c (Absent k) x))) ≡ orDamage (cond a false (cond b true (cond c false r))) (bitFor (not (eqb (cond a p (cond (eqb p 0) 0 s)) 0)))
-same-cell true b c r x k n m p s d e z = ap (λ (y : Bool). bitFor y) (sym (T-true {b = not (eqb p 0)} d))
-same-cell false true c r x k n m p s d e z = refl
-same-cell false false true r x k n m p s d e z = ap (λ (y : ℕ). bitFor (not (eqb y 0))) (sym (drop-test p s d ∙ z tt))
-same-cell false false false r x k n m p s d e z = e tt tt ∙ ap (λ (y : ℕ). orDamage r (bitFor (not (eqb y 0)))) (sym (drop-test p s d))
+same-cell : (a b c r : Bool) (x : Ended) (h n m p s : ℕ) → T (not (eqb p 0)) → (T (not a) → T (not c) → cellEnd x ≡ orDamage r (bitFor (not (eqb s 0)))) → (T c → s ≡ 0)
+    → cellEnd (cond a (At n m) (cond b Damaged (cond c (Absent h) x))) ≡ orDamage (cond a false (cond b true (cond c false r))) (bitFor (not (eqb (cond a p (cond (eqb p 0) 0 s)) 0)))
+same-cell true b c r x h n m p s d e z = ap (λ (y : Bool). bitFor y) (sym (T-true {b = not (eqb p 0)} d))
+same-cell false true c r x h n m p s d e z = refl
+same-cell false false true r x h n m p s d e z = ap (λ (y : ℕ). bitFor (not (eqb y 0))) (sym (drop-test p s d ∙ z tt))
+same-cell false false false r x h n m p s d e z = e tt tt ∙ ap (λ (y : ℕ). orDamage r (bitFor (not (eqb y 0)))) (sym (drop-test p s d))
 
 pub none-stays : (K : List (List Cell)) (stop k : ℕ) (v : Point) → pointerTo K stop k 0 v ≡ 0
 unfolding pointerTo
@@ -127,8 +132,8 @@ eqb-zero : (q : ℕ) → T (eqb q 0) → q ≡ 0
 eqb-zero q t = eqb→eq q 0 t
 
 pub pointer-end : (K : List (List Cell)) (stop k p m : ℕ) (v : Point) → m < 8 → T (not (eqb p 0))
-    → cellEnd (reachOf K stop k (cellNo p) (bitXor (tagOf p) m) v) ≡ orDamage (wayDamaged K stop k (below K k p) (seenAt k (bitXor (tagOf p) m) v)) (bitFor (not (eqb (pointerTo K stop k p (seenAt k m v)) 0)))
-unfolding wayDamaged reachOf pointerTo
+    → cellEnd (walkTo K stop k (cellNo p) (bitXor (tagOf p) m) v) ≡ orDamage (wayDamaged K stop k (below K k p) (seenAt k (bitXor (tagOf p) m) v)) (bitFor (not (eqb (pointerTo K stop k p (seenAt k m v)) 0)))
+unfolding wayDamaged walkTo pointerTo
 pointer-end K stop zero p m v h d = ap (λ (y : Bool). bitFor y) (sym (T-true {b = not (eqb p 0)} d))
 pointer-end K stop (suc k) p m v h d =
     let m′ : ℕ = bitXor (tagOf p) m in
@@ -143,8 +148,8 @@ pointer-end K stop (suc k) p m v h d =
     ∙ (λ i. cond (leb (suc k) stop) p (cond (eqb p 0) 0 (pointerTo K stop k (taken-seen k m′ c v h′ i) (in-seen k m′ v h′ i)))) in
     let harm : ℕ → Bool = λ y. cond (leb (suc k) stop) false (cond bad true (cond (eqb y 0) false (wayDamaged K stop k (below K k y) (inBelow k y w)))) in
     let r : Bool = wayDamaged K stop k (below K k q) (inBelow k q w) in
-    let rest : T (not (leb (suc k) stop)) → T (not (eqb q 0)) → cellEnd (reachOf K stop k (cellNo q) (bitXor (tagOf q) m′) v) ≡ orDamage r (bitFor (not (eqb (pointerTo K stop k q (seenAt k m′ v)) 0))) =
+    let rest : T (not (leb (suc k) stop)) → T (not (eqb q 0)) → cellEnd (walkTo K stop k (cellNo q) (bitXor (tagOf q) m′) v) ≡ orDamage r (bitFor (not (eqb (pointerTo K stop k q (seenAt k m′ v)) 0))) =
     λ a b. pointer-end K stop k q m′ v h′ b ∙ ap (λ (y : Point). orDamage (wayDamaged K stop k (below K k q) y) (bitFor (not (eqb (pointerTo K stop k q (seenAt k m′ v)) 0)))) (sym (below-seen k m′ q v h′)) in
-    same-cell (leb (suc k) stop) bad (eqb q 0) r (reachOf K stop k (cellNo q) (bitXor (tagOf q) m′) v) k (cellNo p) m′ p (pointerTo K stop k q (seenAt k m′ v)) d rest
+    same-cell (leb (suc k) stop) bad (eqb q 0) r (walkTo K stop k (cellNo q) (bitXor (tagOf q) m′) v) (suc (suc k)) (cellNo p) m′ p (pointerTo K stop k q (seenAt k m′ v)) d rest
     (λ t. ap (λ (y : ℕ). pointerTo K stop k y (seenAt k m′ v)) (eqb-zero q t) ∙ none-stays K stop k (seenAt k m′ v))
     ∙ ap₂ (λ (x : Bool) (y : ℕ). orDamage x (bitFor (not (eqb y 0)))) (ap harm (sym (taken-seen k m′ c v h′))) (sym path)

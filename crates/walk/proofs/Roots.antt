@@ -1,4 +1,4 @@
--- A walk from a scene's root: what is read off its end is what paper's questions find, and the leaf that it ends at is kept. By the laws of walks,
+-- A walk from a scene's root ends as paper's does, and the leaf that it ends at is kept. By the laws of walks,
 -- at the root's list, where a voxel inside needs no reducing. Assumes nothing.
 use mathlib.Core.Path.{_≡_, refl, sym, ap, _∙_, subst}
 use mathlib.Core.Bool.{Bool, true, false, cond, not}
@@ -9,20 +9,19 @@ use native.Mathlib.Omega.{arith}
 use lib.Bits.{bitXor}
 use lib.Dec.{T, eqb, leb, leb·suc-zero}
 use lib.ListN.{length, getD}
-use Rattle.paper.specs.Numbers.{bitFor}
 use Rattle.paper.specs.Rooms.{Point, point, Inside, depthOk, mirror, inChild}
 use Rattle.paper.specs.Outline.{edge}
 use Rattle.paper.specs.Store.{Cell, cellsAt, cellAt, tagOf, cellNo, badPointer, anyBad}
-use Rattle.paper.specs.Meaning.{cellVoxel, rootRoom}
-use Rattle.paper.specs.Questions.{below, wayDamaged, fromRoot, voxelSolid, voxelWay}
+use Rattle.paper.specs.Walk.{none, to, walkIn, rootWalk}
+use Rattle.paper.specs.Questions.{keptReading, voxelWalk, below, wayDamaged, fromRoot}
 use Rattle.laws.proofs.Eight.{xor8-lt}
 use Rattle.laws.proofs.Tests.{none-at}
 use Rattle.laws.proofs.Outlines.{depth-two}
-use Rattle.walk.specs.Walk.{takenFrom, reachOf, voxelEnd, AtKept}
+use Rattle.walk.specs.Walk.{takenFrom, walkTo, endOf, AtKept}
 use Rattle.points.specs.Seeing.{octant, seenAt}
-use Rattle.walk.specs.declared.ways.Reach.{Reach}
-use Rattle.walk.specs.declared.ways.Reach.the-variants.{Absent, At, Damaged}
-use Rattle.walk.proofs.Ends.{orDamage, isDamaged, way-damaged, voxel-end}
+use Rattle.walk.specs.declared.walks.Ended.{Ended}
+use Rattle.walk.specs.declared.walks.Ended.the-variants.{Absent, At, Damaged}
+use Rattle.walk.proofs.Ends.{metDamage, way-damaged, voxel-end}
 use Rattle.laws.proofs.Invariant.{named-kept}
 use Rattle.laws.proofs.Matching.{tag-lt}
 use Rattle.points.proofs.Seen.{tag-joins}
@@ -41,7 +40,7 @@ root-seen D t v d h =
 
 -- damage on the way from the root
 pub root-damaged : (K : List (List Cell)) (stop D p : ℕ) (v : Point) → T (depthOk D) → Inside (2 ^ D) v → T (not (eqb p 0))
-    → fromRoot (wayDamaged K stop) K D p v ≡ isDamaged (reachOf K stop (D - 2) (cellNo p) (tagOf p) v)
+    → fromRoot (wayDamaged K stop) K D p v ≡ metDamage (walkTo K stop (D - 2) (cellNo p) (tagOf p) v)
 root-damaged K stop D p v d h n =
     named (eqb p 0) n
     ∙ ap (wayDamaged K stop (D - 2) (below K (D - 2) p)) (root-seen D (tagOf p) v d h)
@@ -53,15 +52,12 @@ root-damaged K stop D p v d h n =
 
 -- the end of a voxel question
 pub voxel-root : (K : List (List Cell)) (D p : ℕ) (v : Point) → T (depthOk D) → Inside (2 ^ D) v → T (not (eqb p 0))
-    → voxelEnd K v (reachOf K 0 (D - 2) (cellNo p) (tagOf p) v) ≡ orDamage (voxelWay K D p v) (bitFor (voxelSolid K D p v))
-unfolding rootRoom
+    → endOf K v (walkTo K 0 (D - 2) (cellNo p) (tagOf p) v) ≡ voxelWalk K D p v .end
+unfolding voxelWalk
 voxel-root K D p v d h n =
-    let c : Cell = below K (D - 2) p in
-    let at : Point → ℕ = λ w. orDamage (wayDamaged K 0 (D - 2) c w) (bitFor (cellVoxel K (D - 2) c w)) in
-    voxel-end K (D - 2) (cellNo p) (tagOf p) v (tag-lt p) ∙ ap at (sym (root-seen D (tagOf p) v d h)) ∙ named (eqb p 0) n
+    voxel-end K (D - 2) (cellNo p) (tagOf p) (tagOf p) v v (tag-lt p) (ap (λ (S : ℕ). mirror (tagOf p) S v) (root-edge D d) ∙ root-seen D (tagOf p) v d h) ∙ named (eqb p 0) n
   where
-    named : (b : Bool) → T (not b) → orDamage (wayDamaged K 0 (D - 2) (below K (D - 2) p) (mirror (tagOf p) (2 ^ D) v)) (bitFor (cellVoxel K (D - 2) (below K (D - 2) p) (mirror (tagOf p) (2 ^ D) v)))
-        ≡ orDamage (cond b false (wayDamaged K 0 (D - 2) (below K (D - 2) p) (mirror (tagOf p) (2 ^ D) v))) (bitFor (cond b false (cellVoxel K (D - 2) (below K (D - 2) p) (mirror (tagOf p) (2 ^ D) v))))
+    named : (b : Bool) → T (not b) → walkIn (keptReading K) (D - 2) (cellNo p) (tagOf p) v .end ≡ rootWalk (keptReading K) D (cond b none (to (tagOf p) (cellNo p))) v .end
     named true t = absurd t
     named false t = refl
 
@@ -80,21 +76,21 @@ no-confusion : true ≡ false → ⊥
 no-confusion e = subst T e tt
 
 -- the three tests of a step
-reach-step : (K : List (List Cell)) (a b c : Bool) (n m k : ℕ) (r : Reach) → a ≡ false → (b ≡ false → T (not c) → AtKept K r)
-    → AtKept K (cond a (At n m) (cond b Damaged (cond c (Absent k) r)))
-reach-step K true b c n m k r e f = absurd (no-confusion e)
-reach-step K false true c n m k r e f = tt
-reach-step K false false true n m k r e f = tt
-reach-step K false false false n m k r e f = f refl tt
+walk-step : (K : List (List Cell)) (a b c : Bool) (n m g : ℕ) (r : Ended) → a ≡ false → (b ≡ false → T (not c) → AtKept K r)
+    → AtKept K (cond a (At n m) (cond b Damaged (cond c (Absent g) r)))
+walk-step K true b c n m g r e f = absurd (no-confusion e)
+walk-step K false true c n m g r e f = tt
+walk-step K false false true n m g r e f = tt
+walk-step K false false false n m g r e f = f refl tt
 
 z-not : (p : ℕ) → T (not (eqb p 0)) → p ≡ 0 → ⊥
 z-not p z q = subst (λ (x : ℕ). T (not (eqb x 0))) q z
 
-pub reach-kept : (K : List (List Cell)) (k n m : ℕ) (v : Point) → n < length (cellsAt K k) → m < 8 → AtKept K (reachOf K 0 k n m v)
-unfolding reachOf
-reach-kept K zero n m v l h = (l, h)
-reach-kept K (suc k) n m v l h =
+pub walk-kept : (K : List (List Cell)) (k n m : ℕ) (v : Point) → n < length (cellsAt K k) → m < 8 → AtKept K (walkTo K 0 k n m v)
+unfolding walkTo
+walk-kept K zero n m v l h = (l, h)
+walk-kept K (suc k) n m v l h =
     let c : Cell = cellAt K (suc k) n in
     let p : ℕ = takenFrom k c m v in
-    reach-step K (leb (suc k) 0) (anyBad (length (cellsAt K k)) c) (eqb p 0) n m k (reachOf K 0 k (cellNo p) (bitXor (tagOf p) m) v) (leb·suc-zero k)
-    (λ e z. reach-kept K k (cellNo p) (bitXor (tagOf p) m) v (taken-kept K k m c v h e (λ q. z-not p z q)) (tag-joins p m h))
+    walk-step K (leb (suc k) 0) (anyBad (length (cellsAt K k)) c) (eqb p 0) n m (suc (suc k)) (walkTo K 0 k (cellNo p) (bitXor (tagOf p) m) v) (leb·suc-zero k)
+    (λ e z. walk-kept K k (cellNo p) (bitXor (tagOf p) m) v (taken-kept K k m c v h e (λ q. z-not p z q)) (tag-joins p m h))

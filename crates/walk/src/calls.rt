@@ -9,12 +9,11 @@ ghost use Rattle.paper.specs.Rooms.{depthOk, point};
 ghost use Rattle.paper.specs.Store.{badPointer, headerOk, keptCount, keptOf};
 ghost use Rattle.paper.specs.Answers.{outcome, seen};
 ghost use Rattle.paper.specs.Calls.{voxelOutcome};
-ghost use Rattle.walk.specs.Walk.{AtKept, toldBy, voxelEnd, voxelTold};
-use crate::ways::Reach;
-use crate::ways::walk_root;
+ghost use Rattle.walk.specs.Walk.{AtKept, endOf, endTold, voxelTold};
+use crate::walks::Ended;
+use crate::walks::voxel_walk;
 use entry::Entry;
 use entry::enter;
-use limits::LEAF_HEIGHT;
 use paper::Refusal;
 use paper::Seen;
 use points::leaf_solid;
@@ -22,15 +21,15 @@ use points::outside;
 use store::leaf_at;
 
 // The voxel at which a walk ended.
-fn voxel_at(store: &[u32], end: Reach, x: u32, y: u32, z: u32) -> Seen
+fn voxel_at(store: &[u32], end: Ended, x: u32, y: u32, z: u32) -> Seen
     requires { ⌜ T (headerOk (now store)) ⌝ }
     requires { ⌜ AtKept (keptOf (now store)) end ⌝ }
-    ensures { λ r. ⌜ seen r ≡ toldBy (voxelEnd (keptOf (now (store .entry))) (point x y z) end) ⌝ }
+    ensures { λ r. ⌜ seen r ≡ endTold (endOf (keptOf (now (store .entry))) (point x y z) end) ⌝ }
 {
     match end {
-        Reach::Damaged => Seen::Refused(Refusal::DamagedStore),
-        Reach::Absent(_) => Seen::Empty,
-        Reach::At(number, mirror) => {
+        Ended::Damaged => Seen::Refused(Refusal::DamagedStore),
+        Ended::Absent(_) => Seen::Empty,
+        Ended::At(number, mirror) => {
             if leaf_solid(leaf_at(store, number), mirror, x, y, z) {
                 Seen::Solid
             } else {
@@ -50,16 +49,7 @@ fn voxel_from(store: &[u32], depth: u32, root: u32, x: u32, y: u32, z: u32) -> S
     if outside(depth, x, y, z) {
         return Seen::Refused(Refusal::Outside);
     }
-    if root == 0 {
-        return Seen::Empty;
-    }
-    voxel_at(
-        store,
-        walk_root(store, 0, depth - LEAF_HEIGHT, root, x, y, z),
-        x,
-        y,
-        z,
-    )
+    voxel_at(store, voxel_walk(store, depth, root, x, y, z), x, y, z)
 }
 
 // Voxel: solid or empty.

@@ -13,8 +13,8 @@ ghost use Rattle.paper.specs.Calls.{cellOutcome};
 ghost use Rattle.walk.specs.Walk.{AtKept, cellEnd, smallAt, toldBy, cellAsked, cellTold};
 ghost use Rattle.points.specs.Seeing.{seenAt};
 use crate::leaves::eighth_full;
-use crate::ways::Reach;
-use crate::ways::walk_root;
+use crate::walks::Ended;
+use crate::walks::walk_root;
 use entry::Entry;
 use entry::enter;
 use limits::LEAF_HEIGHT;
@@ -57,7 +57,7 @@ fn leaf_full(leaf: u64, mirror: u32, height: u32, x: u32, y: u32, z: u32) -> boo
 }
 
 // The cell of height 0 or 1, where the walk to its leaf ended.
-fn small_at(store: &[u32], end: Reach, height: u32, x: u32, y: u32, z: u32) -> Occupied
+fn small_at(store: &[u32], end: Ended, height: u32, x: u32, y: u32, z: u32) -> Occupied
     requires { ⌜ T (headerOk (now store)) ⌝ }
     requires { ⌜ AtKept (keptOf (now store)) end ⌝ }
     requires { ⌜ height < 2 ⌝ }
@@ -65,9 +65,9 @@ fn small_at(store: &[u32], end: Reach, height: u32, x: u32, y: u32, z: u32) -> O
     ensures { λ r. ⌜ occupied r ≡ toldBy (smallAt (keptOf (now (store .entry))) height (point x y z) end) ⌝ }
 {
     match end {
-        Reach::Damaged => Occupied::Refused(Refusal::DamagedStore),
-        Reach::Absent(_) => Occupied::Empty,
-        Reach::At(number, mirror) => {
+        Ended::Damaged => Occupied::Refused(Refusal::DamagedStore),
+        Ended::Absent(_) => Occupied::Empty,
+        Ended::At(number, mirror) => {
             if leaf_full(leaf_at(store, number), mirror, height, x, y, z) {
                 Occupied::NonEmpty
             } else {
@@ -78,13 +78,13 @@ fn small_at(store: &[u32], end: Reach, height: u32, x: u32, y: u32, z: u32) -> O
 }
 
 // The cell asked for, where the walk to its list ended.
-fn cell_ended(end: Reach) -> Occupied
+fn cell_ended(end: Ended) -> Occupied
     ensures { λ r. ⌜ occupied r ≡ toldBy (cellEnd end) ⌝ }
 {
     match end {
-        Reach::Damaged => Occupied::Refused(Refusal::DamagedStore),
-        Reach::Absent(_) => Occupied::Empty,
-        Reach::At(_, _) => Occupied::NonEmpty,
+        Ended::Damaged => Occupied::Refused(Refusal::DamagedStore),
+        Ended::Absent(_) => Occupied::Empty,
+        Ended::At(_, _) => Occupied::NonEmpty,
     }
 }
 

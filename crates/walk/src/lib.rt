@@ -2,7 +2,9 @@
 mod calls; // voxel, with its whole outcome
 mod cell_call; // cell, with its whole outcome
 mod leaves; // a cell of height 1 in a leaf seen under a mirror
-mod ways; // the walk from a cell down to a list
+mod walks; // the walk from a cell down to a list, and from a root to a voxel
 
 pub use calls::voxel;
 pub use cell_call::cell;
+pub use walks::Ended;
+pub use walks::voxel_walk;

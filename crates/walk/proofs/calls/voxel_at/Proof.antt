@@ -1,18 +1,20 @@
 -- `walk::calls::voxel_at` meets its contract: by where the walk ended; at a leaf its voxel is read. Assumes nothing.
 use mathlib.Core.Path.{sym, ap, subst, _∙_}
 use mathlib.Core.Bool.{Bool}
+use mathlib.Core.List.{[], _∷_}
 use Prim.Native.Nat.{ℕ, _<_}
 use denote.Ref.{now}
 use lib.Dec.{lit<}
 use Rattle.paper.specs.Leaf.{leafVoxel}
 use Rattle.paper.specs.Numbers.{bitFor}
+use Rattle.paper.specs.Answers.{told}
 use Rattle.paper.specs.Rooms.{point}
 use Rattle.paper.specs.Store.{keptOf}
 use Rattle.laws.proofs.Kept.{kept-length}
-use Rattle.walk.specs.Walk.{voxelEnd, toldBy, AtKept}
+use Rattle.walk.specs.Walk.{endOf, endTold, AtKept}
 use Rattle.points.specs.Seeing.{seenAt}
-use Rattle.walk.specs.declared.ways.Reach.{Reach}
-use Rattle.walk.specs.declared.ways.Reach.the-variants.{At}
+use Rattle.walk.specs.declared.walks.Ended.{Ended}
+use Rattle.walk.specs.declared.walks.Ended.the-variants.{At}
 use borrow.Author.Needs.{needs}
 use Rattle.walk.proofs.calls.voxel_at.Statement.{statement}
 use Rattle.walk.proofs.calls.voxel_at.Tie as tie
@@ -39,26 +41,26 @@ leaf-solid-requires : tie.Need-leaf-solid-requires
 leaf-solid-requires c κs = search needs
 
 returns : tie.Need-returns
-returns c = ap (λ (e : Reach). toldBy (voxelEnd (keptOf (now (c .before .before .before .args .store))) (point (c .before .before .before .args .x) (c .before .before .before .args .y) (c .before .before .before .args .z)) e)) (sym (c .enum-told .given .1))
+returns c = ap (λ (e : Ended). endTold (endOf (keptOf (now (c .before .before .before .args .store))) (point (c .before .before .before .args .x) (c .before .before .before .args .y) (c .before .before .before .args .z)) e)) (sym (c .enum-told .given .1))
 
 returns-2 : tie.Need-returns-2
-returns-2 c = ap (λ (e : Reach). toldBy (voxelEnd (keptOf (now (c .before .before .before .args .store))) (point (c .before .before .before .args .x) (c .before .before .before .args .y) (c .before .before .before .args .z)) e)) (sym (c .enum-told2 .given .1))
+returns-2 c = ap (λ (e : Ended). endTold (endOf (keptOf (now (c .before .before .before .args .store))) (point (c .before .before .before .args .x) (c .before .before .before .args .y) (c .before .before .before .args .z)) e)) (sym (c .enum-told2 .given .1))
 
 returns-3 : tie.Need-returns-3
 returns-3 c =
     let a = c .before .before .before .before .before .before .before .args in
     let e = c .before .before .before .before .end in
     let leaf = c .before .before .leaf-at .ensures in
-    ap (λ (b : Bool). toldBy (bitFor b)) (sym (sym (c .before .leaf-solid .ensures ∙ ap (λ (n : ℕ). leafVoxel n (seenAt 0 (e .given .0 .1 .0) (point (a .x) (a .y) (a .z)))) leaf) ∙ c .if1 .taken))
-    ∙ ap (λ (r : Reach). toldBy (voxelEnd (keptOf (now (a .store))) (point (a .x) (a .y) (a .z)) r)) (sym (e .given .1))
+    ap (λ (b : Bool). told 0 (bitFor b ∷ [])) (sym (sym (c .before .leaf-solid .ensures ∙ ap (λ (n : ℕ). leafVoxel n (seenAt 0 (e .given .0 .1 .0) (point (a .x) (a .y) (a .z)))) leaf) ∙ c .if1 .taken))
+    ∙ ap (λ (r : Ended). endTold (endOf (keptOf (now (a .store))) (point (a .x) (a .y) (a .z)) r)) (sym (e .given .1))
 
 returns-4 : tie.Need-returns-4
 returns-4 c =
     let a = c .before .before .before .before .before .before .before .args in
     let e = c .before .before .before .before .end in
     let leaf = c .before .before .leaf-at .ensures in
-    ap (λ (b : Bool). toldBy (bitFor b)) (sym (sym (c .before .leaf-solid .ensures ∙ ap (λ (n : ℕ). leafVoxel n (seenAt 0 (e .given .0 .1 .0) (point (a .x) (a .y) (a .z)))) leaf) ∙ c .if1 .left))
-    ∙ ap (λ (r : Reach). toldBy (voxelEnd (keptOf (now (a .store))) (point (a .x) (a .y) (a .z)) r)) (sym (e .given .1))
+    ap (λ (b : Bool). told 0 (bitFor b ∷ [])) (sym (sym (c .before .leaf-solid .ensures ∙ ap (λ (n : ℕ). leafVoxel n (seenAt 0 (e .given .0 .1 .0) (point (a .x) (a .y) (a .z)))) leaf) ∙ c .if1 .left))
+    ∙ ap (λ (r : Ended). endTold (endOf (keptOf (now (a .store))) (point (a .x) (a .y) (a .z)) r)) (sym (e .given .1))
 
 pub voxel-at-spec : {M : Type 1} → statement M
 voxel-at-spec =

@@ -1,7 +1,7 @@
 -- `walk::cell_call::cell_ended` meets its contract: case by case. Assumes nothing.
 use mathlib.Core.Path.{sym, ap}
 use Rattle.walk.specs.Walk.{cellEnd, toldBy}
-use Rattle.walk.specs.declared.ways.Reach.{Reach}
+use Rattle.walk.specs.declared.walks.Ended.{Ended}
 use borrow.Author.Needs.{needs}
 use Rattle.walk.proofs.cell_call.cell_ended.Statement.{statement}
 use Rattle.walk.proofs.cell_call.cell_ended.Tie as tie
@@ -16,13 +16,13 @@ enum-told-3 : tie.Need-enum-told-3
 enum-told-3 c = search needs
 
 returns : tie.Need-returns
-returns c = ap (λ (e : Reach). toldBy (cellEnd e)) (sym (c .enum-told .given .1))
+returns c = ap (λ (e : Ended). toldBy (cellEnd e)) (sym (c .enum-told .given .1))
 
 returns-2 : tie.Need-returns-2
-returns-2 c = ap (λ (e : Reach). toldBy (cellEnd e)) (sym (c .enum-told2 .given .1))
+returns-2 c = ap (λ (e : Ended). toldBy (cellEnd e)) (sym (c .enum-told2 .given .1))
 
 returns-3 : tie.Need-returns-3
-returns-3 c = ap (λ (e : Reach). toldBy (cellEnd e)) (sym (c .enum-told3 .given .1))
+returns-3 c = ap (λ (e : Ended). toldBy (cellEnd e)) (sym (c .enum-told3 .given .1))
 
 pub cell-ended-spec : {M : Type 1} → statement M
 cell-ended-spec =

@@ -8,8 +8,8 @@ use denote.Ref.{now}
 use Rattle.paper.specs.Rooms.{Point, point, Inside, deepest}
 use Rattle.paper.specs.Store.{Cell, heights, tagOf, cellNo, keptOf}
 use Rattle.paper.specs.Questions.{corner}
-use Rattle.walk.specs.Walk.{reachOf, cellEnd, smallAt, toldBy}
-use Rattle.walk.specs.declared.ways.Reach.{Reach}
+use Rattle.walk.specs.Walk.{walkTo, cellEnd, smallAt, toldBy}
+use Rattle.walk.specs.declared.walks.Ended.{Ended}
 use Rattle.walk.proofs.Cells.{corner-inside}
 use Rattle.walk.proofs.Voxels.{not-none, is-inside}
 use Rattle.laws.proofs.StoreFacts.{depth-range}
@@ -59,11 +59,11 @@ walk-root-requires c κs =
 
 -- where the walk ends
 end-is : (c : tie.After-walk-root) → (let a = c .before .before .before .before .before .before .args in
-    c .walk-root .result ≡ reachOf (keptOf (now (a .store))) (a .height - 2) (a .depth - 2) (cellNo (a .root)) (tagOf (a .root)) (corner (a .height) (point (a .x) (a .y) (a .z))))
+    c .walk-root .result ≡ walkTo (keptOf (now (a .store))) (a .height - 2) (a .depth - 2) (cellNo (a .root)) (tagOf (a .root)) (corner (a .height) (point (a .x) (a .y) (a .z))))
 end-is c =
     let a = c .before .before .before .before .before .before .args in
     c .walk-root .ensures .0
-    ∙ ap₂ (λ (s : ℕ) (v : Point). reachOf (keptOf (now (a .store))) s (a .depth - 2) (cellNo (a .root)) (tagOf (a .root)) v) (c .before .list-of .ensures) (corner-is (c .before .before))
+    ∙ ap₂ (λ (s : ℕ) (v : Point). walkTo (keptOf (now (a .store))) s (a .depth - 2) (cellNo (a .root)) (tagOf (a .root)) v) (c .before .list-of .ensures) (corner-is (c .before .before))
 
 small-at-requires : tie.Need-small-at-requires
 small-at-requires c κs =
@@ -89,7 +89,7 @@ returns c =
     let a = b .args in
     let K : List (List Cell) = keptOf (now (a .store)) in
     c .small-at .ensures
-    ∙ ap₂ (λ (v : Point) (e : Reach). toldBy (smallAt K (a .height) v e)) (corner-is (w .before .before)) (end-is w)
+    ∙ ap₂ (λ (v : Point) (e : Ended). toldBy (smallAt K (a .height) v e)) (corner-is (w .before .before)) (end-is w)
     ∙ cell-low K (a .depth) (a .root) (a .height) (point (a .x) (a .y) (a .z)) (b .pre .1 .0) (c .before .if1 .taken) (b .pre .1 .1 .1 .0) (inside-cell b) (not-none (a .root) (b .pre .1 .1 .0 .1))
 
 cell-ended-requires : tie.Need-cell-ended-requires
@@ -102,7 +102,7 @@ returns-2 c =
     let a = b .args in
     let K : List (List Cell) = keptOf (now (a .store)) in
     c .cell-ended .ensures
-    ∙ ap (λ (e : Reach). toldBy (cellEnd e)) (end-is w)
+    ∙ ap (λ (e : Ended). toldBy (cellEnd e)) (end-is w)
     ∙ cell-high K (a .depth) (a .root) (a .height) (point (a .x) (a .y) (a .z)) (b .pre .1 .0) (c .before .if1 .left) (b .pre .1 .1 .1 .0) (inside-cell b) (not-none (a .root) (b .pre .1 .1 .0 .1))
 
 pub cell-under-spec : {M : Type 1} → statement M

@@ -11,8 +11,8 @@ use Rattle.paper.specs.Store.{keptOf}
 use Rattle.laws.proofs.Kept.{kept-length}
 use Rattle.walk.specs.Walk.{smallAt, toldBy, AtKept}
 use Rattle.points.specs.Seeing.{seenAt}
-use Rattle.walk.specs.declared.ways.Reach.{Reach}
-use Rattle.walk.specs.declared.ways.Reach.the-variants.{At}
+use Rattle.walk.specs.declared.walks.Ended.{Ended}
+use Rattle.walk.specs.declared.walks.Ended.the-variants.{At}
 use borrow.Author.Needs.{needs}
 use Rattle.walk.proofs.cell_call.small_at.Statement.{statement}
 use Rattle.walk.proofs.cell_call.small_at.Tie as tie
@@ -41,12 +41,12 @@ leaf-full-requires c κs = search needs
 returns : tie.Need-returns
 returns c =
     let a = c .before .before .before .args in
-    ap (λ (e : Reach). toldBy (smallAt (keptOf (now (a .store))) (a .height) (point (a .x) (a .y) (a .z)) e)) (sym (c .enum-told .given .1))
+    ap (λ (e : Ended). toldBy (smallAt (keptOf (now (a .store))) (a .height) (point (a .x) (a .y) (a .z)) e)) (sym (c .enum-told .given .1))
 
 returns-2 : tie.Need-returns-2
 returns-2 c =
     let a = c .before .before .before .args in
-    ap (λ (e : Reach). toldBy (smallAt (keptOf (now (a .store))) (a .height) (point (a .x) (a .y) (a .z)) e)) (sym (c .enum-told2 .given .1))
+    ap (λ (e : Ended). toldBy (smallAt (keptOf (now (a .store))) (a .height) (point (a .x) (a .y) (a .z)) e)) (sym (c .enum-told2 .given .1))
 
 returns-3 : tie.Need-returns-3
 returns-3 c =
@@ -54,7 +54,7 @@ returns-3 c =
     let e = c .before .before .before .before .end in
     let room : ℕ → Bool = λ l. nonEmpty (2 ^ a .height) (λ u. leafVoxel l (seenAt 0 (e .given .0 .1 .0) (point (a .x + u .x) (a .y + u .y) (a .z + u .z)))) in
     ap (λ (b : Bool). toldBy (bitFor b)) (sym (sym (c .before .leaf-full .ensures ∙ ap room (c .before .before .leaf-at .ensures)) ∙ c .if1 .taken))
-    ∙ ap (λ (r : Reach). toldBy (smallAt (keptOf (now (a .store))) (a .height) (point (a .x) (a .y) (a .z)) r)) (sym (e .given .1))
+    ∙ ap (λ (r : Ended). toldBy (smallAt (keptOf (now (a .store))) (a .height) (point (a .x) (a .y) (a .z)) r)) (sym (e .given .1))
 
 returns-4 : tie.Need-returns-4
 returns-4 c =
@@ -62,7 +62,7 @@ returns-4 c =
     let e = c .before .before .before .before .end in
     let room : ℕ → Bool = λ l. nonEmpty (2 ^ a .height) (λ u. leafVoxel l (seenAt 0 (e .given .0 .1 .0) (point (a .x + u .x) (a .y + u .y) (a .z + u .z)))) in
     ap (λ (b : Bool). toldBy (bitFor b)) (sym (sym (c .before .leaf-full .ensures ∙ ap room (c .before .before .leaf-at .ensures)) ∙ c .if1 .left))
-    ∙ ap (λ (r : Reach). toldBy (smallAt (keptOf (now (a .store))) (a .height) (point (a .x) (a .y) (a .z)) r)) (sym (e .given .1))
+    ∙ ap (λ (r : Ended). toldBy (smallAt (keptOf (now (a .store))) (a .height) (point (a .x) (a .y) (a .z)) r)) (sym (e .given .1))
 
 pub small-at-spec : {M : Type 1} → statement M
 small-at-spec =

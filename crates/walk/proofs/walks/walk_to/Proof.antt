@@ -1,4 +1,4 @@
--- `walk::ways::walk_to` meets its contract. The invariant: the cell at hand is kept, and the walk from it ends where the whole walk does; each way
+-- `walk::walks::walk_to` meets its contract. The invariant: the cell at hand is kept, and the walk from it ends where the whole walk does; each way
 -- through a turn is a law of the walk by numbers. The measure is the list's number. Assumes nothing.
 use mathlib.Core.Path.{_≡_, refl, sym, ap, ap₂, _∙_}
 use mathlib.Core.Bool.{false}
@@ -11,17 +11,17 @@ use Rattle.paper.specs.Rooms.{Point, point}
 use Rattle.paper.specs.Store.{Cell, cellsAt, cellAt, tagOf, cellNo, anyBad, heights, keptCount, keptOf}
 use Rattle.laws.proofs.Eight.{xor8-lt}
 use Rattle.laws.proofs.Kept.{kept-length}
-use Rattle.walk.specs.Walk.{takenFrom, reachOf}
+use Rattle.walk.specs.Walk.{takenFrom, walkTo}
 use Rattle.walk.proofs.Roots.{taken-kept}
-use Rattle.walk.proofs.Steps.{reach-stop, reach-damaged, reach-absent, reach-down}
+use Rattle.walk.proofs.Steps.{walk-stop, walk-damaged, walk-absent, walk-down}
 use borrow.Author.Needs.{needs}
-use Rattle.walk.proofs.ways.walk_to.Statement.{statement}
-use Rattle.walk.proofs.ways.walk_to.Tie as tie
+use Rattle.walk.proofs.walks.walk_to.Statement.{statement}
+use Rattle.walk.proofs.walks.walk_to.Tie as tie
 
 abbrev Inv-loop : tie.InvT-loop
 Inv-loop store stop k number mirror x y z list₀ at₀ seen₀ list at seen =
     (list < heights) × (at < keptCount store list) × (seen < 8)
-    × (reachOf (keptOf store) stop list at seen (point x y z) ≡ reachOf (keptOf store) stop k number mirror (point x y z))
+    × (walkTo (keptOf store) stop list at seen (point x y z) ≡ walkTo (keptOf store) stop k number mirror (point x y z))
 
 abbrev μ-loop : tie.MeasureT-loop
 μ-loop store stop k number mirror x y z list₀ at₀ seen₀ list at seen = list
@@ -52,12 +52,12 @@ low c = let l = c .before .before .before .before .before .before .loop in xor8-
 returns : tie.Need-returns Inv-loop μ-loop
 returns c =
     let l = c .before .before .before .before .before .loop in
-    reach-damaged _ _ _ _ _ _ (c .before .before .before .before .loop-test .taken) (sym (bad-is (c .before)) ∙ c .if1 .taken) ∙ l .inv .3
+    walk-damaged _ _ _ _ _ _ (c .before .before .before .before .loop-test .taken) (sym (bad-is (c .before)) ∙ c .if1 .taken) ∙ l .inv .3
 
 returns-2 : tie.Need-returns-2 Inv-loop μ-loop
 returns-2 c =
     let l = c .before .before .before .before .before .before .before .loop in
-    reach-absent _ _ _ _ _ _ (c .before .before .before .before .before .before .loop-test .taken) (sym (bad-is (c .before .before .before)) ∙ c .before .before .if1 .left)
+    walk-absent _ _ _ _ _ _ (c .before .before .before .before .before .before .loop-test .taken) (sym (bad-is (c .before .before .before)) ∙ c .before .before .if1 .left)
     (sym (taken-is (c .before)) ∙ c .if2 .taken) ∙ l .inv .3
 
 loop-again : tie.Need-loop-again Inv-loop μ-loop
@@ -77,12 +77,12 @@ loop-again c =
       omega (arith, l .inv .0),
       omega (arith, named, kept, kept-length (a .store .now) (l .list - 1) (omega (arith, l .inv .0))),
       xor8-lt (c .tag .result) (l .seen) t8 (l .inv .2),
-      ap₂ (λ (n m : ℕ). reachOf K (a .stop) (l .list - 1) n (bitXor m (l .seen)) v) named tagged
-          ∙ reach-down K (a .stop) (l .list) (l .at) (l .seen) v (c .before .before .before .before .before .before .before .before .loop-test .taken) sound there ∙ l .inv .3,
+      ap₂ (λ (n m : ℕ). walkTo K (a .stop) (l .list - 1) n (bitXor m (l .seen)) v) named tagged
+          ∙ walk-down K (a .stop) (l .list) (l .at) (l .seen) v (c .before .before .before .before .before .before .before .before .loop-test .taken) sound there ∙ l .inv .3,
     )
 
 returns-3 : tie.Need-returns-3 Inv-loop μ-loop
-returns-3 c = reach-stop _ _ _ _ _ _ (c .loop-test .left) ∙ c .before .loop .inv .3
+returns-3 c = walk-stop _ _ _ _ _ _ (c .loop-test .left) ∙ c .before .loop .inv .3
 
 pub walk-to-spec : {M : Type 1} → statement M
 walk-to-spec =

@@ -1,4 +1,4 @@
--- `walk::ways::walk_root` meets its contract: a root pointer that is neither bad nor none names a kept cell of its list, and its tag is a mirror.
+-- `walk::walks::walk_root` meets its contract: a root pointer that is neither bad nor none names a kept cell of its list, and its tag is a mirror.
 -- Assumes nothing.
 use mathlib.Core.Path.{_≡_, ap, ap₂, _∙_, subst, subst⁻¹}
 use mathlib.Core.List.{List}
@@ -10,11 +10,11 @@ use Rattle.paper.specs.Store.{Cell, cellsAt, tagOf, cellNo, keptCount, keptOf}
 use Rattle.laws.proofs.Invariant.{named-kept}
 use Rattle.laws.proofs.Kept.{kept-length}
 use Rattle.laws.proofs.Matching.{tag-lt}
-use Rattle.walk.specs.Walk.{reachOf, AtKept}
-use Rattle.walk.proofs.Roots.{reach-kept}
+use Rattle.walk.specs.Walk.{walkTo, AtKept}
+use Rattle.walk.proofs.Roots.{walk-kept}
 use borrow.Author.Needs.{needs}
-use Rattle.walk.proofs.ways.walk_root.Statement.{statement}
-use Rattle.walk.proofs.ways.walk_root.Tie as tie
+use Rattle.walk.proofs.walks.walk_root.Statement.{statement}
+use Rattle.walk.proofs.walks.walk_root.Tie as tie
 
 kept-root : (b : tie.Start) → cellNo (b .args .root) < keptCount (now (b .args .store)) (b .args .k)
 kept-root b = named-kept (keptCount (now (b .args .store)) (b .args .k)) (b .args .root) (b .pre .1 .1 .0) (b .pre .1 .1 .1)
@@ -31,11 +31,11 @@ returns c =
     let K : List (List Cell) = keptOf (now (a .store)) in
     let k : ℕ = a .k in
     let kept : cellNo (a .root) < length (cellsAt K k) = subst⁻¹ (λ (n : ℕ). cellNo (a .root) < n) (kept-length (now (a .store)) k (b .pre .1 .0)) (kept-root b) in
-    let end : c .walk-to .result ≡ reachOf K (a .stop) k (cellNo (a .root)) (tagOf (a .root)) (point (a .x) (a .y) (a .z)) =
-    c .walk-to .ensures ∙ ap₂ (λ (n m : ℕ). reachOf K (a .stop) k n m (point (a .x) (a .y) (a .z))) (c .before .before .cell-number .ensures) (c .before .tag .ensures) in (
+    let end : c .walk-to .result ≡ walkTo K (a .stop) k (cellNo (a .root)) (tagOf (a .root)) (point (a .x) (a .y) (a .z)) =
+    c .walk-to .ensures ∙ ap₂ (λ (n m : ℕ). walkTo K (a .stop) k n m (point (a .x) (a .y) (a .z))) (c .before .before .cell-number .ensures) (c .before .tag .ensures) in (
       end,
-      λ z. subst⁻¹ (AtKept K) (end ∙ ap (λ (s : ℕ). reachOf K s k (cellNo (a .root)) (tagOf (a .root)) (point (a .x) (a .y) (a .z))) z)
-          (reach-kept K k (cellNo (a .root)) (tagOf (a .root)) (point (a .x) (a .y) (a .z)) kept (tag-lt (a .root))),
+      λ z. subst⁻¹ (AtKept K) (end ∙ ap (λ (s : ℕ). walkTo K s k (cellNo (a .root)) (tagOf (a .root)) (point (a .x) (a .y) (a .z))) z)
+          (walk-kept K k (cellNo (a .root)) (tagOf (a .root)) (point (a .x) (a .y) (a .z)) kept (tag-lt (a .root))),
     )
 
 pub walk-root-spec : {M : Type 1} → statement M
