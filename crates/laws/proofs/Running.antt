@@ -18,7 +18,7 @@ use Rattle.paper.specs.Match.{Adding, full, added, addTree}
 use Rattle.paper.specs.Answers.{Outcome, told, outcome}
 use Rattle.paper.specs.Order.{firstOf}
 use Rattle.paper.specs.Calls.{over, badSize, newOrder, newWords, newOutcome, nextScene, adding, isFull, cellsFull, addOrder, withScene, addWords, addOutcome}
-use Rattle.paper.specs.Runs.{Call, new, add, voxel, cell, box, kept, outline, pack, check, packedVoxel, opening, ask, detail, Bytes, Given, sceneOf, Held, nothing, holding, State, accepted, step, run, start, AllGiven, Reached}
+use Rattle.paper.specs.Runs.{Call, new, add, ofStore, ofFile, Bytes, Given, sceneOf, Held, nothing, holding, State, accepted, step, run, start, AllGiven, Reached}
 use Rattle.laws.proofs.Tests.{true-T, and-left}
 use Rattle.laws.proofs.Words.{Fine, storeWith, stored, gap, gap-place, wordsOf-length, storeOf-wordsOf, capacity-read, kept-read, scenes-read}
 use Rattle.laws.proofs.Filled.{Filled, filled-fine}
@@ -181,17 +181,8 @@ add-running s file r b = go (ℕ-discrete n 0)
 pub step-running : (s : State) (c : Call) → Given c → Running s → Running (step s c)
 step-running s (new C) g r = new-running C s r
 step-running s (add file) g r = add-running s file r g
-step-running s (voxel n v) g r = r
-step-running s (cell n h c) g r = r
-step-running s (box n low high) g r = r
-step-running s (kept h) g r = r
-step-running s (outline n out) g r = r
-step-running s (pack n scratch out) g r = r
-step-running s (check file scratch) g r = r
-step-running s (packedVoxel file v) g r = r
-step-running s (opening file) g r = r
-step-running s (ask file D starts v) g r = r
-step-running s (detail D w) g r = r
+step-running s (ofStore q) g r = r
+step-running s (ofFile q) g r = r
 
 pub run-running : (cs : List Call) (s : State) → AllGiven cs → Running s → Running (run s cs)
 unfolding run
