@@ -112,17 +112,18 @@ lists-cut (lcons r q t) (suc m) a b e = lcons r q (lists-cut t m a b e)
 
 -- ---- the whole store
 
-module _ (C : ℕ) (S : List Cell) (Ks : List (List Cell)) (f : Fine C S Ks) (k : ℕ) (h : k < heights) (a b : List Cell) (e : cellsAt Ks k ≡ a ++ b) where
-  pub cut-fine : Fine C S (set Ks k a)
+module _ (C N : ℕ) (S : List Cell) (Ks : List (List Cell)) (f : Fine C N S Ks) (k : ℕ) (h : k < heights) (a b : List Cell) (e : cellsAt Ks k ≡ a ++ b) where
+  pub cut-fine : Fine C N S (set Ks k a)
   cut-fine = record {
     lists = length-set Ks k a ∙ f .lists;
     of-scenes = f .of-scenes;
+    all-scenes = f .all-scenes;
     few-scenes = f .few-scenes;
     of-cells = lists-cut (f .of-cells) k a b e;
   }
 
   abbrev H : List ℕ
-  H = headerWords (storeWith C S Ks)
+  H = headerWords (storeWith C N S Ks)
 
   abbrev P : List ℕ
   P = padded (2 * mostScenes) S
@@ -134,7 +135,7 @@ module _ (C : ℕ) (S : List Cell) (Ks : List (List Cell)) (f : Fine C S Ks) (k 
   zeros = replicate (cellWords k * length b) 0
 
   -- the zeros in the list's part, and the count in the header
-  words-cut : wordsOf (storeWith C S (set Ks k a)) ≡ set (sets (wordsOf (storeWith C S Ks)) (cellPlace C k (length a)) zeros) (2 + k) (length a)
+  words-cut : wordsOf (storeWith C N S (set Ks k a)) ≡ set (sets (wordsOf (storeWith C N S Ks)) (cellPlace C k (length a)) zeros) (2 + k) (length a)
   unfolding wordsOf
   words-cut =
       let j : ℕ = gap C 0 k + cellWords k * length a in
@@ -142,29 +143,29 @@ module _ (C : ℕ) (S : List Cell) (Ks : List (List Cell)) (f : Fine C S Ks) (k 
       let list : listWords C 0 (set Ks k a) ≡ sets L j zeros =
       listWords-cut (f .of-cells) k a b (omega (arith, f .lists)) e
       ∙ ap (λ (w : ℕ). sets L (gap C 0 k + w * length a) (replicate (w * length b) 0)) ck in
-      let at : length H + (length P + j) ≡ cellPlace C k (length a) = omega (arith, header-length C S Ks f, scenes-length C S Ks f, gap-place C k) in
-      ap₂ (λ (x y : List ℕ). x ++ (P ++ y)) (header-set C S Ks f k a (omega (arith, f .lists))) list
+      let at : length H + (length P + j) ≡ cellPlace C k (length a) = omega (arith, header-length C N S Ks f, scenes-length C N S Ks f, gap-place C k) in
+      ap₂ (λ (x y : List ℕ). x ++ (P ++ y)) (header-set C N S Ks f k a (omega (arith, f .lists))) list
       ∙ sym
       (ap (λ (i : ℕ). set (sets (H ++ (P ++ L)) i zeros) (2 + k) (length a)) (sym at)
       ∙ ap (λ (x : List ℕ). set x (2 + k) (length a)) (sets-right zeros H (P ++ L) (length P + j) ∙ ap (λ (x : List ℕ). H ++ x) (sets-right zeros P L j))
-      ∙ set-append-left H (P ++ sets L j zeros) (2 + k) (length a) (omega (arith, header-length C S Ks f)))
+      ∙ set-append-left H (P ++ sets L j zeros) (2 + k) (length a) (omega (arith, header-length C N S Ks f)))
 
   module _ (x : List ℕ) where
-    zeros-fit : cellPlace C k (length a) + length zeros ≤ length (wordsOf (storeWith C S Ks))
+    zeros-fit : cellPlace C k (length a) + length zeros ≤ length (wordsOf (storeWith C N S Ks))
     zeros-fit =
-        let few : length a + length b ≤ C = omega (arith, cells-few C S Ks f k, ap length e, length-append a b) in
-        simp length-replicate (omega (arith, wordsOf-length C S Ks f, place-in C k (length a + length b) h few))
+        let few : length a + length b ≤ C = omega (arith, cells-few C N S Ks f k, ap length e, length-append a b) in
+        simp length-replicate (omega (arith, wordsOf-length C N S Ks f, place-in C k (length a + length b) h few))
 
-    pub list-cut-stored : cutList k (length a) (stored C S Ks x) ≡ stored C S (set Ks k a) x
+    pub list-cut-stored : cutList k (length a) (stored C N S Ks x) ≡ stored C N S (set Ks k a) x
     unfolding cutList
     list-cut-stored =
-        let W : List ℕ = wordsOf (storeWith C S Ks) in
+        let W : List ℕ = wordsOf (storeWith C N S Ks) in
         let n : ℕ = length a in
         let i : ℕ = cellPlace C k n in
-        let left : keptCount (stored C S Ks x) k - n ≡ length b = omega (arith, count-read C S Ks f x k h, ap length e, length-append a b) in
-        ap₂ (λ (D m : ℕ). set (sets (W ++ x) (cellPlace D k n) (replicate (cellWords k * m) 0)) (2 + k) n) (capacity-read C S Ks f x) left
+        let left : keptCount (stored C N S Ks x) k - n ≡ length b = omega (arith, count-read C N S Ks f x k h, ap length e, length-append a b) in
+        ap₂ (λ (D m : ℕ). set (sets (W ++ x) (cellPlace D k n) (replicate (cellWords k * m) 0)) (2 + k) n) (capacity-read C N S Ks f x) left
         ∙ ap (λ (l : List ℕ). set l (2 + k) n) (sets-left zeros W x i zeros-fit)
-        ∙ set-append-left (sets W i zeros) x (2 + k) n (rw (length-sets W i zeros) (omega (arith, wordsOf-length C S Ks f)))
+        ∙ set-append-left (sets W i zeros) x (2 + k) n (rw (length-sets W i zeros) (omega (arith, wordsOf-length C N S Ks f)))
         ∙ ap (λ (l : List ℕ). l ++ x) (sym words-cut)
 
 -- ---- all lists: each back to the front part that K has of it
@@ -196,34 +197,34 @@ module _ (K K′ : List (List Cell)) where
   back-all : length K ≡ length K′ → back (length K) K K′ ≡ K
   back-all e = ext-getD [] (back (length K) K K′) K (back-length (length K) ∙ sym e) (λ j h. back-front (length K) j (omega arith) (omega (arith, back-length (length K))))
 
-module _ (C : ℕ) (S : List Cell) (K K′ : List (List Cell)) (f : Fine C S K′) (g : Extends K K′) where
-  back-fine : (m : ℕ) → m ≤ heights → Fine C S (back m K K′)
+module _ (C N : ℕ) (S : List Cell) (K K′ : List (List Cell)) (f : Fine C N S K′) (g : Extends K K′) where
+  back-fine : (m : ℕ) → m ≤ heights → Fine C N S (back m K K′)
   unfolding back
   back-fine zero h = f
-  back-fine (suc k) h = cut-fine C S (back k K K′) (back-fine k (omega arith)) k h (cellsAt K k) (g .more k) (back-rest K K′ k k (omega arith) ∙ g .is k)
+  back-fine (suc k) h = cut-fine C N S (back k K K′) (back-fine k (omega arith)) k h (cellsAt K k) (g .more k) (back-rest K K′ k k (omega arith) ∙ g .is k)
 
   module _ (tall : length K ≡ heights) (x ns : List ℕ) (counted : (k : ℕ) → k < heights → getD ns k 0 ≡ length (cellsAt K k)) where
-    lists-cut-stored : (m : ℕ) → m ≤ heights → cutLists m ns (stored C S K′ x) ≡ stored C S (back m K K′) x
+    lists-cut-stored : (m : ℕ) → m ≤ heights → cutLists m ns (stored C N S K′ x) ≡ stored C N S (back m K K′) x
     unfolding cutLists back
     lists-cut-stored zero h = refl
     lists-cut-stored (suc k) h =
         ap₂ (cutList k) (counted k h) (lists-cut-stored k (omega arith))
-        ∙ list-cut-stored C S (back k K K′) (back-fine k (omega arith)) k h (cellsAt K k) (g .more k) (back-rest K K′ k k (omega arith) ∙ g .is k) x
+        ∙ list-cut-stored C N S (back k K K′) (back-fine k (omega arith)) k h (cellsAt K k) (g .more k) (back-rest K K′ k k (omega arith) ∙ g .is k) x
 
     -- the lists are those of K again
-    pub cut-stored : cutBack ns (stored C S K′ x) ≡ stored C S K x
+    pub cut-stored : cutBack ns (stored C N S K′ x) ≡ stored C N S K x
     unfolding cutBack
     cut-stored =
         lists-cut-stored heights (omega arith)
-        ∙ ap (λ (Ks : List (List Cell)). stored C S Ks x) (ap (λ (m : ℕ). back m K K′) (sym tall) ∙ back-all K K′ (tall ∙ sym (f .lists)))
+        ∙ ap (λ (Ks : List (List Cell)). stored C N S Ks x) (ap (λ (m : ℕ). back m K K′) (sym tall) ∙ back-all K K′ (tall ∙ sym (f .lists)))
 
     -- which cutting back asks for: no list has fewer cells than that
-    pub cut-counts : (k : ℕ) → k < heights → getD ns k 0 ≤ keptCount (stored C S K′ x) k
-    cut-counts k h = omega (arith, counted k h, count-read C S K′ f x k h, ext-length g k)
+    pub cut-counts : (k : ℕ) → k < heights → getD ns k 0 ≤ keptCount (stored C N S K′ x) k
+    cut-counts k h = omega (arith, counted k h, count-read C N S K′ f x k h, ext-length g k)
 
 -- the counts that a store has
-pub counts-taken : (C : ℕ) (S : List Cell) (K : List (List Cell)) → Fine C S K → (x : List ℕ) (k : ℕ) → k < heights
-    → getD (tabulate 0 heights (keptCount (stored C S K x))) k 0 ≡ length (cellsAt K k)
-counts-taken C S K f x k h =
-    let ws : List ℕ = stored C S K x in
-    getD-tabulate heights 0 k (keptCount ws) 0 h ∙ ap (keptCount ws) (zero-add k) ∙ count-read C S K f x k h
+pub counts-taken : (C N : ℕ) (S : List Cell) (K : List (List Cell)) → Fine C N S K → (x : List ℕ) (k : ℕ) → k < heights
+    → getD (tabulate 0 heights (keptCount (stored C N S K x))) k 0 ≡ length (cellsAt K k)
+counts-taken C N S K f x k h =
+    let ws : List ℕ = stored C N S K x in
+    getD-tabulate heights 0 k (keptCount ws) 0 h ∙ ap (keptCount ws) (zero-add k) ∙ count-read C N S K f x k h

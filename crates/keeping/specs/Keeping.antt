@@ -4,15 +4,16 @@ use mathlib.Core.List.{List}
 use Prim.Native.Nat.{ℕ, zero, suc, _+_, _-_, _*_}
 use lib.ListN.{getD, set, replicate}
 use lib.Seq.{sets}
+use Rattle.paper.specs.Calls.{nextScene}
 use Rattle.paper.specs.Store.{Cell, heights, capacityOf, scenesHeld, keptCount, scenePlace, cellWords, cellPlace}
 
 -- 'kept as it stands under the next number': list k's count grows by one, and the cell's words stand behind those of the others
 unfoldable pub keepIn : ℕ → Cell → List ℕ → List ℕ
 keepIn k c ws = sets (set ws (2 + k) (suc (keptCount ws k))) (cellPlace (capacityOf ws) k (keptCount ws k)) c
 
--- 'the scene number is the count of scenes before': word 1 grows by one, and the scene's depth and root pointer stand behind those of the others
+-- 'the scene number is the count of scenes before': word 1 grows by one, and the scene's depth and root pointer stand at that number's place
 unfoldable pub holdIn : Cell → List ℕ → List ℕ
-holdIn c ws = sets (set ws 1 (suc (scenesHeld ws))) (scenePlace (scenesHeld ws)) c
+holdIn c ws = sets (set ws 1 (suc (scenesHeld ws))) (scenePlace (nextScene ws)) c
 
 -- list k back to its first n cells: the words of the others become zero, and n is its count
 unfoldable pub cutList : ℕ → ℕ → List ℕ → List ℕ

@@ -7,7 +7,7 @@ use native.Mathlib.Nat.{le-of-suc-le-suc, mul-zero, zero-add}
 use native.Mathlib.Omega.{arith}
 use lib.ListN.{length, take, drop, getD}
 use lib.Seq.{drop-drop, getD-take, getD-drop}
-use Rattle.paper.specs.Store.{Cell, heights, capacityOf, scenesHeld, keptCount, scenePlace, cellWords, listPlace, cellPlace, groups, keptIn, keptOf, storeOf, cellsAt, cellAt}
+use Rattle.paper.specs.Store.{Cell, mostScenes, heights, capacityOf, keptCount, scenePlace, cellWords, listPlace, cellPlace, groups, keptIn, keptOf, storeOf, cellsAt, cellAt}
 use Rattle.laws.proofs.Lists.{getD-tabulate, length-tabulate}
 
 pub groups-length : (w n : ℕ) (l : List ℕ) → length (groups w n l) ≡ n
@@ -39,10 +39,10 @@ pub kept-tall : (ws : List ℕ) → length (keptOf ws) ≡ heights
 unfolding keptOf
 kept-tall ws = length-tabulate heights 0 (keptIn ws)
 
--- word 1 counts the scenes
-pub held-length : (ws : List ℕ) → length (storeOf ws .scenes) ≡ scenesHeld ws
+-- a place for each scene that can be held
+pub places-length : (ws : List ℕ) → length (storeOf ws .scenes) ≡ mostScenes
 unfolding storeOf
-held-length ws = groups-length 2 (scenesHeld ws) (drop (scenePlace 0) ws)
+places-length ws = groups-length 2 mostScenes (drop (scenePlace 0) ws)
 
 pub kept-cell : (ws : List ℕ) (k q : ℕ) → k < heights → q < keptCount ws k → cellAt (keptOf ws) k q ≡ take (cellWords k) (drop (cellPlace (capacityOf ws) k q) ws)
 unfolding keptIn
@@ -51,11 +51,11 @@ kept-cell ws k q h l =
     ∙ groups-at (cellWords k) (keptCount ws k) q (drop (listPlace (capacityOf ws) k) ws) l
     ∙ ap (take (cellWords k)) (drop-drop (cellWords k * q) (listPlace (capacityOf ws) k) ws)
 
--- word i of scene n
-pub scene-word : (ws : List ℕ) (n i : ℕ) → n < scenesHeld ws → i < 2 → getD (getD (storeOf ws .scenes) n []) i 0 ≡ getD ws (scenePlace n + i) 0
+-- word i of place n of the scenes
+pub scene-word : (ws : List ℕ) (n i : ℕ) → n < mostScenes → i < 2 → getD (getD (storeOf ws .scenes) n []) i 0 ≡ getD ws (scenePlace n + i) 0
 unfolding storeOf
 scene-word ws n i l h =
     let from : List ℕ = drop (scenePlace 0) ws in
     let sum : 32 + (2 * n + i) ≡ 32 + 2 * n + i = omega arith in
-    ap (λ (c : Cell). getD c i 0) (groups-at 2 (scenesHeld ws) n from l) ∙ getD-take 2 (drop (2 * n) from) i 0 h ∙ getD-drop (2 * n) from i 0
+    ap (λ (c : Cell). getD c i 0) (groups-at 2 mostScenes n from l) ∙ getD-take 2 (drop (2 * n) from) i 0 h ∙ getD-drop (2 * n) from i 0
     ∙ getD-drop 32 ws (2 * n + i) 0 ∙ ap (λ (j : ℕ). getD ws j 0) sum

@@ -3,16 +3,16 @@
 use mathlib.Core.Path.{_≡_, refl, sym, _∙_, ap}
 use mathlib.Core.Bool.{true}
 use mathlib.Core.List.{List, [], _∷_, _++_, append-assoc, append-nil}
-use Prim.Native.Nat.{ℕ, zero, suc, _+_, _-_, _*_, _≤_}
-use native.Mathlib.Nat.{zero-mul, add-zero}
+use Prim.Native.Nat.{ℕ, zero, suc, _+_, _-_, _*_, _<_, _≤_}
+use native.Mathlib.Nat.{zero-mul, add-zero, not-suc-le-zero, le-of-suc-le-suc, mul-le-mul-right}
 use native.Mathlib.Omega.{arith}
 use lib.Dec.{T, eqb}
-use lib.ListN.{length, take, drop, replicate, length-append, length-replicate, length-drop}
-use lib.Seq.{sets, take-at, drop-at, take-add, drop-drop, length-take-le}
+use lib.ListN.{length, take, drop, set, replicate, length-append, length-replicate, length-drop}
+use lib.Seq.{sets, length-sets, take-at, drop-at, take-add, drop-drop, length-take-le}
 use Rattle.paper.specs.Numbers.{allIn, flatten}
 use Rattle.paper.specs.Store.{Cell, groups, padded, blank}
 use Rattle.laws.proofs.Lists.{zeros-of, zeros-pass}
-use Rattle.laws.proofs.Put.{sets-right, sets-zeros}
+use Rattle.laws.proofs.Put.{sets-right, sets-left, sets-all, sets-zeros}
 
 -- ---- cells laid out
 
@@ -86,6 +86,32 @@ padded-snoc w n cs c r e h =
     ∙ ap (λ (x : List ℕ). F ++ x) (sym (sets-zeros c m (omega (arith, flatten-length r))))
     ∙ sym (sets-right c F (replicate m 0) 0)
     ∙ ap (λ (i : ℕ). sets (F ++ replicate m 0) i c) (add-zero (length F) ∙ flatten-length r)
+
+-- another cell of as many words in place of cell i
+flatten-set : {w : ℕ} {cs : List Cell} (i : ℕ) (c : Cell) → Sized w cs → length c ≡ w → i < length cs → flatten (set cs i c) ≡ sets (flatten cs) (i * w) c
+unfolding flatten
+flatten-set i c snil e h = absurd (not-suc-le-zero h)
+flatten-set {w} zero c (scons {c = d} {cs = cs} l r) e h =
+    ap (λ (x : List ℕ). x ++ flatten cs) (sym (sets-all c d (e ∙ sym l))) ∙ sym (sets-left c d (flatten cs) 0 (omega arith))
+    ∙ ap (λ (j : ℕ). sets (d ++ flatten cs) j c) (sym (zero-mul w))
+flatten-set {w} (suc i) c (scons {c = d} {cs = cs} l r) e h =
+    let at : length d + i * w ≡ suc i * w = omega arith in
+    ap (λ (x : List ℕ). d ++ x) (flatten-set i c r e (le-of-suc-le-suc h)) ∙ sym (sets-right c d (flatten cs) (i * w))
+    ∙ ap (λ (j : ℕ). sets (d ++ flatten cs) j c) at
+
+pub padded-set : (w n : ℕ) (cs : List Cell) (i : ℕ) (c : Cell) → Sized w cs → length c ≡ w → i < length cs → padded n (set cs i c) ≡ sets (padded n cs) (i * w) c
+unfolding padded
+padded-set w n cs i c r e h =
+    let F : List ℕ = flatten cs in
+    let fits : i * w + length c ≤ length F = rw (flatten-length r) (omega (arith, mul-le-mul-right w h)) in
+    ap (λ (x : List ℕ). x ++ replicate (n - length x) 0) (flatten-set i c r e h)
+    ∙ ap (λ (m : ℕ). sets F (i * w) c ++ replicate (n - m) 0) (length-sets F (i * w) c)
+    ∙ sym (sets-left c F (replicate (n - length F) 0) (i * w) fits)
+
+pub sized-set : {w : ℕ} {cs : List Cell} (i : ℕ) (c : Cell) → Sized w cs → length c ≡ w → Sized w (set cs i c)
+sized-set i c snil e = snil
+sized-set zero c (scons l r) e = scons e r
+sized-set (suc i) c (scons l r) e = scons l (sized-set i c r e)
 
 -- ---- cells cut
 

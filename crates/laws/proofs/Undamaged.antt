@@ -1,20 +1,22 @@
 -- What the tests of a store say; the store that words with a good header hold is fine, and an undamaged store's words are the words of the store
 -- that they hold, followed by the rest of the slice. By the parts of the words, each cut into cells and padded with zeros. Assumes nothing.
 use mathlib.Core.Path.{_≡_, refl, sym, _∙_, subst, ap, ap₂}
-use mathlib.Core.Bool.{Bool, true, false, _&&_}
+use mathlib.Core.Bool.{Bool, true, false, cond, not, _&&_}
 use mathlib.Core.List.{List, [], _∷_, _++_, map}
 use Prim.Native.Nat.{ℕ, zero, suc, _+_, _-_, _*_, _<_, _≤_}
 use native.Mathlib.Omega.{arith}
-use lib.Dec.{T, leb, leb→le, le→leb}
+use borrow.Author.Tests.{not-false, le-ltb}
+use lib.Dec.{T, leb, leb→le, le→leb, ltb→lt}
 use lib.ListN.{length, take, drop, getD, replicate, length-map, length-drop, take-append-drop}
 use lib.Seq.{take-add, drop-drop, length-take-le, ext-getD, getD-take, getD-drop}
-use Rattle.paper.specs.Numbers.{tabulate, allBelow}
+use Rattle.paper.specs.Numbers.{tabulate, allBelow, allIn}
 use Rattle.paper.specs.Rooms.{depthOk}
-use Rattle.paper.specs.Store.{Cell, mostScenes, heights, used, capacityOf, scenesHeld, keptCount, zerosPlace, scenePlace, cellWords, listPlace, cellPlace, groups, keptIn, keptOf, storeOf, padded, listWords, headerWords, wordsOf, blank, capacityOk, headerOk, sceneOk, scenesBlank, listUsable, listBlank, storeOk}
-use Rattle.laws.proofs.Tests.{true-T, and-right, and5, and5-T, all-at, all-T}
+use Rattle.paper.specs.Store.{Cell, mostScenes, heights, used, capacityOf, scenesHeld, isHeld, keptCount, zerosPlace, scenePlace, cellWords, listPlace, cellPlace, groups, keptIn, keptOf, storeOf, padded, listWords, headerWords, wordsOf, blank, capacityOk, headerOk, sceneOk, isFree, placeOk, listUsable, listBlank, storeOk}
+use Rattle.paper.specs.Calls.{nextScene, noScene}
+use Rattle.laws.proofs.Tests.{T-true, true-T, and-right, and4, and5, and5-T, all-at, all-T}
 use Rattle.laws.proofs.Lists.{map-at}
 use Rattle.laws.proofs.Kept.{groups-length}
-use Rattle.laws.proofs.Kept.{kept-length, kept-tall, held-length}
+use Rattle.laws.proofs.Kept.{kept-length, kept-tall, places-length}
 use Rattle.laws.proofs.Padded.{groups-sized, blank-zeros, padded-groups}
 use Rattle.laws.proofs.Words.{Lists, lnil, lcons, Fine, gap, gap-place, list-next, list-in, words-fit}
 
@@ -56,16 +58,14 @@ pub record Undamaged (ws : List ℕ) : Type 0 where
   pub held : scenesHeld ws ≤ mostScenes
   pub few : (k : ℕ) → k < heights → keptCount ws k ≤ capacityOf ws
   pub header-zeros : T (blank ws zerosPlace 15)
-  pub scenes : (n : ℕ) → n < scenesHeld ws → T (sceneOk ws n)
-  pub scenes-zeros : T (scenesBlank ws)
+  pub places : (n : ℕ) → n < mostScenes → T (placeOk ws n)
   pub usable : (k : ℕ) → k < heights → T (listUsable (keptOf ws) k)
   pub list-zeros : (k : ℕ) → k < heights → T (listBlank ws k)
 
 store-tests : (ws : List ℕ) → T (storeOk ws)
-    → T (headerOk ws) × T (allBelow (scenesHeld ws) (sceneOk ws)) × T (scenesBlank ws) × T (allBelow heights (listUsable (keptOf ws))) × T (allBelow heights (listBlank ws))
+    → T (headerOk ws) × T (allBelow mostScenes (placeOk ws)) × T (allBelow heights (listUsable (keptOf ws))) × T (allBelow heights (listBlank ws))
 unfolding storeOk
-store-tests ws =
-    and5 (headerOk ws) (allBelow (scenesHeld ws) (sceneOk ws)) (scenesBlank ws) (allBelow heights (listUsable (keptOf ws))) (allBelow heights (listBlank ws))
+store-tests ws = and4 (headerOk ws) (allBelow mostScenes (placeOk ws)) (allBelow heights (listUsable (keptOf ws))) (allBelow heights (listBlank ws))
 
 -- an undamaged store has a good header
 pub store-header : (ws : List ℕ) → T (storeOk ws) → T (headerOk ws)
@@ -81,14 +81,32 @@ undamaged ws t =
       held = h .held;
       few = h .few;
       header-zeros = h .header-zeros;
-      scenes = all-at (scenesHeld ws) (sceneOk ws) (s .1);
-      scenes-zeros = s .2;
-      usable = all-at heights (listUsable (keptOf ws)) (s .3);
-      list-zeros = all-at heights (listBlank ws) (s .4);
+      places = all-at mostScenes (placeOk ws) (s .1);
+      usable = all-at heights (listUsable (keptOf ws)) (s .2);
+      list-zeros = all-at heights (listBlank ws) (s .3);
     }
 
 pub undamaged-headed : {ws : List ℕ} → Undamaged ws → Headed ws
 undamaged-headed u = record { long = u .long; capacity = u .capacity; held = u .held; few = u .few; header-zeros = u .header-zeros }
+
+-- a number held is no refusal 9, and any other is
+pub held-there : (ws : List ℕ) (n : ℕ) → T (isHeld ws n) → noScene ws n ≡ false
+held-there ws n t = ap not (T-true {b = isHeld ws n} t)
+
+pub there-held : (ws : List ℕ) (n : ℕ) → noScene ws n ≡ false → T (isHeld ws n)
+there-held ws n e = true-T (not-false (isHeld ws n) e)
+
+-- nothing is held under the next number
+pub next-free : (ws : List ℕ) → isHeld ws (nextScene ws) ≡ false
+next-free ws = le-ltb (scenesHeld ws) (scenesHeld ws) (omega arith)
+
+-- the number of a scene held has a place, and the scene there is not damaged
+pub held-placed : (ws : List ℕ) (n : ℕ) → scenesHeld ws ≤ mostScenes → T (isHeld ws n) → n < mostScenes
+held-placed ws n h t = omega (arith, ltb→lt n (scenesHeld ws) t)
+
+pub held-sound : {ws : List ℕ} → Undamaged ws → (n : ℕ) → T (isHeld ws n) → T (sceneOk ws n)
+unfolding placeOk
+held-sound {ws} u n t = subst (λ (b : Bool). T (cond b (sceneOk ws n) (isFree ws n))) (T-true {b = isHeld ws n} t) (u .places n (held-placed ws n (u .held) t))
 
 -- a depth in range has its list, and a test after it looks at that list only
 pub depth-low : (D : ℕ) → T (depthOk D) → D - 2 < heights
@@ -115,12 +133,13 @@ module _ (ws : List ℕ) (h : Headed ws) where
       lcons (groups-sized (cellWords j) m (drop (listPlace C j) ws) hl)
       (rw (groups-length (cellWords j) m (drop (listPlace C j) ws)) (h .few j hj)) (tables-fine n (suc j) (omega arith))
 
-  pub header-fine : Fine (capacityOf ws) (storeOf ws .scenes) (storeOf ws .kept)
+  pub header-fine : Fine (capacityOf ws) (scenesHeld ws) (storeOf ws .scenes) (storeOf ws .kept)
   unfolding storeOf keptOf
   header-fine = record {
     lists = kept-tall ws;
-    of-scenes = groups-sized 2 (scenesHeld ws) (drop (scenePlace 0) ws) (rw length-drop (omega (arith, h .long, h .held)));
-    few-scenes = rw (held-length ws) (h .held);
+    of-scenes = groups-sized 2 mostScenes (drop (scenePlace 0) ws) (rw length-drop (omega (arith, h .long)));
+    all-scenes = places-length ws;
+    few-scenes = h .held;
     of-cells = tables-fine heights 0 refl;
   }
 
@@ -131,10 +150,7 @@ take2 [] h = absurd (omega arith)
 take2 (x ∷ []) h = absurd (omega arith)
 take2 (x ∷ y ∷ ws) h = refl
 
--- the zeros of the scenes and of list j, counted in groups
-pub scenes-blank-at : (ws : List ℕ) (n : ℕ) → blank ws (scenePlace n) (2 * (mostScenes - n)) ≡ blank ws (32 + n * 2) (128 - n * 2)
-scenes-blank-at ws n = ap₂ (blank ws) (omega arith) (omega arith)
-
+-- the zeros of list j, counted in groups
 pub list-blank-at : (ws : List ℕ) (C j n : ℕ) → blank ws (cellPlace C j n) (cellWords j * (C - n)) ≡ blank ws (listPlace C j + n * cellWords j) (cellWords j * C - n * cellWords j)
 list-blank-at ws C zero n = ap₂ (blank ws) (omega arith) (omega arith)
 list-blank-at ws C (suc j) n = ap₂ (blank ws) (omega arith) (omega arith)
@@ -156,13 +172,13 @@ module _ (ws : List ℕ) (u : Undamaged ws) where
       let A : List ℕ = take 15 (drop 2 ws) in
       let whole : take 32 ws ≡ (getD ws 0 0 ∷ getD ws 1 0 ∷ A) ++ take 15 (drop 17 ws) =
       take-add 2 30 ws ∙ ap₂ (λ (x y : List ℕ). x ++ y) (take2 ws (omega (arith, u .long))) (take-add 15 15 (drop 2 ws) ∙ ap (λ (x : List ℕ). A ++ take 15 x) (drop-drop 15 2 ws)) in
-      ap₂ (λ (n : ℕ) (r : List ℕ). (getD ws 0 0 ∷ n ∷ r) ++ replicate 15 0) (held-length ws) counts-back
+      ap (λ (r : List ℕ). (getD ws 0 0 ∷ getD ws 1 0 ∷ r) ++ replicate 15 0) counts-back
       ∙ ap (λ (r : List ℕ). (getD ws 0 0 ∷ getD ws 1 0 ∷ A) ++ r) (sym (blank-zeros ws zerosPlace 15 (omega (arith, u .long)) (u .header-zeros)))
       ∙ sym whole
 
-  scenes-back : padded (2 * mostScenes) (groups 2 (scenesHeld ws) (drop (scenePlace 0) ws)) ≡ take 128 (drop 32 ws)
-  scenes-back =
-      padded-groups ws 32 2 (scenesHeld ws) 128 (omega (arith, u .held)) (omega (arith, u .long)) (subst T (scenes-blank-at ws (scenesHeld ws)) (u .scenes-zeros))
+  scenes-back : padded (2 * mostScenes) (groups 2 mostScenes (drop (scenePlace 0) ws)) ≡ take 128 (drop 32 ws)
+  unfolding blank allIn
+  scenes-back = padded-groups ws 32 2 mostScenes 128 (omega arith) (omega (arith, u .long)) tt
 
   list-back : (j : ℕ) → j < heights → padded (cellWords j * capacityOf ws) (keptIn ws j) ≡ take (cellWords j * capacityOf ws) (drop (listPlace (capacityOf ws) j) ws)
   unfolding keptIn
@@ -199,5 +215,5 @@ module _ (ws : List ℕ) (u : Undamaged ws) where
   pub wordsOf-storeOf : wordsOf (storeOf ws) ++ drop (used (capacityOf ws)) ws ≡ ws
   wordsOf-storeOf = ap (λ (x : List ℕ). x ++ drop (used (capacityOf ws)) ws) words-front ∙ take-append-drop (used (capacityOf ws)) ws
 
-  pub store-fine : Fine (capacityOf ws) (storeOf ws .scenes) (storeOf ws .kept)
+  pub store-fine : Fine (capacityOf ws) (scenesHeld ws) (storeOf ws .scenes) (storeOf ws .kept)
   store-fine = header-fine ws (undamaged-headed u)

@@ -1,19 +1,19 @@
 -- Words behind those that a store uses are not looked at: each reader and each test of a store long enough gives the same with words behind it.
 -- By the places that each looks at, all of them inside. Assumes nothing.
 use mathlib.Core.Path.{_≡_, refl, sym, ap, ap₂, _∙_}
-use mathlib.Core.Bool.{Bool, true, false, not, _&&_}
+use mathlib.Core.Bool.{Bool, true, false, cond, not, _&&_}
 use mathlib.Core.List.{List, _∷_, _++_}
 use Prim.Native.Nat.{ℕ, zero, suc, _+_, _-_, _*_, _<_, _≤_}
 use native.Mathlib.Nat.{zero-add, mul-le-mul-left, mul-sub}
 use native.Mathlib.Omega.{arith}
 use borrow.Author.Tests.{le-leb}
-use lib.Dec.{T, eqb, leb}
+use lib.Dec.{T, eqb, leb, ltb}
 use lib.ListN.{length, take, drop, getD, length-append, length-drop, List·getD-append}
 use lib.Seq.{take-append-le, drop-append-le}
 use Rattle.paper.specs.Numbers.{allBelow, allIn}
 use Rattle.paper.specs.Rooms.{depthOk}
-use Rattle.paper.specs.Store.{Cell, badPointer, mostScenes, heights, used, capacityOf, scenesHeld, keptCount, zerosPlace, scenePlace, cellWords, listPlace, cellPlace}
-use Rattle.paper.specs.Store.{groups, keptIn, keptOf, storeOf, sceneDepth, sceneRoot, blank, capacityOk, headerOk, sceneOk, listUsable, scenesBlank, listBlank, storeOk}
+use Rattle.paper.specs.Store.{Cell, badPointer, mostScenes, heights, used, capacityOf, scenesHeld, isHeld, keptCount, zerosPlace, scenePlace, cellWords, listPlace, cellPlace}
+use Rattle.paper.specs.Store.{groups, keptIn, keptOf, storeOf, sceneDepth, sceneRoot, blank, capacityOk, headerOk, sceneOk, placeOk, listUsable, listBlank, storeOk}
 use Rattle.laws.proofs.Tests.{true-T, all-same}
 use Rattle.laws.proofs.Lists.{tabulate-same}
 use Rattle.laws.proofs.Words.{list-in}
@@ -57,6 +57,9 @@ module _ (f r : List ℕ) (whole : used (capacityOf f) ≤ length f) where
   pub held-unseen : scenesHeld (f ++ r) ≡ scenesHeld f
   held-unseen = word-unseen 1 (omega arith)
 
+  pub number-unseen : (n : ℕ) → isHeld (f ++ r) n ≡ isHeld f n
+  number-unseen n = ap (ltb n) held-unseen
+
   pub count-unseen : (k : ℕ) → k < heights → keptCount (f ++ r) k ≡ keptCount f k
   count-unseen k h = word-unseen (2 + k) (omega arith)
 
@@ -90,18 +93,16 @@ module _ (f r : List ℕ) (whole : used (capacityOf f) ≤ length f) where
     pub store-unseen : storeOf (f ++ r) ≡ storeOf f
     unfolding storeOf
     store-unseen =
-        let h : Headed f = headed f head in
-        let scenes : groups 2 (scenesHeld (f ++ r)) (drop 32 (f ++ r)) ≡ groups 2 (scenesHeld f) (drop 32 f) =
-        ap (λ (n : ℕ). groups 2 n (drop 32 (f ++ r))) held-unseen ∙ groups-part 2 (scenesHeld f) 32 f r (omega (arith, h .held)) in
-        λ i. record { capacity = capacity-unseen i; scenes = scenes i; kept = kept-unseen i }
+        let scenes : groups 2 mostScenes (drop 32 (f ++ r)) ≡ groups 2 mostScenes (drop 32 f) = groups-part 2 mostScenes 32 f r (omega arith) in
+        λ i. record { capacity = capacity-unseen i; held = held-unseen i; scenes = scenes i; kept = kept-unseen i }
 
-    pub depth-unseen : (n : ℕ) → n < scenesHeld f → sceneDepth (f ++ r) n ≡ sceneDepth f n
-    depth-unseen n l = word-unseen (scenePlace n) (omega (arith, headed f head .held))
+    pub depth-unseen : (n : ℕ) → n < mostScenes → sceneDepth (f ++ r) n ≡ sceneDepth f n
+    depth-unseen n l = word-unseen (scenePlace n) (omega arith)
 
-    pub root-unseen : (n : ℕ) → n < scenesHeld f → sceneRoot (f ++ r) n ≡ sceneRoot f n
-    root-unseen n l = word-unseen (scenePlace n + 1) (omega (arith, headed f head .held))
+    pub root-unseen : (n : ℕ) → n < mostScenes → sceneRoot (f ++ r) n ≡ sceneRoot f n
+    root-unseen n l = word-unseen (scenePlace n + 1) (omega arith)
 
-    pub scene-unseen : (n : ℕ) → n < scenesHeld f → sceneOk (f ++ r) n ≡ sceneOk f n
+    pub scene-unseen : (n : ℕ) → n < mostScenes → sceneOk (f ++ r) n ≡ sceneOk f n
     unfolding sceneOk
     scene-unseen n l =
         let p : ℕ = sceneRoot f n in
@@ -109,11 +110,10 @@ module _ (f r : List ℕ) (whole : used (capacityOf f) ≤ length f) where
         ∙ depth-list (sceneDepth f n) (λ k. not (badPointer (keptCount (f ++ r) k) p)) (λ k. not (badPointer (keptCount f k) p))
         (λ k m. ap (λ (c : ℕ). not (badPointer c p)) (count-unseen k m))
 
-    scenes-blank-unseen : scenesBlank (f ++ r) ≡ scenesBlank f
-    scenes-blank-unseen =
-        let n : ℕ = scenesHeld f in
-        ap (λ (m : ℕ). blank (f ++ r) (scenePlace m) (2 * (mostScenes - m))) held-unseen
-        ∙ blank-part f r (scenePlace n) (2 * (mostScenes - n)) (omega (arith, headed f head .held))
+    place-unseen : (n : ℕ) → n < mostScenes → placeOk (f ++ r) n ≡ placeOk f n
+    unfolding placeOk
+    place-unseen n l =
+        λ i. cond (number-unseen n i) (scene-unseen n l i) (eqb (depth-unseen n l i) 0 && eqb (root-unseen n l i) 0)
 
     list-blank-unseen : (k : ℕ) → k < heights → listBlank (f ++ r) k ≡ listBlank f k
     list-blank-unseen k l =
@@ -127,9 +127,7 @@ module _ (f r : List ℕ) (whole : used (capacityOf f) ≤ length f) where
     tests-unseen : storeOk (f ++ r) ≡ storeOk f
     unfolding storeOk
     tests-unseen =
-        let scenes : allBelow (scenesHeld (f ++ r)) (sceneOk (f ++ r)) ≡ allBelow (scenesHeld f) (sceneOk f) =
-        ap (λ (n : ℕ). allBelow n (sceneOk (f ++ r))) held-unseen ∙ all-same (scenesHeld f) (sceneOk (f ++ r)) (sceneOk f) scene-unseen in
-        ap₂ _&&_ (ap₂ _&&_ (ap₂ _&&_ (ap₂ _&&_ header-unseen scenes) scenes-blank-unseen) (ap (λ (K : List (List Cell)). allBelow heights (listUsable K)) kept-unseen))
+        ap₂ _&&_ (ap₂ _&&_ (ap₂ _&&_ header-unseen (all-same mostScenes (placeOk (f ++ r)) (placeOk f) place-unseen)) (ap (λ (K : List (List Cell)). allBelow heights (listUsable K)) kept-unseen))
         (all-same heights (listBlank (f ++ r)) (listBlank f) list-blank-unseen)
 
   pub undamaged-unseen : storeOk (f ++ r) ≡ storeOk f

@@ -10,7 +10,7 @@ use lib.Seq.{sets, set-append-left, drop-at, ext-getD}
 use Rattle.paper.specs.Store.{Cell, Store, mostScenes, heights, used, capacityOf, scenesHeld, keptCount, zerosPlace, scenePlace, cellWords, listPlace, cellPlace, groups, keptIn, keptOf, storeOf, padded, listWords, headerWords, wordsOf}
 use Rattle.laws.proofs.Put.{sets-right, sets-left, drop-past}
 use Rattle.laws.proofs.Put.{put, stored-before}
-use Rattle.laws.proofs.Padded.{Sized, padded-length, sized-snoc, padded-snoc}
+use Rattle.laws.proofs.Padded.{Sized, padded-length, sized-snoc, padded-snoc, sized-set, padded-set}
 use Rattle.laws.proofs.Padded.{groups-padded}
 use Rattle.laws.proofs.Lists.{length-snoc, map-at}
 use Rattle.laws.proofs.Kept.{kept-list, kept-tall}
@@ -116,18 +116,20 @@ lists-snoc {C} {j} (lcons r q t) (suc m) c e l =
 
 -- ---- the whole store
 
-abbrev pub storeWith : ℕ → List Cell → List (List Cell) → Store
-storeWith C S Ks = record { capacity = C; scenes = S; kept = Ks }
+-- its capacity, how many scenes are held, the places of scenes, the lists
+abbrev pub storeWith : ℕ → ℕ → List Cell → List (List Cell) → Store
+storeWith C N S Ks = record { capacity = C; held = N; scenes = S; kept = Ks }
 
 -- its words, and l behind them
-abbrev pub stored : ℕ → List Cell → List (List Cell) → List ℕ → List ℕ
-stored C S Ks l = wordsOf (storeWith C S Ks) ++ l
+abbrev pub stored : ℕ → ℕ → List Cell → List (List Cell) → List ℕ → List ℕ
+stored C N S Ks l = wordsOf (storeWith C N S Ks) ++ l
 
 -- a store that its words can hold
-pub record Fine (C : ℕ) (S : List Cell) (Ks : List (List Cell)) : Type 0 where
+pub record Fine (C N : ℕ) (S : List Cell) (Ks : List (List Cell)) : Type 0 where
   pub lists : length Ks ≡ heights
   pub of-scenes : Sized 2 S
-  pub few-scenes : length S ≤ mostScenes
+  pub all-scenes : length S ≡ mostScenes
+  pub few-scenes : N ≤ mostScenes
   pub of-cells : Lists C 0 Ks
 
 two-add : (n : ℕ) → 2 + n ≡ suc (suc n)
@@ -138,40 +140,40 @@ map-set g [] k X = refl
 map-set g (L ∷ Ls) zero X = refl
 map-set g (L ∷ Ls) (suc k) X = ap {B = List ℕ} (λ r. g L ∷ r) (map-set g Ls k X)
 
-module _ (C : ℕ) (S : List Cell) (Ks : List (List Cell)) (f : Fine C S Ks) where
-  pub header-length : length (headerWords (storeWith C S Ks)) ≡ 32
+module _ (C N : ℕ) (S : List Cell) (Ks : List (List Cell)) (f : Fine C N S Ks) where
+  pub header-length : length (headerWords (storeWith C N S Ks)) ≡ 32
   header-length = simp (length-append, length-map, length-replicate) (omega (arith, f .lists))
 
   pub scenes-length : length (padded (2 * mostScenes) S) ≡ 2 * mostScenes
-  scenes-length = padded-length (2 * mostScenes) (f .of-scenes) (omega (arith, f .few-scenes))
+  scenes-length = padded-length (2 * mostScenes) (f .of-scenes) (omega (arith, f .all-scenes))
 
   cells-length : length (listWords C 0 Ks) ≡ 114 * C
   cells-length = listWords-length (f .of-cells) ∙ ap (gap C 0) (f .lists) ∙ omega (arith, gap-place C 15)
 
   -- 'it uses the first 160 + 114C words'
-  pub wordsOf-length : length (wordsOf (storeWith C S Ks)) ≡ used C
+  pub wordsOf-length : length (wordsOf (storeWith C N S Ks)) ≡ used C
   unfolding wordsOf
   wordsOf-length =
       let P : List ℕ = padded (2 * mostScenes) S in
       let L : List ℕ = listWords C 0 Ks in
-      length-append (headerWords (storeWith C S Ks)) (P ++ L) ∙ omega (arith, length-append P L, header-length, scenes-length, cells-length)
+      length-append (headerWords (storeWith C N S Ks)) (P ++ L) ∙ omega (arith, length-append P L, header-length, scenes-length, cells-length)
 
-  pub header-set : (k : ℕ) (X : List Cell) → k < length Ks → headerWords (storeWith C S (set Ks k X)) ≡ set (headerWords (storeWith C S Ks)) (2 + k) (length X)
+  pub header-set : (k : ℕ) (X : List Cell) → k < length Ks → headerWords (storeWith C N S (set Ks k X)) ≡ set (headerWords (storeWith C N S Ks)) (2 + k) (length X)
   header-set k X h =
       let m : List ℕ = map (length {A = Cell}) Ks in
       rw two-add
-      (ap (λ (r : List ℕ). C ∷ length S ∷ (r ++ replicate 15 0)) (map-set length Ks k X)
-      ∙ ap (λ (r : List ℕ). C ∷ length S ∷ r) (sym (set-append-left m (replicate 15 0) k (length X) (rw (length-map Ks length) h))))
+      (ap (λ (r : List ℕ). C ∷ N ∷ (r ++ replicate 15 0)) (map-set length Ks k X)
+      ∙ ap (λ (r : List ℕ). C ∷ N ∷ r) (sym (set-append-left m (replicate 15 0) k (length X) (rw (length-map Ks length) h))))
 
   -- a cell more in list k: its count, and its words behind those of the others
   pub keep-words : (k : ℕ) (c : Cell) → k < heights → length c ≡ cellWords k → length (getD Ks k []) < C
-      → wordsOf (storeWith C S (set Ks k (getD Ks k [] ++ (c ∷ []))))
-      ≡ sets (set (wordsOf (storeWith C S Ks)) (2 + k) (suc (length (getD Ks k [])))) (cellPlace C k (length (getD Ks k []))) c
+      → wordsOf (storeWith C N S (set Ks k (getD Ks k [] ++ (c ∷ []))))
+      ≡ sets (set (wordsOf (storeWith C N S Ks)) (2 + k) (suc (length (getD Ks k [])))) (cellPlace C k (length (getD Ks k []))) c
   unfolding wordsOf
   keep-words k c hk e l =
       let n : ℕ = length (getD Ks k []) in
       let X : List Cell = getD Ks k [] ++ (c ∷ []) in
-      let H : List ℕ = headerWords (storeWith C S Ks) in
+      let H : List ℕ = headerWords (storeWith C N S Ks) in
       let P : List ℕ = padded (2 * mostScenes) S in
       let L : List ℕ = listWords C 0 Ks in
       let H′ : List ℕ = set H (2 + k) (suc n) in
@@ -184,55 +186,54 @@ module _ (C : ℕ) (S : List Cell) (Ks : List (List Cell)) (f : Fine C S Ks) whe
       ∙ ap₂ (λ (x : List ℕ) (i : ℕ). sets x i c) (sym (set-append-left H (P ++ L) (2 + k) (suc n) (omega (arith, header-length))))
       (rw ck (omega (arith, length-set H (2 + k) (suc n), header-length, scenes-length, gap-place C k)))
 
-  pub keep-fine : (k : ℕ) (c : Cell) → length c ≡ cellWords k → length (getD Ks k []) < C → Fine C S (set Ks k (getD Ks k [] ++ (c ∷ [])))
+  pub keep-fine : (k : ℕ) (c : Cell) → length c ≡ cellWords k → length (getD Ks k []) < C → Fine C N S (set Ks k (getD Ks k [] ++ (c ∷ [])))
   keep-fine k c e l = record {
     lists = length-set Ks k (getD Ks k [] ++ (c ∷ [])) ∙ f .lists;
     of-scenes = f .of-scenes;
+    all-scenes = f .all-scenes;
     few-scenes = f .few-scenes;
     of-cells = lists-snoc (f .of-cells) k c (e ∙ ap cellWords (sym (zero-add k))) l;
   }
 
-  -- a scene more: the count of scenes, and its two words
-  pub scene-words : (c : Cell) → length c ≡ 2 → length S < mostScenes
-      → wordsOf (storeWith C (S ++ (c ∷ [])) Ks) ≡ sets (set (wordsOf (storeWith C S Ks)) 1 (suc (length S))) (scenePlace (length S)) c
+  -- a scene more, at place i: the count of scenes, and its two words
+  pub scene-words : (i : ℕ) (c : Cell) → length c ≡ 2 → i < mostScenes
+      → wordsOf (storeWith C (suc N) (set S i c) Ks) ≡ sets (set (wordsOf (storeWith C N S Ks)) 1 (suc N)) (scenePlace i) c
   unfolding wordsOf
-  scene-words c e l =
-      let n : ℕ = length S in
-      let H : List ℕ = headerWords (storeWith C S Ks) in
+  scene-words i c e l =
+      let H : List ℕ = headerWords (storeWith C N S Ks) in
       let P : List ℕ = padded (2 * mostScenes) S in
       let L : List ℕ = listWords C 0 Ks in
-      let H′ : List ℕ = set H 1 (suc n) in
-      ap₂ (λ (h r : List ℕ). h ++ (r ++ L)) (ap (λ (m : ℕ). C ∷ m ∷ (map (length {A = Cell}) Ks ++ replicate 15 0)) (length-snoc S c))
-      (padded-snoc 2 (2 * mostScenes) S c (f .of-scenes) e (omega arith))
-      ∙ ap (λ (r : List ℕ). H′ ++ r) (sym (sets-left c P L (n * 2) (omega (arith, scenes-length))))
-      ∙ sym (sets-right c H′ (P ++ L) (n * 2))
-      ∙ ap₂ (λ (x : List ℕ) (i : ℕ). sets x i c) (sym (set-append-left H (P ++ L) 1 (suc n) (omega (arith, header-length))))
-      (omega (arith, length-set H 1 (suc n), header-length))
+      let H′ : List ℕ = set H 1 (suc N) in
+      ap (λ (r : List ℕ). H′ ++ (r ++ L)) (padded-set 2 (2 * mostScenes) S i c (f .of-scenes) e (omega (arith, f .all-scenes)))
+      ∙ ap (λ (r : List ℕ). H′ ++ r) (sym (sets-left c P L (i * 2) (omega (arith, scenes-length))))
+      ∙ sym (sets-right c H′ (P ++ L) (i * 2))
+      ∙ ap₂ (λ (x : List ℕ) (j : ℕ). sets x j c) (sym (set-append-left H (P ++ L) 1 (suc N) (omega (arith, header-length))))
+      (omega (arith, length-set H 1 (suc N), header-length))
 
-  pub scene-fine : (c : Cell) → length c ≡ 2 → length S < mostScenes → Fine C (S ++ (c ∷ [])) Ks
-  scene-fine c e l = record {
+  pub scene-fine : (i : ℕ) (c : Cell) → length c ≡ 2 → N < mostScenes → Fine C (suc N) (set S i c) Ks
+  scene-fine i c e l = record {
     lists = f .lists;
-    of-scenes = sized-snoc c (f .of-scenes) e;
-    few-scenes = rw (length-snoc S c) l;
+    of-scenes = sized-set i c (f .of-scenes) e;
+    all-scenes = length-set S i c ∙ f .all-scenes;
+    few-scenes = l;
     of-cells = f .of-cells;
   }
 
   -- the same with other words x behind
   pub keep-words-before : (k : ℕ) (c : Cell) (x : List ℕ) → k < heights → length c ≡ cellWords k → length (getD Ks k []) < C
-      → wordsOf (storeWith C S (set Ks k (getD Ks k [] ++ (c ∷ [])))) ++ x
-      ≡ put (cellPlace C k (length (getD Ks k []))) c (set (wordsOf (storeWith C S Ks) ++ x) (2 + k) (suc (length (getD Ks k []))))
+      → wordsOf (storeWith C N S (set Ks k (getD Ks k [] ++ (c ∷ [])))) ++ x
+      ≡ put (cellPlace C k (length (getD Ks k []))) c (set (wordsOf (storeWith C N S Ks) ++ x) (2 + k) (suc (length (getD Ks k []))))
   keep-words-before k c x h e l =
       let n : ℕ = length (getD Ks k []) in
       ap (λ (r : List ℕ). r ++ x) (keep-words k c h e l)
-      ∙ stored-before (wordsOf (storeWith C S Ks)) x c (cellPlace C k n) (2 + k) (suc n)
+      ∙ stored-before (wordsOf (storeWith C N S Ks)) x c (cellPlace C k n) (2 + k) (suc n)
       (omega (arith, wordsOf-length)) (omega (arith, wordsOf-length, list-in C k h, mul-le-mul-left (cellWords k) l))
 
-  pub scene-words-before : (c : Cell) (x : List ℕ) → length c ≡ 2 → length S < mostScenes
-      → wordsOf (storeWith C (S ++ (c ∷ [])) Ks) ++ x ≡ put (scenePlace (length S)) c (set (wordsOf (storeWith C S Ks) ++ x) 1 (suc (length S)))
-  scene-words-before c x e l =
-      let n : ℕ = length S in
-      ap (λ (r : List ℕ). r ++ x) (scene-words c e l)
-      ∙ stored-before (wordsOf (storeWith C S Ks)) x c (scenePlace n) 1 (suc n) (omega (arith, wordsOf-length)) (omega (arith, wordsOf-length))
+  pub scene-words-before : (i : ℕ) (c : Cell) (x : List ℕ) → length c ≡ 2 → i < mostScenes
+      → wordsOf (storeWith C (suc N) (set S i c) Ks) ++ x ≡ put (scenePlace i) c (set (wordsOf (storeWith C N S Ks) ++ x) 1 (suc N))
+  scene-words-before i c x e l =
+      ap (λ (r : List ℕ). r ++ x) (scene-words i c e l)
+      ∙ stored-before (wordsOf (storeWith C N S Ks)) x c (scenePlace i) 1 (suc N) (omega (arith, wordsOf-length)) (omega (arith, wordsOf-length))
 
   -- the cells of list k
   pub cells-sized : (k : ℕ) → k < heights → Sized (cellWords k) (getD Ks k [])
@@ -245,16 +246,16 @@ module _ (C : ℕ) (S : List Cell) (Ks : List (List Cell)) (f : Fine C S Ks) whe
 
   module _ (l : List ℕ) where
     abbrev ws : List ℕ
-    ws = stored C S Ks l
+    ws = stored C N S Ks l
 
-    parts : ws ≡ headerWords (storeWith C S Ks) ++ (padded (2 * mostScenes) S ++ (listWords C 0 Ks ++ l))
+    parts : ws ≡ headerWords (storeWith C N S Ks) ++ (padded (2 * mostScenes) S ++ (listWords C 0 Ks ++ l))
     unfolding wordsOf
     parts =
-        append-assoc (headerWords (storeWith C S Ks)) (padded (2 * mostScenes) S ++ listWords C 0 Ks) l
-        ∙ ap (λ (r : List ℕ). headerWords (storeWith C S Ks) ++ r) (append-assoc (padded (2 * mostScenes) S) (listWords C 0 Ks) l)
+        append-assoc (headerWords (storeWith C N S Ks)) (padded (2 * mostScenes) S ++ listWords C 0 Ks) l
+        ∙ ap (λ (r : List ℕ). headerWords (storeWith C N S Ks) ++ r) (append-assoc (padded (2 * mostScenes) S) (listWords C 0 Ks) l)
 
     past-header : (n : ℕ) → drop (32 + n) ws ≡ drop n (padded (2 * mostScenes) S ++ (listWords C 0 Ks ++ l))
-    past-header n = ap (drop (32 + n)) parts ∙ drop-past (headerWords (storeWith C S Ks)) (padded (2 * mostScenes) S ++ (listWords C 0 Ks ++ l)) 32 n header-length
+    past-header n = ap (drop (32 + n)) parts ∙ drop-past (headerWords (storeWith C N S Ks)) (padded (2 * mostScenes) S ++ (listWords C 0 Ks ++ l)) 32 n header-length
 
     past-scenes : (n : ℕ) → drop (160 + n) ws ≡ drop n (listWords C 0 Ks ++ l)
     past-scenes n =
@@ -262,34 +263,34 @@ module _ (C : ℕ) (S : List Cell) (Ks : List (List Cell)) (f : Fine C S Ks) whe
         ap (λ (m : ℕ). drop m ws) e ∙ past-header (2 * mostScenes + n) ∙ drop-past (padded (2 * mostScenes) S) (listWords C 0 Ks ++ l) (2 * mostScenes) n scenes-length
 
     -- what stands at each place: the zeros of the header, the scenes, list k
-    pub zeros-from : take 15 (drop zerosPlace (wordsOf (storeWith C S Ks) ++ l)) ≡ replicate 15 0
+    pub zeros-from : take 15 (drop zerosPlace (wordsOf (storeWith C N S Ks) ++ l)) ≡ replicate 15 0
     zeros-from =
-        let H : List ℕ = C ∷ length S ∷ map (length {A = Cell}) Ks in
+        let H : List ℕ = C ∷ N ∷ map (length {A = Cell}) Ks in
         let r : List ℕ = padded (2 * mostScenes) S ++ (listWords C 0 Ks ++ l) in
         ap (λ (x : List ℕ). take 15 (drop 17 x)) (parts ∙ append-assoc H (replicate 15 0) r)
         ∙ ap (take 15) (drop-at H (replicate 15 0 ++ r) 17 (omega (arith, length-map Ks length, f .lists)))
 
-    pub scenes-from : drop 32 (wordsOf (storeWith C S Ks) ++ l) ≡ padded (2 * mostScenes) S ++ (listWords C 0 Ks ++ l)
+    pub scenes-from : drop 32 (wordsOf (storeWith C N S Ks) ++ l) ≡ padded (2 * mostScenes) S ++ (listWords C 0 Ks ++ l)
     scenes-from = past-header 0
 
-    pub cells-from : (k : ℕ) → k < heights → drop (listPlace C k) (wordsOf (storeWith C S Ks) ++ l) ≡ padded (cellWords k * C) (getD Ks k []) ++ (listWords C (suc k) (drop (suc k) Ks) ++ l)
+    pub cells-from : (k : ℕ) → k < heights → drop (listPlace C k) (wordsOf (storeWith C N S Ks) ++ l) ≡ padded (cellWords k * C) (getD Ks k []) ++ (listWords C (suc k) (drop (suc k) Ks) ++ l)
     cells-from k h =
         ap (λ (n : ℕ). drop n ws) (sym (gap-place C k)) ∙ past-scenes (gap C 0 k) ∙ listWords-from l (f .of-cells) k (omega (arith, f .lists))
         ∙ ap (λ (n : ℕ). padded (cellWords n * C) (getD Ks k []) ++ (listWords C (suc n) (drop (suc k) Ks) ++ l)) (zero-add k)
 
     -- what the words give back
-    pub capacity-read : capacityOf (wordsOf (storeWith C S Ks) ++ l) ≡ C
+    pub capacity-read : capacityOf (wordsOf (storeWith C N S Ks) ++ l) ≡ C
     capacity-read = ap (λ (x : List ℕ). getD x 0 0) parts
 
-    pub scenes-read : scenesHeld (wordsOf (storeWith C S Ks) ++ l) ≡ length S
+    pub scenes-read : scenesHeld (wordsOf (storeWith C N S Ks) ++ l) ≡ N
     scenes-read = ap (λ (x : List ℕ). getD x 1 0) parts
 
-    pub count-read : (k : ℕ) → k < heights → keptCount (wordsOf (storeWith C S Ks) ++ l) k ≡ length (getD Ks k [])
+    pub count-read : (k : ℕ) → k < heights → keptCount (wordsOf (storeWith C N S Ks) ++ l) k ≡ length (getD Ks k [])
     count-read k h =
         let r : List ℕ = padded (2 * mostScenes) S ++ (listWords C 0 Ks ++ l) in
         let m : List ℕ = map (length {A = Cell}) Ks in
         let hk : k < length Ks = omega (arith, f .lists) in
-        ap₂ (λ (x : List ℕ) (i : ℕ). getD x i 0) (parts ∙ append-assoc (C ∷ length S ∷ m) (replicate 15 0) r) (two-add k)
+        ap₂ (λ (x : List ℕ) (i : ℕ). getD x i 0) (parts ∙ append-assoc (C ∷ N ∷ m) (replicate 15 0) r) (two-add k)
         ∙ List·getD-append m (replicate 15 0 ++ r) 0 k (rw (length-map Ks length) hk) ∙ map-at length Ks k [] 0 hk
 
     list-read : (k : ℕ) → k < heights → keptIn ws k ≡ getD Ks k []
@@ -299,17 +300,18 @@ module _ (C : ℕ) (S : List Cell) (Ks : List (List Cell)) (f : Fine C S Ks) whe
         ∙ ap (groups (cellWords k) (length (getD Ks k []))) (cells-from k h)
         ∙ groups-padded (cellWords k * C) (listWords C (suc k) (drop (suc k) Ks) ++ l) (cells-sized k h)
 
-    pub kept-read : keptOf (wordsOf (storeWith C S Ks) ++ l) ≡ Ks
+    pub kept-read : keptOf (wordsOf (storeWith C N S Ks) ++ l) ≡ Ks
     kept-read =
         ext-getD [] (keptOf ws) Ks (kept-tall ws ∙ sym (f .lists))
         (λ k h.
         let hk : k < heights = omega (arith, kept-tall ws) in
         kept-list ws k hk ∙ list-read k hk)
 
-    held-read : groups 2 (scenesHeld ws) (drop (scenePlace 0) ws) ≡ S
-    held-read = ap₂ (groups 2) scenes-read scenes-from ∙ groups-padded (2 * mostScenes) (listWords C 0 Ks ++ l) (f .of-scenes)
+    places-read : groups 2 mostScenes (drop (scenePlace 0) ws) ≡ S
+    places-read =
+        ap₂ (groups 2) (sym (f .all-scenes)) scenes-from ∙ groups-padded (2 * mostScenes) (listWords C 0 Ks ++ l) (f .of-scenes)
 
     -- the words give the store back, whatever follows them
-    pub storeOf-wordsOf : storeOf (wordsOf (storeWith C S Ks) ++ l) ≡ storeWith C S Ks
+    pub storeOf-wordsOf : storeOf (wordsOf (storeWith C N S Ks) ++ l) ≡ storeWith C N S Ks
     unfolding storeOf
-    storeOf-wordsOf = λ i. storeWith (capacity-read i) (held-read i) (kept-read i)
+    storeOf-wordsOf = λ i. storeWith (capacity-read i) (scenes-read i) (places-read i) (kept-read i)

@@ -1,7 +1,7 @@
 -- Document 01, 'The store': the cells and scenes that a store holds, the words that hold them, and when a store is damaged. Definitions only.
 -- Heights are counted from 2: list k has the cells of height k + 2, so list 0 has the leaves. A cell is its words: a leaf two, high first,
 -- any other eight pointers.
-use mathlib.Core.Bool.{Bool, not, _&&_}
+use mathlib.Core.Bool.{Bool, cond, not, _&&_}
 use mathlib.Core.List.{List, [], _∷_, _++_, map}
 use Prim.Native.Nat.{ℕ, zero, suc, _+_, _-_, _*_, _/_, _%_, _^_}
 use lib.Dec.{eqb, leb, ltb}
@@ -12,9 +12,11 @@ use Rattle.paper.specs.Rooms.{depthOk}
 abbrev pub Cell : Type 0
 Cell = List ℕ
 
--- what a store holds: its capacity, its scenes (depth and root pointer), and the cells kept at each height
+-- what a store holds: its capacity, how many scenes are held, the places of scenes (depth and root pointer; a free one two zeros), and the
+-- cells kept at each height
 pub record Store : Type 0 where
   pub capacity : ℕ
+  pub held : ℕ
   pub scenes : List Cell
   pub kept : List (List Cell)
 
@@ -84,6 +86,10 @@ capacityOf ws = getD ws 0 0
 abbrev pub scenesHeld : List ℕ → ℕ
 scenesHeld ws = getD ws 1 0
 
+-- is a scene held under number n
+abbrev pub isHeld : List ℕ → ℕ → Bool
+isHeld ws n = ltb n (scenesHeld ws)
+
 abbrev pub keptCount : List ℕ → ℕ → ℕ
 keptCount ws k = getD ws (2 + k) 0
 
@@ -121,7 +127,12 @@ unfoldable pub keptOf : List ℕ → List (List Cell)
 keptOf ws = tabulate 0 heights (keptIn ws)
 
 unfoldable pub storeOf : List ℕ → Store
-storeOf ws = record { capacity = capacityOf ws; scenes = groups 2 (scenesHeld ws) (drop (scenePlace 0) ws); kept = keptOf ws }
+storeOf ws = record {
+  capacity = capacityOf ws;
+  held = scenesHeld ws;
+  scenes = groups 2 mostScenes (drop (scenePlace 0) ws);
+  kept = keptOf ws;
+}
 
 -- a scene's two words
 abbrev pub sceneDepth : List ℕ → ℕ → ℕ
@@ -142,14 +153,17 @@ listWords C k [] = []
 listWords C k (cs ∷ Ks) = padded (cellWords k * C) cs ++ listWords C (suc k) Ks
 
 abbrev pub headerWords : Store → List ℕ
-headerWords s = s .capacity ∷ length (s .scenes) ∷ map length (s .kept) ++ replicate (firstScene - zerosPlace) 0
+headerWords s = s .capacity ∷ s .held ∷ map length (s .kept) ++ replicate (firstScene - zerosPlace) 0
 
 unfoldable pub wordsOf : Store → List ℕ
 wordsOf s = headerWords s ++ (padded (2 * mostScenes) (s .scenes) ++ listWords (s .capacity) 0 (s .kept))
 
--- a store with nothing in it
+-- a place that holds no scene, and a store with nothing in it
+abbrev pub freePlace : Cell
+freePlace = 0 ∷ 0 ∷ []
+
 unfoldable pub emptyStore : ℕ → Store
-emptyStore C = record { capacity = C; scenes = []; kept = replicate heights [] }
+emptyStore C = record { capacity = C; held = 0; scenes = replicate mostScenes freePlace; kept = replicate heights [] }
 
 -- ---- damage
 
@@ -170,6 +184,13 @@ headerOk ws =
 unfoldable pub sceneOk : List ℕ → ℕ → Bool
 sceneOk ws n = depthOk (sceneDepth ws n) && not (badPointer (keptCount ws (sceneDepth ws n - 2)) (sceneRoot ws n))
 
+-- neither place n of the scenes: a scene held is not damaged, any other place is two zeros
+abbrev pub isFree : List ℕ → ℕ → Bool
+isFree ws n = eqb (sceneDepth ws n) 0 && eqb (sceneRoot ws n) 0
+
+unfoldable pub placeOk : List ℕ → ℕ → Bool
+placeOk ws n = cond (isHeld ws n) (sceneOk ws n) (isFree ws n)
+
 -- a kept cell that may stand in a store ('used cells'): a leaf with a voxel; any other with a child and no bad pointer
 unfoldable pub leafUsable : Cell → Bool
 leafUsable c = ltb 0 (leafNo c)
@@ -181,16 +202,13 @@ unfoldable pub listUsable : List (List Cell) → ℕ → Bool
 listUsable K zero = allIn leafUsable (cellsAt K 0)
 listUsable K (suc k) = allIn (cellUsable (length (cellsAt K k))) (cellsAt K (suc k))
 
--- nothing stands past the scenes held, nor past the cells kept in list k
-abbrev pub scenesBlank : List ℕ → Bool
-scenesBlank ws = blank ws (scenePlace (scenesHeld ws)) (2 * (mostScenes - scenesHeld ws))
-
+-- nothing stands past the cells kept in list k
 abbrev pub listBlank : List ℕ → ℕ → Bool
 listBlank ws k =
     blank ws (cellPlace (capacityOf ws) k (keptCount ws k)) (cellWords k * (capacityOf ws - keptCount ws k))
 
--- the whole store is not damaged ('for the whole store'): its header, every scene held, every kept cell, and nothing where nothing is held or kept
+-- the whole store is not damaged ('for the whole store'): its header, every place of a scene, every kept cell, and nothing where nothing is kept
 unfoldable pub storeOk : List ℕ → Bool
 storeOk ws =
-    headerOk ws && allBelow (scenesHeld ws) (sceneOk ws) && scenesBlank ws
-    && allBelow heights (listUsable (keptOf ws)) && allBelow heights (listBlank ws)
+    headerOk ws && allBelow mostScenes (placeOk ws) && allBelow heights (listUsable (keptOf ws))
+    && allBelow heights (listBlank ws)

@@ -1,4 +1,4 @@
-// The whole store's tests: every scene held, every cell kept, and the unused words.
+// The whole store's tests: every place of a scene, every cell kept, and the unused words.
 ghost use mathlib.Core.Path.{_≡_};
 ghost use mathlib.Core.Bool.{not};
 ghost use Prim.Native.Nat.{_≤_, _<_};
@@ -17,7 +17,6 @@ use crate::header::kept_count;
 use crate::header::not_blank;
 use crate::pointers::cell_bad;
 use crate::scenes::scenes_bad;
-use crate::scenes::scenes_not_blank;
 
 // Whether a kept leaf is empty.
 fn leaves_bad(store: &[u32]) -> bool
@@ -107,9 +106,6 @@ pub fn store_bad(store: &[u32]) -> bool
         return true;
     }
     if scenes_bad(store) {
-        return true;
-    }
-    if scenes_not_blank(store) {
         return true;
     }
     if lists_bad(store) {

@@ -23,6 +23,7 @@ pub use header::MOST_SCENES;
 pub use header::capacity;
 pub use header::header_bad;
 pub use header::kept_count;
+pub use header::not_held;
 pub use header::scenes_held;
 pub use mirrors::mirrored;
 pub use mirrors::turned;
