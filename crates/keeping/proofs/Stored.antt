@@ -8,7 +8,7 @@ use native.Mathlib.Omega.{arith}
 use lib.Dec.{T}
 use lib.ListN.{length, set, length-append, length-set}
 use lib.Seq.{sets}
-use Rattle.paper.specs.Store.{Cell, mostScenes, heights, used, scenePlace, cellWords, cellPlace, cellsAt, capacityOk, headerOk}
+use Rattle.paper.specs.Store.{Cell, mostScenes, heights, used, scenePlace, stride, cellPlace, cellsAt, capacityOk, headerOk}
 use Rattle.laws.proofs.Put.{put-sets}
 use Rattle.laws.proofs.Words.{Fine, stored, list-in, wordsOf-length, keep-words-before, scene-words-before, capacity-read, scenes-read, count-read}
 use Rattle.laws.proofs.Undamaged.{headed-ok}
@@ -24,7 +24,7 @@ module _ (C N : ℕ) (S : List Cell) (K : List (List Cell)) (f : Fine C N S K) (
   stored-room = simp length-append (omega (arith, wordsOf-length C N S K f))
 
   -- a cell more in list k
-  pub keep-stored : (k : ℕ) (c : Cell) → k < heights → length c ≡ cellWords k → length (cellsAt K k) < C
+  pub keep-stored : (k : ℕ) (c : Cell) → k < heights → length c ≡ stride k → length (cellsAt K k) < C
       → keepIn k c (stored C N S K x) ≡ stored C N S (set K k (cellsAt K k ++ (c ∷ []))) x
   unfolding keepIn
   keep-stored k c h e l =
@@ -32,7 +32,7 @@ module _ (C N : ℕ) (S : List Cell) (K : List (List Cell)) (f : Fine C N S K) (
       let n : ℕ = length (cellsAt K k) in
       let read = count-read C N S K f x k h in
       ap₂ (λ (m i : ℕ). sets (set ws (2 + k) (suc m)) i c) read (ap₂ (λ (D m : ℕ). cellPlace D k m) (capacity-read C N S K f x) read)
-      ∙ sym (put-sets (cellPlace C k n) c (set ws (2 + k) (suc n)) (simp length-set (omega (arith, stored-room, list-in C k h, mul-le-mul-left (cellWords k) l))))
+      ∙ sym (put-sets (cellPlace C k n) c (set ws (2 + k) (suc n)) (simp length-set (omega (arith, stored-room, list-in C k h, mul-le-mul-left (stride k) l))))
       ∙ sym (keep-words-before C N S K f k c x h e l)
 
   -- a scene more

@@ -5,7 +5,7 @@ use Prim.Native.Nat.{ℕ, zero, suc, _+_, _-_, _*_}
 use lib.ListN.{getD, set, replicate}
 use lib.Seq.{sets}
 use Rattle.paper.specs.Calls.{nextScene}
-use Rattle.paper.specs.Store.{Cell, heights, capacityOf, scenesHeld, keptCount, scenePlace, cellWords, cellPlace}
+use Rattle.paper.specs.Store.{Cell, heights, capacityOf, scenesHeld, keptCount, scenePlace, stride, cellPlace}
 
 -- 'kept as it stands under the next number': list k's count grows by one, and the cell's words stand behind those of the others
 unfoldable pub keepIn : ℕ → Cell → List ℕ → List ℕ
@@ -17,7 +17,7 @@ holdIn c ws = sets (set ws 1 (suc (scenesHeld ws))) (scenePlace (nextScene ws)) 
 
 -- list k back to its first n cells: the words of the others become zero, and n is its count
 unfoldable pub cutList : ℕ → ℕ → List ℕ → List ℕ
-cutList k n ws = set (sets ws (cellPlace (capacityOf ws) k n) (replicate (cellWords k * (keptCount ws k - n)) 0)) (2 + k) n
+cutList k n ws = set (sets ws (cellPlace (capacityOf ws) k n) (replicate (stride k * (keptCount ws k - n)) 0)) (2 + k) n
 
 -- each of the first m lists back to so many cells as ns says
 unfoldable pub cutLists : ℕ → List ℕ → List ℕ → List ℕ

@@ -9,10 +9,10 @@ use native.Mathlib.Nat.{zero-add, suc-ne-zero}
 use native.Mathlib.Decide.{decLt}
 use native.Mathlib.Omega.{arith}
 use lib.ListN.{length, getD}
-use Rattle.paper.specs.Numbers.{tabulate}
+use Rattle.paper.specs.Numbers.{flatten, tabulate}
 use Rattle.paper.specs.Rooms.{Room, Image, NonEmpty}
 use Rattle.paper.specs.Outline.{edge, fileDepth, fileRoom}
-use Rattle.paper.specs.Store.{Cell, Store, cellsAt, cellAt, heights, capacityOf, keptIn, keptOf, storeOf, wordsOf}
+use Rattle.paper.specs.Store.{Cell, Store, cellsAt, cellAt, heights, capacityOf, keptIn, keptOf, storeOf, padded, wordsOf}
 use Rattle.paper.specs.Meaning.{cellVoxel}
 use Rattle.paper.specs.Match.{Adding, full, added}
 use Rattle.paper.specs.Order.{firstOf}
@@ -139,7 +139,7 @@ with-capacity st n D full = refl
 with-capacity st n D (added p K) = refl
 
 pub add-capacity : (ws file : List ℕ) → capacityOf (addWords ws file) ≡ capacityOf ws
-unfolding addWords wordsOf storeOf
+unfolding addWords wordsOf storeOf flatten padded
 add-capacity ws file = with-capacity (storeOf ws) (nextScene ws) (fileDepth file) (adding ws file)
 
 module _ (s : State) (r : Running s) (file : List ℕ) (b : Bytes file) (a : Accepted file) (room : scenesFull (s .words) ≡ false) where

@@ -7,8 +7,8 @@ use Prim.Native.Nat.{ℕ, zero, suc, _+_, _-_, _*_, _<_, _≤_}
 use native.Mathlib.Nat.{zero-mul, add-zero, not-suc-le-zero, le-of-suc-le-suc, mul-le-mul-right}
 use native.Mathlib.Omega.{arith}
 use lib.Dec.{T, eqb}
-use lib.ListN.{length, take, drop, set, replicate, length-append, length-replicate, length-drop}
-use lib.Seq.{sets, length-sets, take-at, drop-at, take-add, drop-drop, length-take-le}
+use lib.ListN.{length, take, drop, getD, set, replicate, length-set, List·getD-append, length-append, length-replicate, length-drop}
+use lib.Seq.{sets, length-sets, set-append-left, take-at, drop-at, take-add, drop-drop, length-take-le}
 use Rattle.paper.specs.Numbers.{allIn, flatten}
 use Rattle.paper.specs.Store.{Cell, groups, padded, blank}
 use Rattle.laws.proofs.Lists.{zeros-of, zeros-pass}
@@ -31,12 +31,12 @@ unfolding padded
 padded-length {w} {cs} n r h = simp (length-append, length-replicate, flatten-length r) (omega arith)
 
 -- read group by group, they are the groups
-groups-flatten : {w : ℕ} {cs : List Cell} (l : List ℕ) → Sized w cs → groups w (length cs) (flatten cs ++ l) ≡ cs
+groups-flatten : {w : ℕ} {cs : List Cell} (l : List ℕ) → Sized w cs → groups w w (length cs) (flatten cs ++ l) ≡ cs
 unfolding flatten groups
 groups-flatten l snil = refl
 groups-flatten {w} l (scons {c} {cs} e r) = rw (append-assoc, take-at c (flatten cs ++ l) w e, drop-at c (flatten cs ++ l) w e, groups-flatten l r)
 
-pub groups-padded : {w : ℕ} {cs : List Cell} (n : ℕ) (l : List ℕ) → Sized w cs → groups w (length cs) (padded n cs ++ l) ≡ cs
+pub groups-padded : {w : ℕ} {cs : List Cell} (n : ℕ) (l : List ℕ) → Sized w cs → groups w w (length cs) (padded n cs ++ l) ≡ cs
 unfolding padded
 groups-padded {w} {cs} n l r = rw append-assoc (groups-flatten (replicate (n - length (flatten cs)) 0 ++ l) r)
 
@@ -113,15 +113,29 @@ sized-set i c snil e = snil
 sized-set zero c (scons l r) e = scons e r
 sized-set (suc i) c (scons l r) e = scons l (sized-set i c r e)
 
+-- a row by itself: a word of it set, and read with others behind
+pub row-set : (n : ℕ) (row : List ℕ) (i v : ℕ) → i < length row → padded n (set row i v ∷ []) ≡ set (padded n (row ∷ [])) i v
+unfolding padded flatten
+row-set n row i v h =
+    let alone : (x : List ℕ) → (x ++ []) ++ replicate (n - length (x ++ [])) 0 ≡ x ++ replicate (n - length x) 0 = λ x. ap (λ (y : List ℕ). y ++ replicate (n - length y) 0) (append-nil x) in
+    alone (set row i v) ∙ ap (λ (m : ℕ). set row i v ++ replicate (n - m) 0) (length-set row i v)
+    ∙ sym (set-append-left row (replicate (n - length row) 0) i v h) ∙ ap (λ (x : List ℕ). set x i v) (sym (alone row))
+
+pub row-word : (n : ℕ) (row l : List ℕ) (i : ℕ) → i < length row → getD (padded n (row ∷ []) ++ l) i 0 ≡ getD row i 0
+unfolding padded flatten
+row-word n row l i h =
+    let Z : List ℕ = replicate (n - length (row ++ [])) 0 in
+    ap (λ (x : List ℕ). getD ((x ++ Z) ++ l) i 0) (append-nil row) ∙ ap (λ (x : List ℕ). getD x i 0) (append-assoc row Z l) ∙ List·getD-append row (Z ++ l) 0 i h
+
 -- ---- cells cut
 
-pub groups-sized : (w n : ℕ) (l : List ℕ) → n * w ≤ length l → Sized w (groups w n l)
+pub groups-sized : (w n : ℕ) (l : List ℕ) → n * w ≤ length l → Sized w (groups w w n l)
 unfolding groups
 groups-sized w zero l h = snil
 groups-sized w (suc n) l h =
     scons (length-take-le w l (omega arith)) (groups-sized w n (drop w l) (rw length-drop (omega arith)))
 
-flatten-groups : (w n : ℕ) (l : List ℕ) → flatten (groups w n l) ≡ take (n * w) l
+flatten-groups : (w n : ℕ) (l : List ℕ) → flatten (groups w w n l) ≡ take (n * w) l
 unfolding flatten groups
 flatten-groups w zero l = ap (λ (m : ℕ). take m l) (sym (zero-mul w))
 flatten-groups w (suc n) l =
@@ -136,7 +150,7 @@ blank-zeros ws a n h t =
 
 -- n groups of w words at place a, and zeros up to m words
 pub padded-groups : (ws : List ℕ) (a w n m : ℕ) → n * w ≤ m → a + m ≤ length ws → T (blank ws (a + n * w) (m - n * w))
-    → padded m (groups w n (drop a ws)) ≡ take m (drop a ws)
+    → padded m (groups w w n (drop a ws)) ≡ take m (drop a ws)
 unfolding padded
 padded-groups ws a w n m fit long t =
     let l : List ℕ = drop a ws in

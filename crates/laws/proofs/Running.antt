@@ -13,14 +13,15 @@ use lib.ListN.{length, drop, getD, set, replicate, replicate-append-replicate}
 use lib.Seq.{drop-at}
 use Rattle.paper.specs.Numbers.{flatten}
 use Rattle.paper.specs.Outline.{fileDepth, outlineTree}
-use Rattle.paper.specs.Store.{Cell, Store, mostScenes, heights, used, cellWords, freePlace, capacityOk, scenesHeld, padded, listWords, wordsOf, emptyStore}
+use Rattle.paper.specs.Store.{Cell, Store, mostScenes, heights, firstScene, sceneWords, stride, firstList, used, freePlace, capacityOk, scenesHeld, padded, listRegions, headerRow, wordsOf, emptyStore}
 use Rattle.paper.specs.Match.{Adding, full, added, addTree}
 use Rattle.paper.specs.Answers.{Outcome, told, outcome}
 use Rattle.paper.specs.Order.{firstOf}
 use Rattle.paper.specs.Calls.{over, badSize, newOrder, newWords, newOutcome, nextScene, adding, isFull, cellsFull, addOrder, withScene, addWords, addOutcome}
 use Rattle.paper.specs.Runs.{Call, new, add, ofStore, ofFile, Bytes, Given, sceneOf, Held, nothing, holding, State, accepted, step, run, start, AllGiven, Reached}
 use Rattle.laws.proofs.Tests.{true-T, and-left}
-use Rattle.laws.proofs.Words.{Fine, storeWith, stored, gap, gap-place, wordsOf-length, storeOf-wordsOf, capacity-read, kept-read, scenes-read}
+use Rattle.laws.proofs.Words.{lists-place, Fine, storeWith, stored, wordsOf-length, storeOf-wordsOf, capacity-read, kept-read, scenes-read}
+use Rattle.laws.proofs.Regions.{inRow, regionPlace}
 use Rattle.laws.proofs.Filled.{Filled, filled-fine}
 use Rattle.laws.proofs.Filling.{empty-filled, AddsFile, file-adds, S⁺, held⁺, add-filled}
 use Rattle.laws.proofs.Refusals.{settled-accepted, settled-refused, settled-number, Passed, add-passed}
@@ -40,31 +41,36 @@ no-words : (n : ℕ) → padded n [] ≡ replicate n 0
 unfolding padded flatten
 no-words n = let e : n - 0 ≡ n = omega arith in ap (λ (m : ℕ). replicate m 0) e
 
-no-lists : (C j n : ℕ) → listWords C j (replicate n []) ≡ replicate (gap C j n) 0
-unfolding listWords gap
+no-lists : (C j n : ℕ) → inRow (listRegions C j (replicate n [])) ≡ replicate (regionPlace (listRegions C j (replicate n [])) n) 0
+unfolding listRegions flatten regionPlace
 no-lists C j zero = refl
 no-lists C j (suc n) =
-    ap₂ (λ (a b : List ℕ). a ++ b) (no-words (cellWords j * C)) (no-lists C (suc j) n) ∙ replicate-append-replicate (cellWords j * C) (gap C (suc j) n) 0
+    ap₂ (λ (a b : List ℕ). a ++ b) (no-words (stride j * C)) (no-lists C (suc j) n) ∙ replicate-append-replicate (stride j * C) (regionPlace (listRegions C (suc j) (replicate n [])) n) 0
 
-no-scenes : padded (2 * mostScenes) (replicate mostScenes freePlace) ≡ replicate (2 * mostScenes) 0
+no-scenes : padded (sceneWords * mostScenes) (replicate mostScenes freePlace) ≡ replicate (sceneWords * mostScenes) 0
 unfolding padded flatten
 no-scenes = refl
 
+bare-header : (C : ℕ) → padded firstScene (headerRow (emptyStore C) ∷ []) ≡ C ∷ replicate (firstScene - 1) 0
+unfolding padded flatten emptyStore
+bare-header C = refl
+
 -- 'a new store zeroes its words, then sets word 0'
-empty-words : (C : ℕ) → wordsOf (storeWith C 0 (emptyStore C .scenes) (emptyStore C .kept)) ≡ C ∷ replicate (159 + 114 * C) 0
-unfolding wordsOf emptyStore
+empty-words : (C : ℕ) → wordsOf (storeWith C 0 (emptyStore C .scenes) (emptyStore C .kept)) ≡ C ∷ replicate (used C - 1) 0
+unfolding wordsOf emptyStore flatten
 empty-words C =
-    let n : ℕ = gap C 0 heights in
-    let e : 31 + (128 + n) ≡ 159 + 114 * C = omega (arith, gap-place C heights) in
-    ap₂ (λ (a b : List ℕ). C ∷ (replicate 31 0 ++ (a ++ b))) no-scenes (no-lists C 0 heights)
-    ∙ ap (λ (a : List ℕ). C ∷ (replicate 31 0 ++ a)) (replicate-append-replicate 128 n 0)
-    ∙ ap (λ (a : List ℕ). C ∷ a) (replicate-append-replicate 31 (128 + n) 0 ∙ ap (λ (m : ℕ). replicate m 0) e)
+    let n : ℕ = regionPlace (listRegions C 0 (replicate heights [])) heights in
+    let m : ℕ = sceneWords * mostScenes in
+    let place : firstList + n ≡ used C = lists-place C 0 (replicate heights []) heights (omega arith) in
+    let e : firstScene - 1 + (m + n) ≡ used C - 1 = omega (arith, place) in
+    ap₂ (λ (a b : List ℕ). a ++ b) (bare-header C) (ap₂ (λ (a b : List ℕ). a ++ b) no-scenes (no-lists C 0 heights) ∙ replicate-append-replicate m n 0)
+    ∙ ap (λ (a : List ℕ). C ∷ a) (replicate-append-replicate (firstScene - 1) (m + n) 0 ∙ ap (λ (j : ℕ). replicate j 0) e)
 
 pub new-words : (C : ℕ) (ws : List ℕ) → newWords C ws ≡ stored C 0 (emptyStore C .scenes) (emptyStore C .kept) (drop (used C) ws)
 unfolding newWords
 new-words C ws =
     let r : List ℕ = drop (used C) ws in
-    let e : used C ≡ suc (159 + 114 * C) = omega arith in
+    let e : used C ≡ suc (used C - 1) = omega arith in
     ap (λ (n : ℕ). set (replicate n 0 ++ r) 0 C) e ∙ ap (λ (l : List ℕ). l ++ r) (sym (empty-words C))
 
 -- the state after an outcome of new store

@@ -8,15 +8,15 @@ use native.Mathlib.Nat.{add-zero}
 use native.Mathlib.Omega.{arith}
 use lib.Dec.{T, eqb, ltb}
 use lib.ListN.{length, drop, getD, length-append}
-use Rattle.paper.specs.Numbers.{allBelow, allIn}
+use Rattle.paper.specs.Numbers.{allBelow}
 use Rattle.paper.specs.Rooms.{depthOk}
-use Rattle.paper.specs.Store.{Cell, Store, cellsAt, badPointer, mostScenes, heights, capacityOf, isHeld, keptCount, scenePlace, cellWords, listPlace, cellPlace}
-use Rattle.paper.specs.Store.{keptOf, sceneDepth, sceneRoot, listWords, wordsOf, blank, capacityOk, headerOk, sceneOk, placeOk, listUsable, listBlank, storeOk}
+use Rattle.paper.specs.Store.{Cell, Store, cellsAt, badPointer, mostScenes, heights, capacityOf, isHeld, keptCount, sceneWords, scenePlace, stride, listPlace, cellPlace}
+use Rattle.paper.specs.Store.{keptOf, sceneDepth, sceneRoot, listRegions, wordsOf, blank, capacityOk, headerOk, sceneOk, placeOk, listUsable, listBlank, storeOk}
 use Rattle.laws.proofs.Tests.{T-true, and-true, all-T, true-T, all-same}
-use Rattle.laws.proofs.Lists.{zeros-pass}
 use Rattle.laws.proofs.Kept.{scene-word}
 use Rattle.laws.proofs.Padded.{padded-blank}
-use Rattle.laws.proofs.Words.{storeWith, Fine, wordsOf-length, cells-sized, cells-few, zeros-from, scenes-from, cells-from, capacity-read, scenes-read, count-read, kept-read, storeOf-wordsOf}
+use Rattle.laws.proofs.Regions.{inRow}
+use Rattle.laws.proofs.Words.{storeWith, Fine, wordsOf-length, cells-sized, cells-few, zeros-from, cells-from, capacity-read, scenes-read, count-read, kept-read, storeOf-wordsOf}
 use Rattle.laws.proofs.Undamaged.{Headed, headed-ok, depth-list, list-blank-at}
 
 -- a scene's depth is in range, and its root pointer not bad
@@ -43,7 +43,7 @@ module _ (C N : ℕ) (S : List Cell) (Ks : List (List Cell)) (f : Fine C N S Ks)
   pub held-read : (n : ℕ) → isHeld (wordsOf (storeWith C N S Ks) ++ l) n ≡ heldIn N S n
   held-read n = ap (ltb n) (scenes-read C N S Ks f l)
 
-  scene-read : (n i : ℕ) → n < mostScenes → i < 2 → getD ws (scenePlace n + i) 0 ≡ getD (getD S n []) i 0
+  scene-read : (n i : ℕ) → n < mostScenes → i < sceneWords → getD ws (scenePlace n + i) 0 ≡ getD (getD S n []) i 0
   scene-read n i h m =
       sym (scene-word ws n i h m) ∙ ap (λ (s : Store). getD (getD (s .scenes) n []) i 0) (storeOf-wordsOf C N S Ks f l)
 
@@ -68,7 +68,6 @@ module _ (C N : ℕ) (S : List Cell) (Ks : List (List Cell)) (f : Fine C N S Ks)
   -- ---- unused words are zero
 
   pub words-headed : T (capacityOk C) → Headed (wordsOf (storeWith C N S Ks) ++ l)
-  unfolding blank
   words-headed c =
       let e : capacityOf ws ≡ C = capacity-read C N S Ks f l in
       record {
@@ -76,14 +75,14 @@ module _ (C N : ℕ) (S : List Cell) (Ks : List (List Cell)) (f : Fine C N S Ks)
         capacity = rw e c;
         held = rw (scenes-read C N S Ks f l) (f .few-scenes);
         few = λ k h. rw (e, count-read C N S Ks f l k h) (cells-few C N S Ks f k);
-        header-zeros = true-T (ap (allIn (eqb 0)) (zeros-from C N S Ks f l) ∙ zeros-pass 15);
+        header-zeros = true-T (zeros-from C N S Ks f l);
       }
 
   list-blank : (k : ℕ) → k < heights → listBlank ws k ≡ true
   list-blank k h =
-      ap₂ (λ (c m : ℕ). blank ws (cellPlace c k m) (cellWords k * (c - m))) (capacity-read C N S Ks f l) (count-read C N S Ks f l k h)
+      ap₂ (λ (c m : ℕ). blank ws (cellPlace c k m) (stride k * (c - m))) (capacity-read C N S Ks f l) (count-read C N S Ks f l k h)
       ∙ list-blank-at ws C k (length (cellsAt Ks k))
-      ∙ padded-blank ws (listPlace C k) (cellWords k * C) (listWords C (suc k) (drop (suc k) Ks) ++ l) (cells-sized C N S Ks f k h) (cells-from C N S Ks f l k h)
+      ∙ padded-blank ws (listPlace C k) (stride k * C) (inRow (drop (suc k) (listRegions C 0 Ks)) ++ l) (cells-sized C N S Ks f k h) (cells-from C N S Ks f l k h)
 
   -- ---- undamaged
 

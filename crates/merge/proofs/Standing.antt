@@ -18,7 +18,7 @@ use borrow.Author.Tests.{ltb-true, leb-true}
 use Rattle.paper.specs.Numbers.{num}
 use Rattle.paper.specs.Leaf.{mirrorLeaf}
 use Rattle.paper.specs.Outline.{Tree, none, leaf, nodeOf, Read, bad, ok, bind, before, readLeaf, readChildren, readRecord}
-use Rattle.paper.specs.Store.{Cell, cellsAt, cellAt, cellNo, pointer, mostCapacity, heights, cellWords, capacityOk}
+use Rattle.paper.specs.Store.{Cell, cellsAt, cellAt, cellNo, pointer, mostCapacity, heights, stride, capacityOk}
 use Rattle.paper.specs.Meaning.{cellVoxel}
 use Rattle.paper.specs.Match.{Adding, full, added, then, orKeep, matches, find, keep, addCell, inTurn, leafCell, addTree}
 use Rattle.paper.specs.Runs.{Bytes}
@@ -105,7 +105,7 @@ module _ (C : ℕ) (okC : T (capacityOk C)) (N : ℕ) (S : List Cell) (x file : 
   few : C ≤ mostCapacity
   few = leb→le C mostCapacity (and-right (leb 1 C) (leb C mostCapacity) okC)
 
-  module _ (K : List (List Cell)) (sd : Sound C K) (f : Fine C N S K) (k : ℕ) (hk : k < heights) (c : Cell) (sized : length c ≡ cellWords k) (okc : OkCell K k c)
+  module _ (K : List (List Cell)) (sd : Sound C K) (f : Fine C N S K) (k : ℕ) (hk : k < heights) (c : Cell) (sized : length c ≡ stride k) (okc : OkCell K k c)
       (at : ℕ) (within : at ≤ length file) (mask : ℕ) (masked : mask ≡ symmetries K k c) where
     abbrev ws : List ℕ
     ws = stored C N S K x

@@ -68,16 +68,9 @@ mostScenes = 64
 abbrev pub heights : ℕ
 heights = 15
 
--- where the header ends and the scenes start; where the scenes end and the lists start
+-- where the header ends and the scenes start
 abbrev pub firstScene : ℕ
 firstScene = 32
-
-abbrev pub firstList : ℕ
-firstList = 160
-
--- how many words a store of capacity C has ('uses the first'): for each of C cells two at height 2 and eight at each of 14 heights
-abbrev pub used : ℕ → ℕ
-used C = firstList + 114 * C
 
 -- the header ('Word 0'): the capacity, the number of scenes held, how many cells each height keeps, and from `zerosPlace` on nothing
 abbrev pub capacityOf : List ℕ → ℕ
@@ -97,31 +90,47 @@ abbrev pub zerosPlace : ℕ
 zerosPlace = 17
 
 -- where the two words of scene n are ('64 scenes of two'), its depth first, then its root pointer
-abbrev pub scenePlace : ℕ → ℕ
-scenePlace n = firstScene + 2 * n
+abbrev pub sceneWords : ℕ
+sceneWords = 2
 
--- the lists ('Then C leaves'), lowest height first, each with room for C cells: the words of a cell of list k, where the list starts, where its
--- cell n does
-abbrev pub cellWords : ℕ → ℕ
-cellWords zero = 2
-cellWords (suc k) = 8
+abbrev pub scenePlace : ℕ → ℕ
+scenePlace n = firstScene + sceneWords * n
+
+-- the words of a cell of list k: a leaf two, any other eight pointers
+abbrev pub cellLength : ℕ → ℕ
+cellLength zero = 2
+cellLength (suc k) = 8
+
+-- the words that a store has for a cell of list k: just the cell's
+abbrev pub stride : ℕ → ℕ
+stride zero = 2
+stride (suc k) = 8
+
+-- the lists ('Then C leaves'), lowest height first, each with room for C cells: where list k starts, where its cell n does. All lists above the
+-- leaves have one stride.
+abbrev pub firstList : ℕ
+firstList = scenePlace mostScenes
 
 abbrev pub listPlace : ℕ → ℕ → ℕ
 listPlace C zero = firstList
-listPlace C (suc k) = firstList + 2 * C + 8 * C * k
+listPlace C (suc k) = firstList + stride 0 * C + stride 1 * C * k
 
 abbrev pub cellPlace : ℕ → ℕ → ℕ → ℕ
-cellPlace C k n = listPlace C k + cellWords k * n
+cellPlace C k n = listPlace C k + stride k * n
+
+-- how many words a store of capacity C has ('uses the first'): up to where a list after the last would start
+abbrev pub used : ℕ → ℕ
+used C = listPlace C heights
 
 -- ---- from words to cells
 
--- n groups of w words
-unfoldable pub groups : ℕ → ℕ → List ℕ → List Cell
-groups w zero l = []
-groups w (suc n) l = take w l ∷ groups w n (drop w l)
+-- n groups, one every s words: of each the first w
+unfoldable pub groups : ℕ → ℕ → ℕ → List ℕ → List Cell
+groups s w zero l = []
+groups s w (suc n) l = take w l ∷ groups s w n (drop s l)
 
 unfoldable pub keptIn : List ℕ → ℕ → List Cell
-keptIn ws k = groups (cellWords k) (keptCount ws k) (drop (listPlace (capacityOf ws) k) ws)
+keptIn ws k = groups (stride k) (cellLength k) (keptCount ws k) (drop (listPlace (capacityOf ws) k) ws)
 
 unfoldable pub keptOf : List ℕ → List (List Cell)
 keptOf ws = tabulate 0 heights (keptIn ws)
@@ -130,7 +139,7 @@ unfoldable pub storeOf : List ℕ → Store
 storeOf ws = record {
   capacity = capacityOf ws;
   held = scenesHeld ws;
-  scenes = groups 2 mostScenes (drop (scenePlace 0) ws);
+  scenes = groups sceneWords sceneWords mostScenes (drop firstScene ws);
   kept = keptOf ws;
 }
 
@@ -143,20 +152,35 @@ sceneRoot ws n = getD ws (scenePlace n + 1) 0
 
 -- ---- from cells to words
 
--- these cells' words, and zeros up to n words ('Unused words')
-unfoldable pub padded : ℕ → List Cell → List ℕ
-padded n cs = flatten cs ++ replicate (n - length (flatten cs)) 0
+-- these rows, and zeros up to n words ('Unused words')
+unfoldable pub padded : ℕ → List (List ℕ) → List ℕ
+padded n rows = flatten rows ++ replicate (n - length (flatten rows)) 0
 
--- the lists from list k on, each C cells long
-unfoldable pub listWords : ℕ → ℕ → List (List Cell) → List ℕ
-listWords C k [] = []
-listWords C k (cs ∷ Ks) = padded (cellWords k * C) cs ++ listWords C (suc k) Ks
+-- a part of a store's words: how many they are, and the rows that stand in it
+pub record Region : Type 0 where
+  pub size : ℕ
+  pub rows : List (List ℕ)
 
-abbrev pub headerWords : Store → List ℕ
-headerWords s = s .capacity ∷ s .held ∷ map length (s .kept) ++ replicate (firstScene - zerosPlace) 0
+abbrev pub region : ℕ → List (List ℕ) → Region
+region n rows = record { size = n; rows = rows }
+
+abbrev pub regionWords : Region → List ℕ
+regionWords r = padded (r .size) (r .rows)
+
+-- the lists from list k on, each with room for C cells
+unfoldable pub listRegions : ℕ → ℕ → List (List Cell) → List Region
+listRegions C k [] = []
+listRegions C k (cs ∷ Ks) = region (stride k * C) cs ∷ listRegions C (suc k) Ks
+
+-- the header, the scenes, list 0, list 1, ..
+abbrev pub headerRow : Store → List ℕ
+headerRow s = s .capacity ∷ s .held ∷ map length (s .kept)
+
+abbrev pub regions : Store → List Region
+regions s = region firstScene (headerRow s ∷ []) ∷ region (sceneWords * mostScenes) (s .scenes) ∷ listRegions (s .capacity) 0 (s .kept)
 
 unfoldable pub wordsOf : Store → List ℕ
-wordsOf s = headerWords s ++ (padded (2 * mostScenes) (s .scenes) ++ listWords (s .capacity) 0 (s .kept))
+wordsOf s = flatten (map regionWords (regions s))
 
 -- a place that holds no scene, and a store with nothing in it
 abbrev pub freePlace : Cell
@@ -205,7 +229,7 @@ listUsable K (suc k) = allIn (cellUsable (length (cellsAt K k))) (cellsAt K (suc
 -- nothing stands past the cells kept in list k
 abbrev pub listBlank : List ℕ → ℕ → Bool
 listBlank ws k =
-    blank ws (cellPlace (capacityOf ws) k (keptCount ws k)) (cellWords k * (capacityOf ws - keptCount ws k))
+    blank ws (cellPlace (capacityOf ws) k (keptCount ws k)) (stride k * (capacityOf ws - keptCount ws k))
 
 -- the whole store is not damaged ('for the whole store'): its header, every place of a scene, every kept cell, and nothing where nothing is kept
 unfoldable pub storeOk : List ℕ → Bool

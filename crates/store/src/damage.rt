@@ -5,8 +5,8 @@ ghost use Prim.Native.Nat.{_≤_, _<_};
 ghost use lib.Dec.{T};
 ghost use Rattle.paper.specs.Numbers.{allBelow};
 ghost use Rattle.paper.specs.Store.{heights, keptOf, headerOk, listUsable, listBlank, storeOk};
-use crate::cells::CELL_WORDS;
-use crate::cells::LEAF_WORDS;
+use crate::cells::CELL_STRIDE;
+use crate::cells::LEAF_STRIDE;
 use crate::cells::cell_at;
 use crate::cells::cell_place;
 use crate::cells::leaf_at;
@@ -78,9 +78,9 @@ fn list_not_blank(store: &[u32], k: u32) -> bool
     let at = cell_place(c, k, n);
     let spare = (c - n) as usize;
     if k == 0 {
-        return not_blank(store, at, LEAF_WORDS * spare);
+        return not_blank(store, at, LEAF_STRIDE * spare);
     }
-    not_blank(store, at, CELL_WORDS * spare)
+    not_blank(store, at, CELL_STRIDE * spare)
 }
 
 // Whether an unused word of some list is not zero.
