@@ -3,15 +3,15 @@
 use mathlib.Core.Path.{_≡_, refl, sym, ap, ap₂, _∙_, subst, subst⁻¹}
 use mathlib.Core.Bool.{Bool, true, false, not, cond}
 use mathlib.Core.List.{List, [], _∷_}
-use Prim.Native.Nat.{ℕ, _-_, _<_, _≤_}
-use borrow.Author.Tests.{le-leb, lt-leb, leb-true, leb-false}
+use Prim.Native.Nat.{ℕ, _-_, _≤_}
 use lib.Dec.{T, leb, leb→le}
 use Rattle.paper.specs.Rooms.{depthOk, least, deepest}
 use Rattle.paper.specs.Answers.{told, outcome, numberOf}
-use Rattle.paper.specs.Store.{scenesHeld, keptCount, badPointer, headerOk, sceneOk, sceneDepth, sceneRoot}
+use Rattle.paper.specs.Store.{isHeld, keptCount, badPointer, headerOk, sceneOk, sceneDepth, sceneRoot}
 use Rattle.paper.specs.Calls.{noScene}
 use Rattle.paper.specs.declared.Refusal.the-variants.{DamagedStore, NoScene}
 use Rattle.laws.proofs.Tests.{true-T, T-true, not-false, and-left, and-right}
+use Rattle.laws.proofs.Undamaged.{held-there, there-held}
 use Rattle.entry.specs.Entry.{entryOf, pastEntry}
 use Rattle.entry.specs.declared.Entry.{Entry}
 use Rattle.entry.specs.declared.Entry.the-variants.{Root, Refused}
@@ -30,22 +30,22 @@ module _ (ws : List ℕ) (n : ℕ) where
   unfolding entryOf
   entry-header h = ap (λ (a : Bool). by a (noScene ws n) (sceneOk ws n)) (sym (not-false (headerOk ws) h))
 
-  pub entry-scene : T (headerOk ws) → scenesHeld ws ≤ n → Refused NoScene ≡ entryOf ws n
+  pub entry-scene : T (headerOk ws) → noScene ws n ≡ true → Refused NoScene ≡ entryOf ws n
   unfolding entryOf
-  entry-scene h l = λ i. by (sym (T-true {b = headerOk ws} h) i) (sym (le-leb (scenesHeld ws) n l) i) (sceneOk ws n)
+  entry-scene h l = λ i. by (sym (T-true {b = headerOk ws} h) i) (sym l i) (sceneOk ws n)
 
-  pub entry-words : T (headerOk ws) → n < scenesHeld ws → T (not (sceneOk ws n)) → Refused DamagedStore ≡ entryOf ws n
+  pub entry-words : T (headerOk ws) → T (isHeld ws n) → T (not (sceneOk ws n)) → Refused DamagedStore ≡ entryOf ws n
   unfolding entryOf
-  entry-words h l s = λ i. by (sym (T-true {b = headerOk ws} h) i) (sym (lt-leb (scenesHeld ws) n l) i) (sym (not-false (sceneOk ws n) s) i)
+  entry-words h l s = λ i. by (sym (T-true {b = headerOk ws} h) i) (sym (held-there ws n l) i) (sym (not-false (sceneOk ws n) s) i)
 
-  pub entry-root : T (headerOk ws) → n < scenesHeld ws → T (sceneOk ws n) → Root (sceneDepth ws n) (sceneRoot ws n) ≡ entryOf ws n
+  pub entry-root : T (headerOk ws) → T (isHeld ws n) → T (sceneOk ws n) → Root (sceneDepth ws n) (sceneRoot ws n) ≡ entryOf ws n
   unfolding entryOf
-  entry-root h l s = λ i. by (sym (T-true {b = headerOk ws} h) i) (sym (lt-leb (scenesHeld ws) n l) i) (sym (T-true {b = sceneOk ws n} s) i)
+  entry-root h l s = λ i. by (sym (T-true {b = headerOk ws} h) i) (sym (held-there ws n l) i) (sym (T-true {b = sceneOk ws n} s) i)
 
 -- a scene that can be asked
 pub record Entered (ws : List ℕ) (n D p : ℕ) : Type 0 where
   pub header : T (headerOk ws)
-  pub held : n < scenesHeld ws
+  pub held : T (isHeld ws n)
   pub words : T (sceneOk ws n)
   pub depth : D ≡ sceneDepth ws n
   pub root : p ≡ sceneRoot ws n
@@ -57,9 +57,9 @@ Says ws n (Refused r) = (out walk : Bool) (x : ℕ) → refusedBy (numberOf r) �
 
 says-by : (ws : List ℕ) (n : ℕ) (a b c : Bool) → headerOk ws ≡ a → noScene ws n ≡ b → sceneOk ws n ≡ c → Says ws n (by ws n a b c)
 says-by ws n false b c e f g = λ out walk x. by-header ws n out walk x (true-T (ap not e))
-says-by ws n true true c e f g = λ out walk x. by-scene ws n out walk x (true-T e) (leb-true (scenesHeld ws) n f)
-says-by ws n true false false e f g = λ out walk x. by-words ws n out walk x (true-T e) (leb-false (scenesHeld ws) n f) (true-T (ap not g))
-says-by ws n true false true e f g = record { header = true-T e; held = leb-false (scenesHeld ws) n f; words = true-T g; depth = refl; root = refl }
+says-by ws n true true c e f g = λ out walk x. by-scene ws n out walk x (true-T e) (true-T f)
+says-by ws n true false false e f g = λ out walk x. by-words ws n out walk x (true-T e) (there-held ws n f) (true-T (ap not g))
+says-by ws n true false true e f g = record { header = true-T e; held = there-held ws n f; words = true-T g; depth = refl; root = refl }
 
 pub entry-says : (ws : List ℕ) (n : ℕ) (e : Entry) → e ≡ entryOf ws n → Says ws n e
 unfolding entryOf

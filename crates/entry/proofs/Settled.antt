@@ -1,17 +1,14 @@
 -- A question on a scene, settled by its tests as code meets them: what each refusal answers, and what is answered past all of them. By the laws of
 -- a question's order. Assumes nothing.
-use mathlib.Core.Path.{_≡_, sym, ap}
+use mathlib.Core.Path.{_≡_, sym}
 use mathlib.Core.Bool.{Bool, true, false, not, cond}
 use mathlib.Core.List.{List}
-use Prim.Native.Nat.{ℕ, _<_, _≤_}
-use native.Mathlib.Omega.{arith}
-use borrow.Author.Tests.{le-leb, lt-leb}
+use Prim.Native.Nat.{ℕ, _<_}
 use lib.Dec.{T}
 use Rattle.paper.specs.Answers.{Outcome}
-use Rattle.paper.specs.Store.{scenesHeld, mostScenes, headerOk, sceneOk}
+use Rattle.paper.specs.Store.{isHeld, mostScenes, headerOk, sceneOk}
 use Rattle.paper.specs.Calls.{noScene}
-use Rattle.laws.proofs.Tests.{true-T}
-use Rattle.laws.proofs.Undamaged.{headed}
+use Rattle.laws.proofs.Undamaged.{headed, held-placed}
 use Rattle.entry.proofs.Asked.{asked, refusedBy, answered, asked-header, asked-scene, asked-words, asked-out, asked-walk}
 
 twice : (b : Bool) → T b → T (not (not b))
@@ -19,8 +16,8 @@ twice true t = tt
 twice false t = t
 
 -- a scene that is held has its two words
-pub held-fits : (ws : List ℕ) (n : ℕ) → T (headerOk ws) → n < scenesHeld ws → n < mostScenes
-held-fits ws n h l = omega (arith, headed ws h .held)
+pub held-fits : (ws : List ℕ) (n : ℕ) → T (headerOk ws) → T (isHeld ws n) → n < mostScenes
+held-fits ws n h l = held-placed ws n (headed ws h .held) l
 
 module _ (ws : List ℕ) (n : ℕ) (out walk : Bool) (x : ℕ) where
   abbrev question : Outcome
@@ -29,12 +26,12 @@ module _ (ws : List ℕ) (n : ℕ) (out walk : Bool) (x : ℕ) where
   pub by-header : T (not (headerOk ws)) → refusedBy 2 ≡ question
   by-header h = sym (asked-header (not (headerOk ws)) (noScene ws n) (not (sceneOk ws n)) out walk x h)
 
-  pub by-scene : T (headerOk ws) → scenesHeld ws ≤ n → refusedBy 9 ≡ question
-  by-scene h l = sym (asked-scene (not (headerOk ws)) (noScene ws n) (not (sceneOk ws n)) out walk x (twice (headerOk ws) h) (true-T (le-leb (scenesHeld ws) n l)))
+  pub by-scene : T (headerOk ws) → T (noScene ws n) → refusedBy 9 ≡ question
+  by-scene h l = sym (asked-scene (not (headerOk ws)) (noScene ws n) (not (sceneOk ws n)) out walk x (twice (headerOk ws) h) l)
 
-  module _ (h : T (headerOk ws)) (l : n < scenesHeld ws) where
+  module _ (h : T (headerOk ws)) (l : T (isHeld ws n)) where
     held : T (not (noScene ws n))
-    held = true-T (ap not (lt-leb (scenesHeld ws) n l))
+    held = twice (isHeld ws n) l
 
     pub by-words : T (not (sceneOk ws n)) → refusedBy 2 ≡ question
     by-words s = sym (asked-words (not (headerOk ws)) (noScene ws n) (not (sceneOk ws n)) out walk x (twice (headerOk ws) h) held s)

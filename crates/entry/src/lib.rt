@@ -3,10 +3,10 @@ ghost use mathlib.Core.Path.{_≡_};
 ghost use Rattle.entry.specs.Entry.{entryOf};
 use paper::Refusal;
 use store::header_bad;
+use store::not_held;
 use store::scene_bad;
 use store::scene_depth;
 use store::scene_root;
-use store::scenes_held;
 
 // A scene that can be asked, by its depth and root pointer; or the refusal.
 pub enum Entry {
@@ -21,7 +21,7 @@ pub fn enter(store: &[u32], scene: u32) -> Entry
     if header_bad(store) {
         return Entry::Refused(Refusal::DamagedStore);
     }
-    if scenes_held(store) <= scene {
+    if not_held(store, scene) {
         return Entry::Refused(Refusal::NoScene);
     }
     if scene_bad(store, scene) {

@@ -1,21 +1,22 @@
 -- On the words of a store: lists cut back to a front part of each give the words of the store with those front parts.
--- By zeros stored over the words of the cells cut, in the list's part of the words, and induction on the lists. Assumes nothing.
+-- By zeros stored over the words of the cells cut, in the list's region, and induction on the lists. Assumes nothing.
 use mathlib.Core.Path.{_≡_, refl, sym, subst, ap, ap₂, _∙_}
 use mathlib.Core.List.{List, [], _∷_, _++_, append-assoc, append-nil}
 use Prim.Native.Nat.{ℕ, zero, suc, _+_, _-_, _*_, _≤_, _<_}
-use native.Mathlib.Nat.{le-of-suc-le-suc, not-suc-le-zero, add-zero, zero-add}
+use native.Mathlib.Nat.{not-suc-le-zero, add-zero, zero-add, mul-comm}
 use native.Mathlib.Decide.{ℕ-discrete}
 use native.Mathlib.Omega.{arith}
 use lib.ListN.{length, getD, set, replicate, length-append, length-replicate, length-set, replicate-append-replicate}
-use lib.Seq.{sets, length-sets, set-append-left, drop-length, getD-set-same, getD-set-other, ext-getD}
+use lib.Seq.{sets, length-sets, set-append-left, set-comm, drop-length, getD-set-same, getD-set-other, ext-getD}
 use Rattle.paper.specs.Numbers.{tabulate, flatten}
-use Rattle.paper.specs.Store.{Cell, mostScenes, heights, keptCount, cellWords, cellPlace, cellsAt, padded, listWords, headerWords, wordsOf}
+use Rattle.paper.specs.Store.{Cell, heights, keptCount, stride, listPlace, cellPlace, cellsAt, padded, wordsOf}
 use Rattle.laws.proofs.Put.{sets-left, sets-right}
 use Rattle.laws.proofs.Lists.{getD-tabulate}
-use Rattle.laws.proofs.Padded.{flatten-append, Sized, snil, scons, flatten-length, padded-length}
-use Rattle.laws.proofs.Words.{Lists, lnil, lcons, gap, gap-place, words-fit, Fine, storeWith, stored, header-length, scenes-length, header-set, wordsOf-length, capacity-read, count-read, cells-few}
+use Rattle.laws.proofs.Padded.{flatten-append, Sized, snil, scons, flatten-length}
+use Rattle.laws.proofs.Words.{Lists, lnil, lcons, words-fit, Fine, storeWith, stored, wordsOf-length, list-words, cells-sized, cells-few, capacity-read, count-read}
 use Rattle.laws.proofs.Growing.{Extends, ext-length}
 use Rattle.keeping.specs.Keeping.{cutList, cutLists, cutBack}
+use Rattle.keeping.proofs.Headers.{past-header}
 use Rattle.store.proofs.Places.{place-in}
 use Rattle.store.proofs.InPlace.{zeros-first}
 
@@ -70,102 +71,62 @@ module _ {w : ℕ} (n : ℕ) (cs a b : List Cell) (s : Sized w cs) (e : cs ≡ a
 
 -- ---- the lists
 
-listWords-cut : {C j : ℕ} {Ks : List (List Cell)} → Lists C j Ks → (m : ℕ) (a b : List Cell) → m < length Ks → getD Ks m [] ≡ a ++ b
-    → listWords C j (set Ks m a) ≡ sets (listWords C j Ks) (gap C j m + cellWords (j + m) * length a) (replicate (cellWords (j + m) * length b) 0)
-unfolding listWords gap
-listWords-cut lnil m a b h e = absurd (not-suc-le-zero h)
-listWords-cut {C} {j} (lcons {cs = cs} {Ks = Ks} r q t) zero a b h e =
-    let w : ℕ = cellWords j in
-    let jw : cellWords (j + 0) ≡ w = ap cellWords (add-zero j) in
-    let P : List ℕ = padded (w * C) cs in
-    let R : List ℕ = listWords C (suc j) Ks in
-    let z : List ℕ = replicate (length b * w) 0 in
-    let fit : length cs * w ≤ w * C = words-fit j (length cs) C q in
-    let long : length P ≡ w * C = padded-length (w * C) r fit in
-    let both : length cs ≡ length a + length b = both-lengths (w * C) cs a b r e fit in
-    let split : (length a + length b) * w ≤ w * C = rw both at fit in
-    let room : length a * w + length z ≤ length P = rw (length-replicate {A = ℕ} (length b * w) 0) (omega arith) in
-    let at : length a * w ≡ 0 + cellWords (j + 0) * length a = rw jw (omega arith) in
-    let words : length b * w ≡ cellWords (j + 0) * length b = rw jw (omega arith) in
-    ap (λ (l : List ℕ). l ++ R) (padded-cut (w * C) cs a b r e fit)
-    ∙ sym (sets-left z P R (length a * w) room)
-    ∙ ap₂ (λ (i k : ℕ). sets (P ++ R) i (replicate k 0)) at words
-listWords-cut {C} {j} (lcons {cs = cs} {Ks = Ks} r q t) (suc m) a b h e =
-    let w : ℕ = cellWords j in
-    let ji : j + suc m ≡ suc j + m = omega arith in
-    let jw : cellWords (j + suc m) ≡ cellWords (suc j + m) = ap cellWords ji in
-    let P : List ℕ = padded (w * C) cs in
-    let R : List ℕ = listWords C (suc j) Ks in
-    let long : length P ≡ w * C = padded-length (w * C) r (words-fit j (length cs) C q) in
-    let i : ℕ = gap C (suc j) m + cellWords (suc j + m) * length a in
-    let z : List ℕ = replicate (cellWords (suc j + m) * length b) 0 in
-    let at : length P + i ≡ w * C + gap C (suc j) m + cellWords (j + suc m) * length a = rw jw (omega (arith, long)) in
-    ap (λ (l : List ℕ). P ++ l) (listWords-cut t m a b (le-of-suc-le-suc h) e)
-    ∙ sym (sets-right z P R i)
-    ∙ ap₂ (λ (n k : ℕ). sets (P ++ R) n (replicate (k * length b) 0)) at (sym jw)
-
 lists-cut : {C j : ℕ} {Ks : List (List Cell)} → Lists C j Ks → (m : ℕ) (a b : List Cell) → getD Ks m [] ≡ a ++ b → Lists C j (set Ks m a)
 lists-cut lnil m a b e = lnil
 lists-cut {C} {j} (lcons {cs = cs} r q t) zero a b e =
-    lcons (sized-front a b (subst (Sized (cellWords j)) e r)) (omega (arith, ap length e, length-append a b)) t
+    lcons (sized-front a b (subst (Sized (stride j)) e r)) (omega (arith, ap length e, length-append a b)) t
 lists-cut (lcons r q t) (suc m) a b e = lcons r q (lists-cut t m a b e)
 
 -- ---- the whole store
 
-module _ (C : ℕ) (S : List Cell) (Ks : List (List Cell)) (f : Fine C S Ks) (k : ℕ) (h : k < heights) (a b : List Cell) (e : cellsAt Ks k ≡ a ++ b) where
-  pub cut-fine : Fine C S (set Ks k a)
+-- a word set before or after others are stored past it
+set-before : (c l : List ℕ) (a i v : ℕ) → i < a → set (sets l a c) i v ≡ sets (set l i v) a c
+set-before [] l a i v h = refl
+set-before (x ∷ c) l a i v h =
+    set-before c (set l a x) (suc a) i v (omega arith) ∙ ap (λ (m : List ℕ). sets m (suc a) c) (set-comm l a i x v (λ e. omega (arith, e)))
+
+module _ (C N : ℕ) (S : List Cell) (Ks : List (List Cell)) (f : Fine C N S Ks) (k : ℕ) (h : k < heights) (a b : List Cell) (e : cellsAt Ks k ≡ a ++ b) where
+  pub cut-fine : Fine C N S (set Ks k a)
   cut-fine = record {
     lists = length-set Ks k a ∙ f .lists;
     of-scenes = f .of-scenes;
+    all-scenes = f .all-scenes;
     few-scenes = f .few-scenes;
     of-cells = lists-cut (f .of-cells) k a b e;
   }
 
-  abbrev H : List ℕ
-  H = headerWords (storeWith C S Ks)
-
-  abbrev P : List ℕ
-  P = padded (2 * mostScenes) S
-
-  abbrev L : List ℕ
-  L = listWords C 0 Ks
-
   abbrev zeros : List ℕ
-  zeros = replicate (cellWords k * length b) 0
+  zeros = replicate (stride k * length b) 0
 
-  -- the zeros in the list's part, and the count in the header
-  words-cut : wordsOf (storeWith C S (set Ks k a)) ≡ set (sets (wordsOf (storeWith C S Ks)) (cellPlace C k (length a)) zeros) (2 + k) (length a)
-  unfolding wordsOf
+  -- the list's count, and zeros over the words of the cells cut
+  words-cut : wordsOf (storeWith C N S (set Ks k a)) ≡ sets (set (wordsOf (storeWith C N S Ks)) (2 + k) (length a)) (cellPlace C k (length a)) zeros
   words-cut =
-      let j : ℕ = gap C 0 k + cellWords k * length a in
-      let ck : cellWords (0 + k) ≡ cellWords k = ap cellWords (zero-add k) in
-      let list : listWords C 0 (set Ks k a) ≡ sets L j zeros =
-      listWords-cut (f .of-cells) k a b (omega (arith, f .lists)) e
-      ∙ ap (λ (w : ℕ). sets L (gap C 0 k + w * length a) (replicate (w * length b) 0)) ck in
-      let at : length H + (length P + j) ≡ cellPlace C k (length a) = omega (arith, header-length C S Ks f, scenes-length C S Ks f, gap-place C k) in
-      ap₂ (λ (x y : List ℕ). x ++ (P ++ y)) (header-set C S Ks f k a (omega (arith, f .lists))) list
-      ∙ sym
-      (ap (λ (i : ℕ). set (sets (H ++ (P ++ L)) i zeros) (2 + k) (length a)) (sym at)
-      ∙ ap (λ (x : List ℕ). set x (2 + k) (length a)) (sets-right zeros H (P ++ L) (length P + j) ∙ ap (λ (x : List ℕ). H ++ x) (sets-right zeros P L j))
-      ∙ set-append-left H (P ++ sets L j zeros) (2 + k) (length a) (omega (arith, header-length C S Ks f)))
+      let cs : List Cell = cellsAt Ks k in
+      let w : ℕ = stride k in
+      let fit : length cs * w ≤ w * C = words-fit k (length cs) C (cells-few C N S Ks f k) in
+      let both : length cs * w ≡ (length a + length b) * w = ap (λ (n : ℕ). n * w) (both-lengths (w * C) cs a b (cells-sized C N S Ks f k h) e fit) in
+      let room : length a * w + length zeros ≤ w * C = rw (length-replicate {A = ℕ} (w * length b) 0, mul-comm w (length b)) (omega arith) in
+      list-words C N S Ks f k a (length a * w) zeros h
+      (padded-cut (w * C) cs a b (cells-sized C N S Ks f k h) e fit ∙ ap (λ (n : ℕ). sets (padded (w * C) cs) (length a * w) (replicate n 0)) (mul-comm (length b) w)) room
+      ∙ ap (λ (i : ℕ). sets (set (wordsOf (storeWith C N S Ks)) (2 + k) (length a)) (listPlace C k + i) zeros) (mul-comm (length a) w)
 
   module _ (x : List ℕ) where
-    zeros-fit : cellPlace C k (length a) + length zeros ≤ length (wordsOf (storeWith C S Ks))
+    zeros-fit : cellPlace C k (length a) + length zeros ≤ length (wordsOf (storeWith C N S Ks))
     zeros-fit =
-        let few : length a + length b ≤ C = omega (arith, cells-few C S Ks f k, ap length e, length-append a b) in
-        simp length-replicate (omega (arith, wordsOf-length C S Ks f, place-in C k (length a + length b) h few))
+        let few : length a + length b ≤ C = omega (arith, cells-few C N S Ks f k, ap length e, length-append a b) in
+        simp length-replicate (omega (arith, wordsOf-length C N S Ks f, place-in C k (length a + length b) h few))
 
-    pub list-cut-stored : cutList k (length a) (stored C S Ks x) ≡ stored C S (set Ks k a) x
+    pub list-cut-stored : cutList k (length a) (stored C N S Ks x) ≡ stored C N S (set Ks k a) x
     unfolding cutList
     list-cut-stored =
-        let W : List ℕ = wordsOf (storeWith C S Ks) in
+        let W : List ℕ = wordsOf (storeWith C N S Ks) in
         let n : ℕ = length a in
         let i : ℕ = cellPlace C k n in
-        let left : keptCount (stored C S Ks x) k - n ≡ length b = omega (arith, count-read C S Ks f x k h, ap length e, length-append a b) in
-        ap₂ (λ (D m : ℕ). set (sets (W ++ x) (cellPlace D k n) (replicate (cellWords k * m) 0)) (2 + k) n) (capacity-read C S Ks f x) left
+        let left : keptCount (stored C N S Ks x) k - n ≡ length b = omega (arith, count-read C N S Ks f x k h, ap length e, length-append a b) in
+        ap₂ (λ (D m : ℕ). set (sets (W ++ x) (cellPlace D k n) (replicate (stride k * m) 0)) (2 + k) n) (capacity-read C N S Ks f x) left
         ∙ ap (λ (l : List ℕ). set l (2 + k) n) (sets-left zeros W x i zeros-fit)
-        ∙ set-append-left (sets W i zeros) x (2 + k) n (rw (length-sets W i zeros) (omega (arith, wordsOf-length C S Ks f)))
-        ∙ ap (λ (l : List ℕ). l ++ x) (sym words-cut)
+        ∙ set-append-left (sets W i zeros) x (2 + k) n (rw (length-sets W i zeros) (omega (arith, wordsOf-length C N S Ks f)))
+        ∙ ap (λ (l : List ℕ). l ++ x) (set-before zeros W i (2 + k) n (omega (arith, past-header C k n)) ∙ sym words-cut)
 
 -- ---- all lists: each back to the front part that K has of it
 
@@ -196,34 +157,34 @@ module _ (K K′ : List (List Cell)) where
   back-all : length K ≡ length K′ → back (length K) K K′ ≡ K
   back-all e = ext-getD [] (back (length K) K K′) K (back-length (length K) ∙ sym e) (λ j h. back-front (length K) j (omega arith) (omega (arith, back-length (length K))))
 
-module _ (C : ℕ) (S : List Cell) (K K′ : List (List Cell)) (f : Fine C S K′) (g : Extends K K′) where
-  back-fine : (m : ℕ) → m ≤ heights → Fine C S (back m K K′)
+module _ (C N : ℕ) (S : List Cell) (K K′ : List (List Cell)) (f : Fine C N S K′) (g : Extends K K′) where
+  back-fine : (m : ℕ) → m ≤ heights → Fine C N S (back m K K′)
   unfolding back
   back-fine zero h = f
-  back-fine (suc k) h = cut-fine C S (back k K K′) (back-fine k (omega arith)) k h (cellsAt K k) (g .more k) (back-rest K K′ k k (omega arith) ∙ g .is k)
+  back-fine (suc k) h = cut-fine C N S (back k K K′) (back-fine k (omega arith)) k h (cellsAt K k) (g .more k) (back-rest K K′ k k (omega arith) ∙ g .is k)
 
   module _ (tall : length K ≡ heights) (x ns : List ℕ) (counted : (k : ℕ) → k < heights → getD ns k 0 ≡ length (cellsAt K k)) where
-    lists-cut-stored : (m : ℕ) → m ≤ heights → cutLists m ns (stored C S K′ x) ≡ stored C S (back m K K′) x
+    lists-cut-stored : (m : ℕ) → m ≤ heights → cutLists m ns (stored C N S K′ x) ≡ stored C N S (back m K K′) x
     unfolding cutLists back
     lists-cut-stored zero h = refl
     lists-cut-stored (suc k) h =
         ap₂ (cutList k) (counted k h) (lists-cut-stored k (omega arith))
-        ∙ list-cut-stored C S (back k K K′) (back-fine k (omega arith)) k h (cellsAt K k) (g .more k) (back-rest K K′ k k (omega arith) ∙ g .is k) x
+        ∙ list-cut-stored C N S (back k K K′) (back-fine k (omega arith)) k h (cellsAt K k) (g .more k) (back-rest K K′ k k (omega arith) ∙ g .is k) x
 
     -- the lists are those of K again
-    pub cut-stored : cutBack ns (stored C S K′ x) ≡ stored C S K x
+    pub cut-stored : cutBack ns (stored C N S K′ x) ≡ stored C N S K x
     unfolding cutBack
     cut-stored =
         lists-cut-stored heights (omega arith)
-        ∙ ap (λ (Ks : List (List Cell)). stored C S Ks x) (ap (λ (m : ℕ). back m K K′) (sym tall) ∙ back-all K K′ (tall ∙ sym (f .lists)))
+        ∙ ap (λ (Ks : List (List Cell)). stored C N S Ks x) (ap (λ (m : ℕ). back m K K′) (sym tall) ∙ back-all K K′ (tall ∙ sym (f .lists)))
 
     -- which cutting back asks for: no list has fewer cells than that
-    pub cut-counts : (k : ℕ) → k < heights → getD ns k 0 ≤ keptCount (stored C S K′ x) k
-    cut-counts k h = omega (arith, counted k h, count-read C S K′ f x k h, ext-length g k)
+    pub cut-counts : (k : ℕ) → k < heights → getD ns k 0 ≤ keptCount (stored C N S K′ x) k
+    cut-counts k h = omega (arith, counted k h, count-read C N S K′ f x k h, ext-length g k)
 
 -- the counts that a store has
-pub counts-taken : (C : ℕ) (S : List Cell) (K : List (List Cell)) → Fine C S K → (x : List ℕ) (k : ℕ) → k < heights
-    → getD (tabulate 0 heights (keptCount (stored C S K x))) k 0 ≡ length (cellsAt K k)
-counts-taken C S K f x k h =
-    let ws : List ℕ = stored C S K x in
-    getD-tabulate heights 0 k (keptCount ws) 0 h ∙ ap (keptCount ws) (zero-add k) ∙ count-read C S K f x k h
+pub counts-taken : (C N : ℕ) (S : List Cell) (K : List (List Cell)) → Fine C N S K → (x : List ℕ) (k : ℕ) → k < heights
+    → getD (tabulate 0 heights (keptCount (stored C N S K x))) k 0 ≡ length (cellsAt K k)
+counts-taken C N S K f x k h =
+    let ws : List ℕ = stored C N S K x in
+    getD-tabulate heights 0 k (keptCount ws) 0 h ∙ ap (keptCount ws) (zero-add k) ∙ count-read C N S K f x k h

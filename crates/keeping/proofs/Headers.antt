@@ -9,22 +9,26 @@ use lib.Dec.{T, eqb}
 use lib.ListN.{length, take, drop, getD, set, replicate, length-set}
 use lib.Seq.{sets, length-sets, getD-set-same, getD-set-other, drop-set-lt, drop-set-add, take-set-le}
 use Rattle.paper.specs.Numbers.{allIn}
-use Rattle.paper.specs.Store.{Cell, heights, zerosPlace, capacityOf, keptCount, cellWords, cellPlace, blank, capacityOk, headerOk}
+use Rattle.paper.specs.Store.{Cell, heights, firstScene, zerosPlace, capacityOf, keptCount, stride, cellPlace, blank, capacityOk, headerOk}
 use Rattle.laws.proofs.Undamaged.{Headed, headed, headed-ok}
 use Rattle.keeping.specs.Keeping.{keepIn, cutList, cutLists}
 
 -- ---- words stored in the header, or past it
 
-zeros-low : (l : List ℕ) (i v : ℕ) → i < 17 → take 15 (drop 17 (set l i v)) ≡ take 15 (drop 17 l)
-zeros-low l i v h = ap (take 15) (drop-set-lt 17 l i v h)
+-- the header's words that are always zero
+abbrev unused : ℕ
+unused = firstScene - zerosPlace
 
-zeros-high : (l : List ℕ) (i v : ℕ) → 32 ≤ i → take 15 (drop 17 (set l i v)) ≡ take 15 (drop 17 l)
+zeros-low : (l : List ℕ) (i v : ℕ) → i < zerosPlace → take unused (drop zerosPlace (set l i v)) ≡ take unused (drop zerosPlace l)
+zeros-low l i v h = ap (take unused) (drop-set-lt zerosPlace l i v h)
+
+zeros-high : (l : List ℕ) (i v : ℕ) → firstScene ≤ i → take unused (drop zerosPlace (set l i v)) ≡ take unused (drop zerosPlace l)
 zeros-high l i v h =
-    let j : ℕ = i - 17 in
-    let e : i ≡ 17 + j = omega arith in
-    ap (λ (n : ℕ). take 15 (drop 17 (set l n v))) e ∙ ap (take 15) (drop-set-add 17 l j v) ∙ take-set-le 15 (drop 17 l) j v (omega arith)
+    let j : ℕ = i - zerosPlace in
+    let e : i ≡ zerosPlace + j = omega arith in
+    ap (λ (n : ℕ). take unused (drop zerosPlace (set l n v))) e ∙ ap (take unused) (drop-set-add zerosPlace l j v) ∙ take-set-le unused (drop zerosPlace l) j v (omega arith)
 
-zeros-past : (c l : List ℕ) (a : ℕ) → 32 ≤ a → take 15 (drop 17 (sets l a c)) ≡ take 15 (drop 17 l)
+zeros-past : (c l : List ℕ) (a : ℕ) → firstScene ≤ a → take unused (drop zerosPlace (sets l a c)) ≡ take unused (drop zerosPlace l)
 zeros-past [] l a h = refl
 zeros-past (v ∷ c) l a h = zeros-past c (set l a v) (suc a) (omega arith) ∙ zeros-high l a v h
 
@@ -34,14 +38,14 @@ word-past (v ∷ c) l a j h = word-past c (set l a v) (suc a) j (omega arith) �
 
 -- ---- one count of the header changed
 
--- of words 0 to 31, word i is v and the others are as they were
+-- of the header's words, word i is v and the others are as they were
 pub record Changed (ws vs : List ℕ) (i v : ℕ) : Type 0 where
   pub same-length : length vs ≡ length ws
   pub here : getD vs i 0 ≡ v
-  pub others : (j : ℕ) → j < 32 → (j ≡ i → ⊥) → getD vs j 0 ≡ getD ws j 0
-  pub zeros : blank vs zerosPlace 15 ≡ blank ws zerosPlace 15
+  pub others : (j : ℕ) → j < firstScene → (j ≡ i → ⊥) → getD vs j 0 ≡ getD ws j 0
+  pub zeros : blank vs zerosPlace unused ≡ blank ws zerosPlace unused
 
-count-first : (ws c : List ℕ) (a i v : ℕ) → 32 ≤ a → i < 17 → i < length ws → Changed ws (sets (set ws i v) a c) i v
+count-first : (ws c : List ℕ) (a i v : ℕ) → firstScene ≤ a → i < zerosPlace → i < length ws → Changed ws (sets (set ws i v) a c) i v
 unfolding blank
 count-first ws c a i v past low inside = record {
   same-length = length-sets (set ws i v) a c ∙ length-set ws i v;
@@ -50,7 +54,7 @@ count-first ws c a i v past low inside = record {
   zeros = ap (allIn (eqb 0)) (zeros-past c (set ws i v) a past ∙ zeros-low ws i v low);
 }
 
-count-last : (ws c : List ℕ) (a i v : ℕ) → 32 ≤ a → i < 17 → i < length ws → Changed ws (set (sets ws a c) i v) i v
+count-last : (ws c : List ℕ) (a i v : ℕ) → firstScene ≤ a → i < zerosPlace → i < length ws → Changed ws (set (sets ws a c) i v) i v
 unfolding blank
 count-last ws c a i v past low inside = record {
   same-length = length-set (sets ws a c) i v ∙ length-sets ws a c;
@@ -81,12 +85,12 @@ module _ (ws vs : List ℕ) (t : T (headerOk ws)) where
 
 -- ---- a cell more, a list cut back
 
-past-header : (C k n : ℕ) → 32 ≤ cellPlace C k n
+pub past-header : (C k n : ℕ) → firstScene ≤ cellPlace C k n
 past-header C zero n = omega arith
 past-header C (suc k) n = omega arith
 
 module _ (ws : List ℕ) (t : T (headerOk ws)) where
-  long-header : 32 ≤ length ws
+  long-header : firstScene ≤ length ws
   long-header = omega (arith, headed ws t .long)
 
   module _ (k : ℕ) (h : k < heights) where
@@ -99,7 +103,7 @@ module _ (ws : List ℕ) (t : T (headerOk ws)) where
     pub cut-changed : (n : ℕ) → Changed ws (cutList k n ws) (2 + k) n
     unfolding cutList
     cut-changed n =
-        count-last ws (replicate (cellWords k * (keptCount ws k - n)) 0) (cellPlace (capacityOf ws) k n) (2 + k) n (past-header (capacityOf ws) k n)
+        count-last ws (replicate (stride k * (keptCount ws k - n)) 0) (cellPlace (capacityOf ws) k n) (2 + k) n (past-header (capacityOf ws) k n)
         (omega arith) (omega (arith, long-header))
 
     pub keep-headed : (c : Cell) → keptCount ws k < capacityOf ws → T (headerOk (keepIn k c ws))

@@ -8,7 +8,7 @@ use native.Mathlib.Numerals.{add-one}
 use native.Mathlib.Omega.{arith}
 use lib.ListN.{getD, set, replicate}
 use lib.Seq.{sets}
-use Rattle.paper.specs.Store.{Cell, heights, used, capacityOf, scenesHeld, keptCount, scenePlace, cellWords, cellPlace}
+use Rattle.paper.specs.Store.{Cell, heights, used, capacityOf, scenesHeld, keptCount, scenePlace, stride, cellPlace}
 use Rattle.laws.proofs.Words.{list-in}
 use Rattle.keeping.specs.Keeping.{keepIn, holdIn, cutList, cutLists, cutBack}
 use Rattle.store.proofs.Places.{place-between}
@@ -24,11 +24,11 @@ module _ (ws : List ℕ) (k n C at : ℕ) (counted : n ≡ keptCount ws k) (size
       (placed ∙ ap₂ (λ (D q : ℕ). cellPlace D k q) sized counted)
 
 -- one more cell has room in its list
-pub cell-room : (C k n : ℕ) → k < heights → n < C → cellPlace C k n + cellWords k ≤ used C
-cell-room C k n h l = omega (arith, list-in C k h, mul-le-mul-left (cellWords k) l)
+pub cell-room : (C k n : ℕ) → k < heights → n < C → cellPlace C k n + stride k ≤ used C
+cell-room C k n h l = omega (arith, list-in C k h, mul-le-mul-left (stride k) l)
 
 -- a cell of a list that is not the leaves' has eight words
-pub eight-words : (k : ℕ) → 1 ≤ k → 8 ≡ cellWords k
+pub eight-words : (k : ℕ) → 1 ≤ k → 8 ≡ stride k
 eight-words zero h = absurd (not-suc-le-zero h)
 eight-words (suc k) h = refl
 
@@ -45,8 +45,8 @@ pub list-cut : (ws l : List ℕ) (k n m C at end : ℕ) → C ≡ capacityOf ws 
     → l ≡ sets ws at (replicate (end - at) 0) → set l (2 + k) n ≡ cutList k n ws
 unfolding cutList
 list-cut ws l k n m C at end sized counted start stop h e =
-    let words : end - at ≡ cellWords k * (keptCount ws k - n) =
-    ap₂ (λ (a b : ℕ). a - b) stop start ∙ place-between C k n m h ∙ ap (λ (q : ℕ). cellWords k * (q - n)) counted in
+    let words : end - at ≡ stride k * (keptCount ws k - n) =
+    ap₂ (λ (a b : ℕ). a - b) stop start ∙ place-between C k n m h ∙ ap (λ (q : ℕ). stride k * (q - n)) counted in
     ap (λ (w : List ℕ). set w (2 + k) n)
     (e ∙ ap₂ (λ (i j : ℕ). sets ws i (replicate j 0)) (start ∙ ap (λ (D : ℕ). cellPlace D k n) sized) words)
 

@@ -6,7 +6,7 @@ ghost use lib.Dec.{T};
 ghost use lib.ListN.{length, getD, set};
 ghost use lib.Seq.{sets};
 ghost use Rattle.paper.specs.Numbers.{tabulate};
-ghost use Rattle.paper.specs.Store.{mostScenes, heights, capacityOf, scenesHeld, keptCount, cellWords, headerOk};
+ghost use Rattle.paper.specs.Store.{mostScenes, heights, capacityOf, scenesHeld, keptCount, stride, headerOk};
 ghost use Rattle.paper.specs.Match.{leafCell};
 ghost use Rattle.keeping.specs.Keeping.{keepIn, holdIn, cutList, cutBack};
 use store::FIRST_COUNT;
@@ -46,7 +46,7 @@ fn put_words(store: &mut [u32], at: usize, words: &[u32])
 // One more cell in list k, of these words.
 fn keep(store: &mut [u32], k: u32, words: &[u32])
     requires { ⌜ T (headerOk (now store)) ⌝ }
-    requires { ⌜ (k < heights) × (length (now words) ≡ cellWords k) ⌝ }
+    requires { ⌜ (k < heights) × (length (now words) ≡ stride k) ⌝ }
     requires { ⌜ keptCount (now store) k < capacityOf (now store) ⌝ }
     ensures { λ _. ⌜ now (store .exit) ≡ keepIn k (now (words .entry)) (now (store .entry)) ⌝ }
 {

@@ -12,11 +12,10 @@ use borrow.Author.Tests.{ltb-true, leb-false}
 use lib.Dec.{ltb}
 use lib.ListN.{length, set}
 use Rattle.paper.specs.Outline.{Tree, none, leaf, node, outlineTree, fileDepth}
-use Rattle.paper.specs.Store.{Cell, Store, cellsAt, pointer, mostScenes, cellWords, capacityOf, scenesHeld, keptOf, storeOf, wordsOf, used}
+use Rattle.paper.specs.Store.{Cell, Store, cellsAt, pointer, mostScenes, stride, capacityOf, scenesHeld, keptOf, storeOf, wordsOf, used}
 use Rattle.paper.specs.Match.{Adding, full, added, orKeep, keep, find, matches, addCell, inTurn, leafCell, addTree}
-use Rattle.paper.specs.Calls.{scenesFull, adding, withScene}
+use Rattle.paper.specs.Calls.{nextScene, scenesFull, adding, withScene}
 use Rattle.laws.proofs.OutlineFits.{Fits, outline-fits}
-use Rattle.laws.proofs.Kept.{held-length}
 use Rattle.laws.proofs.Words.{Lists, lists-snoc, Fine, scene-fine, wordsOf-length}
 use Rattle.laws.proofs.Undamaged.{Headed, header-fine}
 use Rattle.laws.proofs.Adding.{Answer, then-answer}
@@ -29,15 +28,15 @@ use Rattle.laws.proofs.Capacity.{Grows, addTree-grows}
 abbrev pub ListsAfter : ℕ → Adding ℕ → Type 0
 ListsAfter C x = Answer (Unit {0}) (λ p K. Lists C 0 K) x
 
-keep-lists : (C k : ℕ) (c : Cell) (K : List (List Cell)) → Lists C 0 K → length c ≡ cellWords k → ListsAfter C (keep C k c K)
+keep-lists : (C k : ℕ) (c : Cell) (K : List (List Cell)) → Lists C 0 K → length c ≡ stride k → ListsAfter C (keep C k c K)
 unfolding keep
 keep-lists C k c K h e = go (ltb (length (cellsAt K k)) C) refl
   where
     go : (b : Bool) → ltb (length (cellsAt K k)) C ≡ b → ListsAfter C (cond b (added (pointer 0 (length (cellsAt K k))) (set K k (cellsAt K k ++ (c ∷ [])))) full)
-    go true t = lists-snoc h k c (e ∙ ap cellWords (sym (zero-add k))) (ltb-true (length (cellsAt K k)) C t)
+    go true t = lists-snoc h k c (e ∙ ap stride (sym (zero-add k))) (ltb-true (length (cellsAt K k)) C t)
     go false t = tt
 
-cell-lists : (C k : ℕ) (c : Cell) (K : List (List Cell)) → Lists C 0 K → length c ≡ cellWords k → ListsAfter C (addCell C k c K)
+cell-lists : (C k : ℕ) (c : Cell) (K : List (List Cell)) → Lists C 0 K → length c ≡ stride k → ListsAfter C (addCell C k c K)
 unfolding addCell
 cell-lists C k c K h e = go (find (λ b t. matches K k c b t) (cellsAt K k) 0)
   where
@@ -61,7 +60,7 @@ inTurn-lists C k (econs {t} {ts} r rs) K h =
     (λ p K′ h′. then-answer (Unit {0}) (Unit {0}) (Turned C (length ts)) (Turned C (suc (length ts))) (inTurn (map (λ t. addTree C t k) ts) K′) _
     (inTurn-lists C k rs K′ h′) (λ u. u) (λ ps K″ g. (ap suc (g .0), g .1)))
 
-eight-words : (k : ℕ) → 0 < k → 8 ≡ cellWords k
+eight-words : (k : ℕ) → 0 < k → 8 ≡ stride k
 eight-words zero h = absurd (omega arith)
 eight-words (suc k) h = refl
 
@@ -91,26 +90,26 @@ module _ (ws file : List ℕ) (h : Headed ws) where
 
   -- the store with x added
   abbrev after : Adding ℕ → Store
-  after x = withScene (storeOf ws) (fileDepth file) x
+  after x = withScene (storeOf ws) (nextScene ws) (fileDepth file) x
 
   module _ (room : scenesFull ws ≡ false) where
-    scene-after : (x : Adding ℕ) → ListsAfter (capacityOf ws) x → Grows (keptOf ws) x → Fine (capacityOf ws) (after x .scenes) (after x .kept)
+    scene-after : (x : Adding ℕ) → ListsAfter (capacityOf ws) x → Grows (keptOf ws) x → Fine (capacityOf ws) (after x .held) (after x .scenes) (after x .kept)
     unfolding storeOf
     scene-after full r g = header-fine ws h
     scene-after (added p K) r g =
         let S : List Cell = storeOf ws .scenes in
-        let f : Fine (capacityOf ws) S (keptOf ws) = header-fine ws h in
-        scene-fine (capacityOf ws) S K (record { lists = g .len ∙ f .lists; of-scenes = f .of-scenes; few-scenes = f .few-scenes; of-cells = r }) (fileDepth file ∷ p ∷ []) refl
-        (rw (held-length ws) (leb-false mostScenes (scenesHeld ws) room))
+        let f : Fine (capacityOf ws) (scenesHeld ws) S (keptOf ws) = header-fine ws h in
+        scene-fine (capacityOf ws) (scenesHeld ws) S K (record { lists = g .len ∙ f .lists; of-scenes = f .of-scenes; all-scenes = f .all-scenes; few-scenes = f .few-scenes; of-cells = r })
+        (nextScene ws) (fileDepth file ∷ p ∷ []) refl (leb-false mostScenes (scenesHeld ws) room)
 
-    pub add-fine : Fine (capacityOf ws) (withScene (storeOf ws) (fileDepth file) (adding ws file) .scenes) (withScene (storeOf ws) (fileDepth file) (adding ws file) .kept)
+    add-fine : Fine (capacityOf ws) (after (adding ws file) .held) (after (adding ws file) .scenes) (after (adding ws file) .kept)
     add-fine = scene-after (adding ws file) adding-lists adding-grows
 
-    length-after : (x : Adding ℕ) → Fine (capacityOf ws) (after x .scenes) (after x .kept) → length (wordsOf (after x)) ≡ used (capacityOf ws)
+    length-after : (x : Adding ℕ) → Fine (capacityOf ws) (after x .held) (after x .scenes) (after x .kept) → length (wordsOf (after x)) ≡ used (capacityOf ws)
     unfolding storeOf
-    length-after full f = wordsOf-length (capacityOf ws) (after full .scenes) (after full .kept) f
-    length-after (added p K) f = wordsOf-length (capacityOf ws) (after (added p K) .scenes) K f
+    length-after full f = wordsOf-length (capacityOf ws) (after full .held) (after full .scenes) (after full .kept) f
+    length-after (added p K) f = wordsOf-length (capacityOf ws) (after (added p K) .held) (after (added p K) .scenes) K f
 
     -- as many words are written as the store uses
-    pub add-length : length (wordsOf (withScene (storeOf ws) (fileDepth file) (adding ws file))) ≡ used (capacityOf ws)
+    pub add-length : length (wordsOf (withScene (storeOf ws) (nextScene ws) (fileDepth file) (adding ws file))) ≡ used (capacityOf ws)
     add-length = length-after (adding ws file) add-fine

@@ -9,10 +9,10 @@ use native.Mathlib.Nat.{zero-add, suc-ne-zero}
 use native.Mathlib.Decide.{decLt}
 use native.Mathlib.Omega.{arith}
 use lib.ListN.{length, getD}
-use Rattle.paper.specs.Numbers.{tabulate}
+use Rattle.paper.specs.Numbers.{flatten, tabulate}
 use Rattle.paper.specs.Rooms.{Room, Image, NonEmpty}
 use Rattle.paper.specs.Outline.{edge, fileDepth, fileRoom}
-use Rattle.paper.specs.Store.{Cell, Store, cellsAt, cellAt, heights, capacityOf, keptIn, keptOf, storeOf, wordsOf}
+use Rattle.paper.specs.Store.{Cell, Store, cellsAt, cellAt, heights, capacityOf, keptIn, keptOf, storeOf, padded, wordsOf}
 use Rattle.paper.specs.Meaning.{cellVoxel}
 use Rattle.paper.specs.Match.{Adding, full, added}
 use Rattle.paper.specs.Order.{firstOf}
@@ -23,7 +23,7 @@ use Rattle.laws.proofs.Mirrors.{image-sym}
 use Rattle.laws.proofs.Occurring as InRoom
 use Rattle.laws.proofs.Adding.{Refused}
 use Rattle.laws.proofs.Counting.{Distinct, kept-at-least, kept-distinct, candidate, From, refused-more, refused-solid, refused-distinct, refused-from}
-use Rattle.laws.proofs.Undamaged.{undamaged}
+use Rattle.laws.proofs.Undamaged.{undamaged, next-free}
 use Rattle.laws.proofs.Outlines.{Accepted, depth-two}
 use Rattle.laws.proofs.Filling.{occurs-same, occurs-more, occurs-held, holding-new, AddsFile, file-adds}
 use Rattle.laws.proofs.Refusals.{settled-number, add-number}
@@ -107,7 +107,7 @@ module _ {ws : List ℕ} {held : Held} (s : Holds ws held) where
       candidate-occurs : (i : ℕ) (c : Cell) → From P n tt i c → Occurs with-file (suc (suc (n .list))) (cellVoxel (n .lists) (n .list) c)
       candidate-occurs i c (inl (l, e)) =
           occurs-same (cellVoxel (n .lists) (n .list) c) (cellVoxel (keptOf ws) (n .list) (cellAt (keptOf ws) (n .list) i)) e
-          (occurs-more held (nextScene ws) (sceneOf file) (s .no-more (nextScene ws) (omega arith)) (s .occur (n .list) i l))
+          (occurs-more held (nextScene ws) (sceneOf file) (s .no-more (nextScene ws) (next-free ws)) (s .occur (n .list) i l))
       candidate-occurs i c (inr o) =
           occurs-held with-file (nextScene ws) (sceneOf file) (fileDepth file - 2) (n .list) (cellVoxel (n .lists) (n .list) c)
           (holding-new held (nextScene ws) (sceneOf file)) (depth-two (fileDepth file) (a .deep)) o
@@ -134,13 +134,13 @@ module _ {ws : List ℕ} {held : Held} (s : Holds ws held) where
 
 -- ---- accepted, so not outnumbered
 
-with-capacity : (st : Store) (D : ℕ) (x : Adding ℕ) → withScene st D x .capacity ≡ st .capacity
-with-capacity st D full = refl
-with-capacity st D (added p K) = refl
+with-capacity : (st : Store) (n D : ℕ) (x : Adding ℕ) → withScene st n D x .capacity ≡ st .capacity
+with-capacity st n D full = refl
+with-capacity st n D (added p K) = refl
 
 pub add-capacity : (ws file : List ℕ) → capacityOf (addWords ws file) ≡ capacityOf ws
-unfolding addWords wordsOf storeOf
-add-capacity ws file = with-capacity (storeOf ws) (fileDepth file) (adding ws file)
+unfolding addWords wordsOf storeOf flatten padded
+add-capacity ws file = with-capacity (storeOf ws) (nextScene ws) (fileDepth file) (adding ws file)
 
 module _ (s : State) (r : Running s) (file : List ℕ) (b : Bytes file) (a : Accepted file) (room : scenesFull (s .words) ≡ false) where
   outnumbered-full : Outnumbered (holding (nextScene (s .words)) (sceneOf file) (s .held)) (capacityOf (s .words)) → cellsFull (s .words) file ≡ true

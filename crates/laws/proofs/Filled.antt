@@ -1,19 +1,19 @@
 -- What holds of the capacity, scenes, cells and scenes held of a store that only the calls wrote, and that its words are those of an undamaged
 -- store. By the rules of its lists: cells have their words, none is empty, every pointer names a kept cell. Assumes nothing.
 use mathlib.Core.Path.{_≡_, refl, sym, _∙_, ap, subst}
-use mathlib.Core.Bool.{Bool, true, false, false≢true}
+use mathlib.Core.Bool.{Bool, true, false, cond, _&&_, false≢true}
 use mathlib.Core.List.{List, [], _∷_}
 use mathlib.Core.Option.{some}
 use mathlib.Core.Option as O
 use Prim.Native.Nat.{ℕ, zero, suc, _+_, _-_, _<_, _≤_}
 use native.Mathlib.Nat.{zero-add, pow-succ'}
 use native.Mathlib.Omega.{arith}
-use lib.Dec.{T, eqb, eqb→eq, lt→ltb}
+use lib.Dec.{T, eqb, eqb→eq, lt→ltb, ltb→lt}
 use lib.ListN.{length, getD}
 use Rattle.paper.specs.Numbers.{allBelow}
 use Rattle.paper.specs.Rooms.{depthOk, Same, NonEmpty, childNo, inChild}
 use Rattle.paper.specs.Outline.{edge, fileDepth, fileRoom}
-use Rattle.paper.specs.Store.{Cell, cellsAt, cellAt, leafNo, badPointer, anyBad, mostScenes, heights, cellWords, sceneDepth, sceneRoot, capacityOk, leafUsable, cellUsable, listUsable, storeOk}
+use Rattle.paper.specs.Store.{Cell, cellsAt, cellAt, leafNo, badPointer, anyBad, mostScenes, heights, sceneWords, cellLength, stride, freePlace, sceneDepth, sceneRoot, capacityOk, leafUsable, cellUsable, listUsable, storeOk}
 use Rattle.paper.specs.Meaning.{pointerVoxel, cellVoxel}
 use Rattle.paper.specs.Runs.{Bytes, sceneOf, Held, Occurs}
 use Rattle.laws.proofs.Tests.{true-T, and-T, all-at, all-T, none-T}
@@ -22,10 +22,11 @@ use Rattle.laws.proofs.Mirrors.{childNo-lt}
 use Rattle.laws.proofs.Leaves.{leafOf-solid, leafOf-leafVoxel}
 use Rattle.laws.proofs.Invariant.{OkPointer, ok-not-bad, LowTag, Shape, pointer-none}
 use Rattle.laws.proofs.Adding.{Sound, Invs}
+use Rattle.laws.proofs.Kept.{cell-fills}
 use Rattle.laws.proofs.Words.{Lists, lnil, lcons, Fine, stored}
 use Rattle.laws.proofs.Padded.{Sized, snil, scons}
 use Rattle.laws.proofs.Outlines.{Accepted}
-use Rattle.laws.proofs.SoundWords.{sceneSound, soundStore, sound-words, depth-read, root-read}
+use Rattle.laws.proofs.SoundWords.{sceneSound, heldIn, placeSound, soundStore, sound-words, depth-read, root-read}
 
 -- ---- what is held
 
@@ -40,17 +41,21 @@ pub record Stands (K : List (List Cell)) (c : Cell) (file : List ℕ) : Type 0 w
   pub means : Same (edge (fileDepth file - 2))
       (pointerVoxel (cellVoxel K (fileDepth file - 2)) (cellsAt K (fileDepth file - 2)) (edge (fileDepth file - 2)) root) (fileRoom file)
 
--- capacity, scenes and cells as the calls make them: each scene stands for the file held under its number, and every cell occurs in a scene held
-pub record Filled (C : ℕ) (S : List Cell) (K : List (List Cell)) (held : Held) : Type 0 where
+-- capacity, scenes and cells as the calls make them: each scene held stands for the file held under its number, any other place is free, and every
+-- cell occurs in a scene held
+pub record Filled (C N : ℕ) (S : List Cell) (K : List (List Cell)) (held : Held) : Type 0 where
   pub capacity : T (capacityOk C)
   pub lists : length K ≡ heights
-  pub few-scenes : length S ≤ mostScenes
+  pub few-scenes : N ≤ mostScenes
+  pub all-scenes : length S ≡ mostScenes
+  pub of-scenes : Sized sceneWords S
   pub sound : Sound C K
   pub invs : Invs K
   pub file : ℕ → List ℕ
-  pub isHeld : (n : ℕ) → n < length S → held n ≡ some (sceneOf (file n))
-  pub no-more : (n : ℕ) → length S ≤ n → held n ≡ O.none
-  pub stands : (n : ℕ) → n < length S → Stands K (getD S n []) (file n)
+  pub under : (n : ℕ) → T (heldIn N S n) → held n ≡ some (sceneOf (file n))
+  pub no-more : (n : ℕ) → heldIn N S n ≡ false → held n ≡ O.none
+  pub stands : (n : ℕ) → T (heldIn N S n) → Stands K (getD S n []) (file n)
+  pub free : (n : ℕ) → n < mostScenes → heldIn N S n ≡ false → getD S n [] ≡ freePlace
   pub occur : (k q : ℕ) → q < length (cellsAt K k) → Occurs held (suc (suc k)) (cellVoxel K k (cellAt K k q))
 
 -- ---- its words can hold it
@@ -59,25 +64,26 @@ sized-from : (w : ℕ) (cs : List Cell) → ((q : ℕ) → q < length cs → len
 sized-from w [] h = snil
 sized-from w (c ∷ cs) h = scons (h 0 (omega arith)) (sized-from w cs (λ q l. h (suc q) (omega arith)))
 
-lists-from : (C j : ℕ) (Ks : List (List Cell)) → ((m q : ℕ) → q < length (cellsAt Ks m) → length (cellAt Ks m q) ≡ cellWords (j + m))
+lists-from : (C j : ℕ) (Ks : List (List Cell)) → ((m q : ℕ) → q < length (cellsAt Ks m) → length (cellAt Ks m q) ≡ stride (j + m))
     → ((m : ℕ) → length (cellsAt Ks m) ≤ C) → Lists C j Ks
 lists-from C j [] h few = lnil
 lists-from C j (cs ∷ Ks) h few =
     let here : j + 0 ≡ j = omega arith in
-    lcons (sized-from (cellWords j) cs (λ q l. h 0 q l ∙ ap cellWords here)) (few 0)
-    (lists-from C (suc j) Ks (λ m q l. let e : j + suc m ≡ suc j + m = omega arith in h (suc m) q l ∙ ap cellWords e) (λ m. few (suc m)))
+    lcons (sized-from (stride j) cs (λ q l. h 0 q l ∙ ap stride here)) (few 0)
+    (lists-from C (suc j) Ks (λ m q l. let e : j + suc m ≡ suc j + m = omega arith in h (suc m) q l ∙ ap stride e) (λ m. few (suc m)))
 
 -- a leaf has two words, any other cell eight
-pub shape-words : (K : List (List Cell)) (k : ℕ) (c : Cell) → Shape K k c → length c ≡ cellWords k
+pub shape-words : (K : List (List Cell)) (k : ℕ) (c : Cell) → Shape K k c → length c ≡ cellLength k
 shape-words K zero c s = ap length (s .is)
 shape-words K (suc k) c s = s .0
 
-pub filled-fine : {C : ℕ} {S : List Cell} {K : List (List Cell)} {held : Held} → Filled C S K held → Fine C S K
-filled-fine {C} {S} {K} f = record {
+pub filled-fine : {C N : ℕ} {S : List Cell} {K : List (List Cell)} {held : Held} → Filled C N S K held → Fine C N S K
+filled-fine {C} {N} {S} {K} f = record {
   lists = f .lists;
-  of-scenes = sized-from 2 S (λ n h. ap length (f .stands n h .words));
+  of-scenes = f .of-scenes;
+  all-scenes = f .all-scenes;
   few-scenes = f .few-scenes;
-  of-cells = lists-from C 0 K (λ m q h. shape-words K m (cellAt K m q) (f .invs m .shape q h) ∙ ap cellWords (sym (zero-add m))) (f .sound .few);
+  of-cells = lists-from C 0 K (λ m q h. shape-words K m (cellAt K m q) (f .invs m .shape q h) ∙ cell-fills m ∙ ap stride (sym (zero-add m))) (f .sound .few);
 }
 
 -- ---- no cell is empty or has a bad pointer
@@ -116,27 +122,38 @@ invs-usable K I (suc k) = allIn-T (cellUsable (length (cellsAt K k))) [] (cellsA
 
 -- ---- so its words are undamaged
 
-module _ {C : ℕ} {S : List Cell} {K : List (List Cell)} {held : Held} (f : Filled C S K held) (l : List ℕ) where
-  fine : Fine C S K
+module _ {C N : ℕ} {S : List Cell} {K : List (List Cell)} {held : Held} (f : Filled C N S K held) (l : List ℕ) where
+  fine : Fine C N S K
   fine = filled-fine f
 
+  -- a number held has a place
+  placed : (n : ℕ) → T (heldIn N S n) → n < mostScenes
+  placed n h = omega (arith, f .few-scenes, ltb→lt n N h)
+
   -- a scene's two words, as they are read
-  pub scene-depth : (n : ℕ) → n < length S → sceneDepth (stored C S K l) n ≡ fileDepth (f .file n)
-  scene-depth n h = depth-read C S K fine l n h ∙ ap (λ (c : Cell). getD c 0 0) (f .stands n h .words)
+  pub scene-depth : (n : ℕ) → T (heldIn N S n) → sceneDepth (stored C N S K l) n ≡ fileDepth (f .file n)
+  scene-depth n h = depth-read C N S K fine l n (placed n h) ∙ ap (λ (c : Cell). getD c 0 0) (f .stands n h .words)
 
-  pub scene-root : (n : ℕ) (h : n < length S) → sceneRoot (stored C S K l) n ≡ f .stands n h .root
-  scene-root n h = root-read C S K fine l n h ∙ ap (λ (c : Cell). getD c 1 0) (f .stands n h .words)
+  pub scene-root : (n : ℕ) (h : T (heldIn N S n)) → sceneRoot (stored C N S K l) n ≡ f .stands n h .root
+  scene-root n h = root-read C N S K fine l n (placed n h) ∙ ap (λ (c : Cell). getD c 1 0) (f .stands n h .words)
 
-  scene-sound : (n : ℕ) → n < length S → T (sceneSound K (getD S n []))
+  scene-sound : (n : ℕ) → T (heldIn N S n) → T (sceneSound K (getD S n []))
   scene-sound n h =
       let D : ℕ = fileDepth (f .file n) in
       let d : T (depthOk D) = f .stands n h .accepted .deep in
       rw (f .stands n h .words, ok-not-bad (length (cellsAt K (D - 2))) (f .stands n h .root) (f .stands n h .okp)) (and-T (depthOk D) true d tt)
 
-  pub filled-ok : T (storeOk (stored C S K l))
+  place-sound : (n : ℕ) → n < mostScenes → T (placeSound N S K n)
+  place-sound n h = go (heldIn N S n) refl
+    where
+      go : (b : Bool) → heldIn N S n ≡ b → T (cond b (sceneSound K (getD S n [])) (eqb (getD (getD S n []) 0 0) 0 && eqb (getD (getD S n []) 1 0) 0))
+      go true e = scene-sound n (true-T e)
+      go false e = rw (f .free n h e) tt
+
+  pub filled-ok : T (storeOk (stored C N S K l))
   unfolding soundStore
   filled-ok =
-      rw (sound-words C S K fine l (f .capacity))
-      (and-T (allBelow (length S) (λ n. sceneSound K (getD S n []))) (allBelow heights (listUsable K))
-      (all-T (length S) (λ n. sceneSound K (getD S n [])) scene-sound)
+      rw (sound-words C N S K fine l (f .capacity))
+      (and-T (allBelow mostScenes (placeSound N S K)) (allBelow heights (listUsable K))
+      (all-T mostScenes (placeSound N S K) place-sound)
       (all-T heights (listUsable K) (λ k h. invs-usable K (f .invs) k)))

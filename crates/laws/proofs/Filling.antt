@@ -1,22 +1,22 @@
 -- The calls that write keep a store as calls make it: one with nothing in it is such a store, and so is one with an accepted file added, every
 -- cell occurring in a scene held. From what adding a tree gives, and that kept cells and scenes stay. Assumes nothing.
 use mathlib.Core.Path.{_≡_, refl, sym, _∙_, ap, subst}
-use mathlib.Core.Bool.{cond}
+use mathlib.Core.Bool.{false, cond}
 use mathlib.Core.List.{List, [], _∷_, _++_}
 use mathlib.Core.Option.{some, Option·some-ne-none}
 use mathlib.Core.Option as O
 use mathlib.Core.Logic.{inl, inr}
-use Prim.Native.Nat.{ℕ, suc, _-_, _<_, _^_, zero-le}
+use Prim.Native.Nat.{ℕ, zero, suc, _-_, _<_, _≤_, _^_, zero-le}
 use native.Mathlib.Nat.{not-suc-le-zero, le-of-suc-le-suc, eq-or-lt-of-le}
 use native.Mathlib.Decide.{decLt}
 use native.Mathlib.Omega.{arith}
-use borrow.Author.Tests.{eq-eqb, ne-eqb}
-use lib.Dec.{T, eqb, leb, leb→le}
-use lib.ListN.{length, getD, length-append, List·getD-append}
-use lib.Seq.{getD-append-seam}
+use borrow.Author.Tests.{eq-eqb, ne-eqb, le-ltb, ltb-false}
+use lib.Dec.{T, eqb, leb, leb→le, lt→ltb, ltb→lt}
+use lib.ListN.{length, getD, set, replicate, length-set, getD-replicate}
+use lib.Seq.{getD-set-same, getD-set-other}
 use Rattle.paper.specs.Rooms.{Room, Inside, depthOk, Same}
 use Rattle.paper.specs.Outline.{treeVoxel, fileDepth, fileRoom, outlineTree}
-use Rattle.paper.specs.Store.{Cell, cellsAt, cellAt, mostScenes, heights, mostCapacity, capacityOk, emptyStore}
+use Rattle.paper.specs.Store.{Cell, cellsAt, cellAt, mostScenes, heights, mostCapacity, freePlace, capacityOk, emptyStore}
 use Rattle.paper.specs.Meaning.{cellVoxel}
 use Rattle.paper.specs.Match.{Adding, addTree}
 use Rattle.paper.specs.Runs.{Bytes, Scene, sceneOf, Held, nothing, holding, Occurs}
@@ -28,6 +28,8 @@ use Rattle.laws.proofs.AddingTrees.{addTree-done}
 use Rattle.laws.proofs.Outlines.{Accepted, depth-two}
 use Rattle.laws.proofs.TreesRead.{outline-good}
 use Rattle.laws.proofs.Undamaged.{depth-low}
+use Rattle.laws.proofs.Padded.{Sized, snil, scons, sized-set}
+use Rattle.laws.proofs.SoundWords.{heldIn}
 use Rattle.laws.proofs.Filled.{Stands, Filled}
 
 -- ---- cells that occur in the scenes held
@@ -83,17 +85,25 @@ empty-lists : (C : ℕ) → length (emptyStore C .kept) ≡ heights
 unfolding emptyStore
 empty-lists C = refl
 
-pub empty-filled : (C : ℕ) → T (capacityOk C) → Filled C [] (emptyStore C .kept) nothing
+all-free : (n : ℕ) → Sized 2 (replicate n freePlace)
+all-free zero = snil
+all-free (suc n) = scons refl (all-free n)
+
+pub empty-filled : (C : ℕ) → T (capacityOk C) → Filled C 0 (emptyStore C .scenes) (emptyStore C .kept) nothing
+unfolding emptyStore
 empty-filled C ok = record {
   capacity = ok;
   lists = empty-lists C;
   few-scenes = zero-le;
+  all-scenes = refl;
+  of-scenes = all-free mostScenes;
   sound = empty-sound C;
   invs = empty-invs C;
   file = λ n. [];
-  isHeld = λ n h. absurd (not-suc-le-zero h);
+  under = λ n h. absurd (not-suc-le-zero (ltb→lt n 0 h));
   no-more = λ n h. refl;
-  stands = λ n h. absurd (not-suc-le-zero h);
+  stands = λ n h. absurd (not-suc-le-zero (ltb→lt n 0 h));
+  free = λ n l h. getD-replicate mostScenes n freePlace [] l;
   occur = λ k q h. absurd (no-cell C k q h);
 }
 
@@ -117,50 +127,57 @@ file-adds C K c e s I file b a =
     (addTree-done (Unit {0}) C (leb→le C mostCapacity (and-right (leb 1 C) (leb C mostCapacity) c)) (outline-good file b) K s (λ u. I)
     (omega (arith, depth-low (fileDepth file) (a .deep))))
 
-module _ {C : ℕ} {S : List Cell} {K : List (List Cell)} {held : Held} (f : Filled C S K held) (file : List ℕ) (b : Bytes file) (a : Accepted file)
-    (p : ℕ) (K′ : List (List Cell)) (d : Done (Unit {0}) C K (fileDepth file - 2) (fileRoom file) p K′) (room : length S < mostScenes) where
+module _ {C N : ℕ} {S : List Cell} {K : List (List Cell)} {held : Held} (f : Filled C N S K held) (file : List ℕ) (b : Bytes file) (a : Accepted file)
+    (p : ℕ) (K′ : List (List Cell)) (d : Done (Unit {0}) C K (fileDepth file - 2) (fileRoom file) p K′) (room : N < mostScenes) where
   -- the scenes with this one, the files, and what is held
   abbrev pub S⁺ : List Cell
-  S⁺ = S ++ ((fileDepth file ∷ p ∷ []) ∷ [])
+  S⁺ = set S N (fileDepth file ∷ p ∷ [])
 
   abbrev pub held⁺ : Held
-  held⁺ = holding (length S) (sceneOf file) held
+  held⁺ = holding N (sceneOf file) held
 
   abbrev files⁺ : ℕ → List ℕ
-  files⁺ n = cond (eqb n (length S)) file (f .file n)
+  files⁺ n = cond (eqb n N) file (f .file n)
 
-  scenes⁺ : length S⁺ ≡ suc (length S)
-  scenes⁺ = length-append S ((fileDepth file ∷ p ∷ []) ∷ []) ∙ omega arith
+  -- the number of this scene was free, and is held; any other is held if it was
+  was-free : heldIn N S N ≡ false
+  was-free = le-ltb N N (omega arith)
 
-  -- a rule of every scene: of the old ones and of this one
-  each : (P : ℕ → Type 0) → ((n : ℕ) → n < length S → P n) → P (length S) → (n : ℕ) → n < length S⁺ → P n
+  held-old : (n : ℕ) → T (heldIn N S n) → ¬ (n ≡ N)
+  held-old n h e = omega (arith, ltb→lt n N h)
+
+  free-old : (n : ℕ) → heldIn (suc N) S⁺ n ≡ false → (heldIn N S n ≡ false) × (¬ (n ≡ N))
+  free-old n h = let l : suc N ≤ n = ltb-false n (suc N) h in (le-ltb n N (omega arith), λ e. omega arith)
+
+  -- a rule of every scene held: of the old ones and of this one
+  each : (P : ℕ → Type 0) → ((n : ℕ) → T (heldIn N S n) → P n) → P N → (n : ℕ) → T (heldIn (suc N) S⁺ n) → P n
   each P old new n h =
-      elim (eq-or-lt-of-le (le-of-suc-le-suc (subst (λ (m : ℕ). n < m) scenes⁺ h))) [
+      elim (eq-or-lt-of-le (le-of-suc-le-suc (ltb→lt n (suc N) h))) [
         | inl e ↦ subst P (sym e) new
-        | inr l ↦ old n l
+        | inr l ↦ old n (lt→ltb n N l)
       ]
 
-  old-stands : (n : ℕ) → n < length S → Stands K′ (getD S⁺ n []) (files⁺ n)
+  old-stands : (n : ℕ) → T (heldIn N S n) → Stands K′ (getD S⁺ n []) (files⁺ n)
   old-stands n h =
       let s : Stands K (getD S n []) (f .file n) = f .stands n h in
       let k : ℕ = fileDepth (f .file n) - 2 in
-      rw (ne-eqb n (length S) (λ e. omega arith)) (record {
+      rw (ne-eqb n N (held-old n h)) (record {
         bytes = s .bytes;
         accepted = s .accepted;
         root = s .root;
-        words = List·getD-append S ((fileDepth file ∷ p ∷ []) ∷ []) [] n h ∙ s .words;
+        words = getD-set-other S N n (fileDepth file ∷ p ∷ []) [] (held-old n h) ∙ s .words;
         okp = ext-pointer (d .ext) k (s .root) (s .okp);
         low = ext-low (d .ext) (f .sound .ok) k (s .root) (s .okp) (s .low);
         means = λ v l. ext-means (d .ext) (f .sound .ok) k (s .root) (s .okp) v l ∙ s .means v l;
       })
 
-  new-stands : Stands K′ (getD S⁺ (length S) []) (files⁺ (length S))
+  new-stands : Stands K′ (getD S⁺ N []) (files⁺ N)
   new-stands =
-      rw (eq-eqb (length S) (length S) refl) (record {
+      rw (eq-eqb N N refl) (record {
         bytes = b;
         accepted = a;
         root = p;
-        words = getD-append-seam S (fileDepth file ∷ p ∷ []) [] [];
+        words = getD-set-same S N (fileDepth file ∷ p ∷ []) [] (omega (arith, f .all-scenes));
         okp = d .okp;
         low = d .low tt;
         means = d .means;
@@ -173,21 +190,24 @@ module _ {C : ℕ} {S : List Cell} {K : List (List Cell)} {held : Held} (f : Fil
       go (yes l) =
           occurs-same (cellVoxel K′ k (cellAt K′ k q)) (cellVoxel K k (cellAt K k q))
           (λ v m. ap (λ (c : Cell). cellVoxel K′ k c v) (ext-cell (d .ext) k q l) ∙ ext-voxels (d .ext) (f .sound .ok) k (cellAt K k q) (f .sound .ok k q l) v m)
-          (occurs-more held (length S) (sceneOf file) (f .no-more (length S) (omega arith)) (f .occur k q l))
+          (occurs-more held N (sceneOf file) (f .no-more N was-free) (f .occur k q l))
       go (no m) =
-          occurs-held held⁺ (length S) (sceneOf file) (fileDepth file - 2) k (cellVoxel K′ k (cellAt K′ k q)) (holding-new held (length S) (sceneOf file))
+          occurs-held held⁺ N (sceneOf file) (fileDepth file - 2) k (cellVoxel K′ k (cellAt K′ k q)) (holding-new held N (sceneOf file))
           (depth-two (fileDepth file) (a .deep)) (d .fresh k q (omega arith) h)
 
-  pub add-filled : Filled C S⁺ K′ held⁺
+  pub add-filled : Filled C (suc N) S⁺ K′ held⁺
   add-filled = record {
     capacity = f .capacity;
     lists = d .len ∙ f .lists;
-    few-scenes = omega (arith, scenes⁺);
+    few-scenes = room;
+    all-scenes = length-set S N (fileDepth file ∷ p ∷ []) ∙ f .all-scenes;
+    of-scenes = sized-set N (fileDepth file ∷ p ∷ []) (f .of-scenes) refl;
     sound = d .sound;
     invs = d .invs tt;
     file = files⁺;
-    isHeld = each (λ n. held⁺ n ≡ some (sceneOf (files⁺ n))) (λ n h. rw (ne-eqb n (length S) (λ e. omega arith)) (f .isHeld n h)) (rw (eq-eqb (length S) (length S) refl));
-    no-more = λ n h. rw (ne-eqb n (length S) (λ e. omega (arith, scenes⁺))) (f .no-more n (omega (arith, scenes⁺)));
+    under = each (λ n. held⁺ n ≡ some (sceneOf (files⁺ n))) (λ n h. rw (ne-eqb n N (held-old n h)) (f .under n h)) (rw (eq-eqb N N refl));
+    no-more = λ n h. rw (ne-eqb n N (free-old n h .1)) (f .no-more n (free-old n h .0));
     stands = each (λ n. Stands K′ (getD S⁺ n []) (files⁺ n)) old-stands new-stands;
+    free = λ n l h. getD-set-other S N n (fileDepth file ∷ p ∷ []) [] (free-old n h .1) ∙ f .free n l (free-old n h .0);
     occur = occur⁺;
   }

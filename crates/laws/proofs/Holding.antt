@@ -1,7 +1,7 @@
 -- What the words of a state that calls lead to say: the store is undamaged, its lists are as they should be, each scene's two words stand for the
 -- file held under its number, every kept cell occurs in a scene held. By reading the words of a store as calls make it. Assumes nothing.
 use mathlib.Core.Path.{_≡_, refl, sym, _∙_, ap, subst, subst₂}
-use mathlib.Core.Bool.{false}
+use mathlib.Core.Bool.{Bool, true, false}
 use mathlib.Core.List.{List}
 use mathlib.Core.Option.{some, Option·some-injective, Option·some-ne-none}
 use mathlib.Core.Option as O
@@ -15,18 +15,19 @@ use lib.Pow.{pow-add}
 use Rattle.paper.specs.Numbers.{allBelow}
 use Rattle.paper.specs.Rooms.{Room, Inside, Same, cellOf, NonEmpty, Image, depthOk}
 use Rattle.paper.specs.Outline.{edge, fileDepth, fileRoom}
-use Rattle.paper.specs.Store.{Cell, cellsAt, cellAt, heights, capacityOf, scenesHeld, keptOf, sceneDepth, sceneRoot, headerOk, sceneOk, scenesBlank, listUsable, listBlank, storeOk}
+use Rattle.paper.specs.Store.{Cell, cellsAt, cellAt, heights, capacityOf, isHeld, keptOf, sceneDepth, sceneRoot, headerOk, sceneOk, storeOk}
 use Rattle.paper.specs.Meaning.{pointerVoxel, cellVoxel, rootRoom}
 use Rattle.paper.specs.Calls.{noScene}
 use Rattle.paper.specs.Runs.{Bytes, Scene, sceneOf, Held, State, Occurs, Reached}
-use Rattle.laws.proofs.Tests.{and5}
+use Rattle.laws.proofs.Tests.{true-T}
 use Rattle.laws.proofs.Occurring.{same-cell}
 use Rattle.laws.proofs.Parts.{Part, part-same, pointer-part, cell-part, part-image}
 use Rattle.laws.proofs.Invariant.{OkPointer, LowTag}
 use Rattle.laws.proofs.Adding.{Sound, Invs}
-use Rattle.laws.proofs.Undamaged.{undamaged}
+use Rattle.laws.proofs.Undamaged.{undamaged, store-header, held-sound, held-there, there-held}
 use Rattle.laws.proofs.Outlines.{Accepted, depth-two}
-use Rattle.laws.proofs.Words.{stored, capacity-read, kept-read, scenes-read}
+use Rattle.laws.proofs.Words.{stored, capacity-read, kept-read}
+use Rattle.laws.proofs.SoundWords.{heldIn, held-read}
 use Rattle.laws.proofs.Filled.{Stands, Filled, filled-fine, filled-ok, scene-depth, scene-root}
 use Rattle.laws.proofs.Running.{Running, reached-running}
 
@@ -44,9 +45,9 @@ pub record Holds (ws : List ℕ) (held : Held) : Type 0 where
   pub sound : Sound (capacityOf ws) (keptOf ws)
   pub invs : Invs (keptOf ws)
   pub file : ℕ → List ℕ
-  pub isHeld : (n : ℕ) → n < scenesHeld ws → held n ≡ some (sceneOf (file n))
-  pub no-more : (n : ℕ) → scenesHeld ws ≤ n → held n ≡ O.none
-  pub means : (n : ℕ) → n < scenesHeld ws → Means (keptOf ws) (sceneDepth ws n) (sceneRoot ws n) (file n)
+  pub under : (n : ℕ) → T (isHeld ws n) → held n ≡ some (sceneOf (file n))
+  pub no-more : (n : ℕ) → isHeld ws n ≡ false → held n ≡ O.none
+  pub means : (n : ℕ) → T (isHeld ws n) → Means (keptOf ws) (sceneDepth ws n) (sceneRoot ws n) (file n)
   pub occur : (k q : ℕ) → q < length (cellsAt (keptOf ws) k) → Occurs held (suc (suc k)) (cellVoxel (keptOf ws) k (cellAt (keptOf ws) k q))
 
 -- ---- read from the words
@@ -69,65 +70,63 @@ stands-means {K} {c} {file} s =
       room = λ v l. ap (λ (r : Room). r v) (root-room K D (s .root) d) ∙ s .means v (subst (λ (h : ℕ). Inside (2 ^ h) v) (sym (depth-two D d)) l);
     }
 
-filled-holds : {C : ℕ} {S : List Cell} {K : List (List Cell)} {held : Held} → Filled C S K held → (l : List ℕ) → Holds (stored C S K l) held
-filled-holds {C} {S} {K} {held} f l = record {
+filled-holds : {C N : ℕ} {S : List Cell} {K : List (List Cell)} {held : Held} → Filled C N S K held → (l : List ℕ) → Holds (stored C N S K l) held
+filled-holds {C} {N} {S} {K} {held} f l = record {
   ok = filled-ok f l;
-  sound = subst₂ Sound (sym (capacity-read C S K (filled-fine f) l)) (sym kept) (f .sound);
+  sound = subst₂ Sound (sym (capacity-read C N S K (filled-fine f) l)) (sym kept) (f .sound);
   invs = subst Invs (sym kept) (f .invs);
   file = f .file;
-  isHeld = λ n h. f .isHeld n (below n h);
-  no-more = λ n h. f .no-more n (subst (λ (m : ℕ). m ≤ n) count h);
-  means = λ n h. rw (kept, scene-depth f l n (below n h), scene-root f l n (below n h)) (stands-means (f .stands n (below n h)));
+  under = λ n h. f .under n (there n h);
+  no-more = λ n h. f .no-more n (sym (held-read C N S K (filled-fine f) l n) ∙ h);
+  means = λ n h. rw (kept, scene-depth f l n (there n h), scene-root f l n (there n h)) (stands-means (f .stands n (there n h)));
   occur = subst (λ (Ks : List (List Cell)). (k q : ℕ) → q < length (cellsAt Ks k) → Occurs held (suc (suc k)) (cellVoxel Ks k (cellAt Ks k q))) (sym kept) (f .occur);
 }
   where
-    kept : keptOf (stored C S K l) ≡ K
-    kept = kept-read C S K (filled-fine f) l
+    kept : keptOf (stored C N S K l) ≡ K
+    kept = kept-read C N S K (filled-fine f) l
 
-    count : scenesHeld (stored C S K l) ≡ length S
-    count = scenes-read C S K (filled-fine f) l
-
-    below : (n : ℕ) → n < scenesHeld (stored C S K l) → n < length S
-    below n h = subst (λ (m : ℕ). n < m) count h
+    there : (n : ℕ) → T (isHeld (stored C N S K l) n) → T (heldIn N S n)
+    there n h = subst T (held-read C N S K (filled-fine f) l n) h
 
 pub running-holds : (s : State) → Running s → Holds (s .words) (s .held)
 running-holds s r = subst (λ (ws : List ℕ). Holds ws (s .held)) (sym (r .words)) (filled-holds (r .filled) (r .rest))
 
 -- word 0 is the capacity given
 pub running-capacity : (s : State) → Running s → capacityOf (s .words) ≡ s .capacity
-running-capacity s r = ap capacityOf (r .words) ∙ capacity-read (s .capacity) (r .scenes) (r .lists) (filled-fine (r .filled)) (r .rest)
+running-capacity s r = ap capacityOf (r .words) ∙ capacity-read (s .capacity) (r .count) (r .scenes) (r .lists) (filled-fine (r .filled)) (r .rest)
 
 pub reached-holds : (s : State) → Reached s → Holds (s .words) (s .held)
 reached-holds s r = running-holds s (reached-running s r)
 
 -- ---- what is held under a number
 
--- a scene held under n is below the count, and is that of the file there
+-- a scene held under n is held by the words, and is that of the file there
 pub record HeldAt (ws : List ℕ) (n : ℕ) (sc : Scene) (file : List ℕ) : Type 0 where
-  pub below : n < scenesHeld ws
+  pub below : T (isHeld ws n)
   pub is : sc ≡ sceneOf file
   pub means : Means (keptOf ws) (sceneDepth ws n) (sceneRoot ws n) file
 
 module _ {ws : List ℕ} {held : Held} (s : Holds ws held) where
   pub held-at : (n : ℕ) (sc : Scene) → held n ≡ some sc → HeldAt ws n sc (s .file n)
-  held-at n sc e = go (decLt n (scenesHeld ws))
+  held-at n sc e = go (isHeld ws n) refl
     where
-      go : Dec (n < scenesHeld ws) → HeldAt ws n sc (s .file n)
-      go (yes h) = record { below = h; is = Option·some-injective sc (sceneOf (s .file n)) (sym e ∙ s .isHeld n h); means = s .means n h }
-      go (no m) = absurd (Option·some-ne-none sc (sym e ∙ s .no-more n (omega arith)))
+      go : (b : Bool) → isHeld ws n ≡ b → HeldAt ws n sc (s .file n)
+      go true h =
+          let t : T (isHeld ws n) = true-T h in
+          record { below = t; is = Option·some-injective sc (sceneOf (s .file n)) (sym e ∙ s .under n t); means = s .means n t }
+      go false h = absurd (Option·some-ne-none sc (sym e ∙ s .no-more n h))
 
   pub header-ok : T (headerOk ws)
-  unfolding storeOk
-  header-ok = and5 (headerOk ws) (allBelow (scenesHeld ws) (sceneOk ws)) (scenesBlank ws) (allBelow heights (listUsable (keptOf ws))) (allBelow heights (listBlank ws)) (s .ok) .0
+  header-ok = store-header ws (s .ok)
 
-  pub scene-ok : (n : ℕ) → n < scenesHeld ws → T (sceneOk ws n)
-  scene-ok = undamaged ws (s .ok) .scenes
+  pub scene-ok : (n : ℕ) → T (isHeld ws n) → T (sceneOk ws n)
+  scene-ok = held-sound (undamaged ws (s .ok))
 
-  pub below-there : (n : ℕ) → n < scenesHeld ws → noScene ws n ≡ false
-  below-there n h = lt-leb (scenesHeld ws) n h
+  pub below-there : (n : ℕ) → T (isHeld ws n) → noScene ws n ≡ false
+  below-there n h = held-there ws n h
 
-  pub there-below : (n : ℕ) → noScene ws n ≡ false → n < scenesHeld ws
-  there-below n e = leb-false (scenesHeld ws) n e
+  pub there-below : (n : ℕ) → noScene ws n ≡ false → T (isHeld ws n)
+  there-below n e = there-held ws n e
 
   -- ---- a cell that occurs in a scene held
 

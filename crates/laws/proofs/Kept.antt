@@ -7,21 +7,30 @@ use native.Mathlib.Nat.{le-of-suc-le-suc, mul-zero, zero-add}
 use native.Mathlib.Omega.{arith}
 use lib.ListN.{length, take, drop, getD}
 use lib.Seq.{drop-drop, getD-take, getD-drop}
-use Rattle.paper.specs.Store.{Cell, heights, capacityOf, scenesHeld, keptCount, scenePlace, cellWords, listPlace, cellPlace, groups, keptIn, keptOf, storeOf, cellsAt, cellAt}
+use Rattle.paper.specs.Store.{Cell, mostScenes, heights, capacityOf, keptCount, firstScene, sceneWords, scenePlace, cellLength, stride, listPlace, cellPlace, groups, keptIn, keptOf, storeOf, cellsAt, cellAt}
 use Rattle.laws.proofs.Lists.{getD-tabulate, length-tabulate}
 
-pub groups-length : (w n : ℕ) (l : List ℕ) → length (groups w n l) ≡ n
+pub groups-length : (s w n : ℕ) (l : List ℕ) → length (groups s w n l) ≡ n
 unfolding groups
-groups-length w zero l = refl
-groups-length w (suc n) l = ap suc (groups-length w n (drop w l))
+groups-length s w zero l = refl
+groups-length s w (suc n) l = ap suc (groups-length s w n (drop s l))
 
-pub groups-at : (w n q : ℕ) (l : List ℕ) → q < n → getD (groups w n l) q [] ≡ take w (drop (w * q) l)
+pub groups-at : (s w n q : ℕ) (l : List ℕ) → q < n → getD (groups s w n l) q [] ≡ take w (drop (s * q) l)
 unfolding groups
-groups-at w zero q l h = absurd (omega arith)
-groups-at w (suc n) zero l h = ap (λ (i : ℕ). take w (drop i l)) (sym (mul-zero w))
-groups-at w (suc n) (suc q) l h =
-    let e : w + w * q ≡ w * suc q = omega arith in
-    groups-at w n q (drop w l) (le-of-suc-le-suc h) ∙ ap (take w) (drop-drop (w * q) w l ∙ ap (λ (i : ℕ). drop i l) e)
+groups-at s w zero q l h = absurd (omega arith)
+groups-at s w (suc n) zero l h = ap (λ (i : ℕ). take w (drop i l)) (sym (mul-zero s))
+groups-at s w (suc n) (suc q) l h =
+    let e : s + s * q ≡ s * suc q = omega arith in
+    groups-at s w n q (drop s l) (le-of-suc-le-suc h) ∙ ap (take w) (drop-drop (s * q) s l ∙ ap (λ (i : ℕ). drop i l) e)
+
+-- a cell's words are all that a store has for it
+pub cell-fills : (k : ℕ) → cellLength k ≡ stride k
+cell-fills zero = refl
+cell-fills (suc k) = refl
+
+pub kept-rows : (ws : List ℕ) (k : ℕ) → keptIn ws k ≡ groups (stride k) (stride k) (keptCount ws k) (drop (listPlace (capacityOf ws) k) ws)
+unfolding keptIn
+kept-rows ws k = ap (λ (w : ℕ). groups (stride k) w (keptCount ws k) (drop (listPlace (capacityOf ws) k) ws)) (cell-fills k)
 
 pub kept-list : (ws : List ℕ) (k : ℕ) → k < heights → cellsAt (keptOf ws) k ≡ keptIn ws k
 unfolding keptOf
@@ -29,7 +38,7 @@ kept-list ws k h = getD-tabulate heights 0 k (keptIn ws) [] h ∙ ap (keptIn ws)
 
 pub keptIn-length : (ws : List ℕ) (k : ℕ) → length (keptIn ws k) ≡ keptCount ws k
 unfolding keptIn
-keptIn-length ws k = groups-length (cellWords k) (keptCount ws k) (drop (listPlace (capacityOf ws) k) ws)
+keptIn-length ws k = groups-length (stride k) (cellLength k) (keptCount ws k) (drop (listPlace (capacityOf ws) k) ws)
 
 pub kept-length : (ws : List ℕ) (k : ℕ) → k < heights → length (cellsAt (keptOf ws) k) ≡ keptCount ws k
 kept-length ws k h = ap length (kept-list ws k h) ∙ keptIn-length ws k
@@ -39,23 +48,24 @@ pub kept-tall : (ws : List ℕ) → length (keptOf ws) ≡ heights
 unfolding keptOf
 kept-tall ws = length-tabulate heights 0 (keptIn ws)
 
--- word 1 counts the scenes
-pub held-length : (ws : List ℕ) → length (storeOf ws .scenes) ≡ scenesHeld ws
+-- a place for each scene that can be held
+pub places-length : (ws : List ℕ) → length (storeOf ws .scenes) ≡ mostScenes
 unfolding storeOf
-held-length ws = groups-length 2 (scenesHeld ws) (drop (scenePlace 0) ws)
+places-length ws = groups-length sceneWords sceneWords mostScenes (drop firstScene ws)
 
-pub kept-cell : (ws : List ℕ) (k q : ℕ) → k < heights → q < keptCount ws k → cellAt (keptOf ws) k q ≡ take (cellWords k) (drop (cellPlace (capacityOf ws) k q) ws)
+pub kept-cell : (ws : List ℕ) (k q : ℕ) → k < heights → q < keptCount ws k → cellAt (keptOf ws) k q ≡ take (cellLength k) (drop (cellPlace (capacityOf ws) k q) ws)
 unfolding keptIn
 kept-cell ws k q h l =
     ap (λ (cs : List Cell). getD cs q []) (kept-list ws k h)
-    ∙ groups-at (cellWords k) (keptCount ws k) q (drop (listPlace (capacityOf ws) k) ws) l
-    ∙ ap (take (cellWords k)) (drop-drop (cellWords k * q) (listPlace (capacityOf ws) k) ws)
+    ∙ groups-at (stride k) (cellLength k) (keptCount ws k) q (drop (listPlace (capacityOf ws) k) ws) l
+    ∙ ap (take (cellLength k)) (drop-drop (stride k * q) (listPlace (capacityOf ws) k) ws)
 
--- word i of scene n
-pub scene-word : (ws : List ℕ) (n i : ℕ) → n < scenesHeld ws → i < 2 → getD (getD (storeOf ws .scenes) n []) i 0 ≡ getD ws (scenePlace n + i) 0
+-- word i of place n of the scenes
+pub scene-word : (ws : List ℕ) (n i : ℕ) → n < mostScenes → i < sceneWords → getD (getD (storeOf ws .scenes) n []) i 0 ≡ getD ws (scenePlace n + i) 0
 unfolding storeOf
 scene-word ws n i l h =
-    let from : List ℕ = drop (scenePlace 0) ws in
-    let sum : 32 + (2 * n + i) ≡ 32 + 2 * n + i = omega arith in
-    ap (λ (c : Cell). getD c i 0) (groups-at 2 (scenesHeld ws) n from l) ∙ getD-take 2 (drop (2 * n) from) i 0 h ∙ getD-drop (2 * n) from i 0
-    ∙ getD-drop 32 ws (2 * n + i) 0 ∙ ap (λ (j : ℕ). getD ws j 0) sum
+    let from : List ℕ = drop firstScene ws in
+    let sum : firstScene + (sceneWords * n + i) ≡ scenePlace n + i = omega arith in
+    ap (λ (c : Cell). getD c i 0) (groups-at sceneWords sceneWords mostScenes n from l) ∙ getD-take sceneWords (drop (sceneWords * n) from) i 0 h
+    ∙ getD-drop (sceneWords * n) from i 0
+    ∙ getD-drop firstScene ws (sceneWords * n + i) 0 ∙ ap (λ (j : ℕ). getD ws j 0) sum

@@ -21,6 +21,7 @@ pub mod OutlineClaim
 -- words
 pub mod Kept
 pub mod Padded
+pub mod Regions
 pub mod Words
 pub mod Undamaged
 pub mod SoundWords

@@ -9,11 +9,20 @@ use Rattle.paper.specs.Store.{keptOf, sceneDepth, sceneRoot, headerOk, storeOk}
 use Rattle.paper.specs.Order.{firstOf, settled}
 use Rattle.paper.specs.Detail.{detailOrder, detailOutcome}
 use Rattle.paper.specs.Calls.{newOrder, newOutcome, addOutcome, noScene, questionOrder, voxelOutside, voxelDamaged, voxelOutcome, cellOutside, cellDamaged, cellOutcome, boxOutside, boxDamaged, boxOutcome, keptOutcome, outlineOutcome, packOutcome, checkOrder, checkOutcome, packedVoxelOrder, packedVoxelOutcome, openOrder, openOutcome, askOrder, askOutcome}
-use Rattle.paper.specs.Runs.{Call, new, add, voxel, cell, box, kept, outline, pack, check, packedVoxel, opening, ask, detail, Held, outcomeOf}
+use Rattle.paper.specs.Runs.{StoreQuestion, voxel, cell, box, kept, outline, pack, FileQuestion, check, packedVoxel, opening, ask, detail, Call, new, add, ofStore, ofFile, Held, storeAnswer, fileAnswer, outcomeOf}
 use Rattle.laws.proofs.Tests.{T-true}
 use Rattle.laws.proofs.Refusals.{settled-number, never-2, sound-never-2, question-never-2}
 use Rattle.laws.proofs.Walks.{voxel-clear, cell-clear, box-clear}
 use Rattle.laws.proofs.Holding.{Holds, header-ok, scene-ok, there-below}
+
+-- 2 is in no order of a question that looks at no store
+file-undamaged : (q : FileQuestion) → fileAnswer q .number ≡ 2 → ⊥
+unfolding checkOutcome packedVoxelOutcome openOutcome askOutcome detailOutcome
+file-undamaged (check file scratch) = never-2 (checkOrder file scratch) _ _ _ tt
+file-undamaged (packedVoxel file v) = never-2 (packedVoxelOrder file v) _ _ _ tt
+file-undamaged (opening file) = never-2 (openOrder file) _ _ _ tt
+file-undamaged (ask file D starts v) = never-2 (askOrder file D starts v) _ _ _ tt
+file-undamaged (detail D w) = never-2 (detailOrder D w) _ _ _ tt
 
 module _ {ws : List ℕ} {held : Held} (s : Holds ws held) where
   sound-header : not (headerOk ws) ≡ false
@@ -44,19 +53,19 @@ module _ {ws : List ℕ} {held : Held} (s : Holds ws held) where
       question-never-2 ws n outside walk (header-ok s) (λ q. (scene-ok s n (there-below s n q), clear q))
       (sym (settled-number (firstOf (questionOrder ws n outside walk)) vs [] []) ∙ e)
 
+  store-undamaged : (q : StoreQuestion) → storeAnswer ws q .number ≡ 2 → ⊥
+  unfolding voxelOutcome cellOutcome boxOutcome keptOutcome outlineOutcome packOutcome
+  store-undamaged (voxel n v) = question-sound n (voxelOutside ws n v) (voxelDamaged ws n v) _ (voxel-undamaged n v)
+  store-undamaged (cell n h c) = question-sound n (cellOutside ws n h c) (cellDamaged ws n h c) _ (cell-undamaged n h c)
+  store-undamaged (box n low high) = question-sound n (boxOutside ws n low high) (boxDamaged ws n low high) _ (box-undamaged n low high)
+  store-undamaged (kept h) = sound-never-2 _ _ _ _ _ sound-header tt
+  store-undamaged (outline n out) = sound-never-2 _ _ _ _ _ sound-store tt
+  store-undamaged (pack n scratch out) = sound-never-2 _ _ _ _ _ sound-store tt
+
   -- (a) no call answers 2
   pub never-damaged : (c : Call) → outcomeOf ws c .number ≡ 2 → ⊥
-  unfolding newOutcome addOutcome voxelOutcome cellOutcome boxOutcome keptOutcome outlineOutcome packOutcome checkOutcome packedVoxelOutcome openOutcome askOutcome detailOutcome
+  unfolding newOutcome addOutcome
   never-damaged (new C) = never-2 (newOrder C ws) _ _ _ tt
   never-damaged (add file) = sound-never-2 _ _ _ _ _ sound-store tt
-  never-damaged (voxel n v) = question-sound n (voxelOutside ws n v) (voxelDamaged ws n v) _ (voxel-undamaged n v)
-  never-damaged (cell n h c) = question-sound n (cellOutside ws n h c) (cellDamaged ws n h c) _ (cell-undamaged n h c)
-  never-damaged (box n low high) = question-sound n (boxOutside ws n low high) (boxDamaged ws n low high) _ (box-undamaged n low high)
-  never-damaged (kept h) = sound-never-2 _ _ _ _ _ sound-header tt
-  never-damaged (outline n out) = sound-never-2 _ _ _ _ _ sound-store tt
-  never-damaged (pack n scratch out) = sound-never-2 _ _ _ _ _ sound-store tt
-  never-damaged (check file scratch) = never-2 (checkOrder file scratch) _ _ _ tt
-  never-damaged (packedVoxel file v) = never-2 (packedVoxelOrder file v) _ _ _ tt
-  never-damaged (opening file) = never-2 (openOrder file) _ _ _ tt
-  never-damaged (ask file D starts v) = never-2 (askOrder file D starts v) _ _ _ tt
-  never-damaged (detail D w) = never-2 (detailOrder D w) _ _ _ tt
+  never-damaged (ofStore q) = store-undamaged q
+  never-damaged (ofFile q) = file-undamaged q

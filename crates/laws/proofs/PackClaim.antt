@@ -12,7 +12,7 @@ use lib.ListN.{length}
 use Rattle.paper.specs.Numbers.{bitFor}
 use Rattle.paper.specs.Rooms.{Room, Inside, Same, depthOk}
 use Rattle.paper.specs.Outline.{fileDepth, fileRoom}
-use Rattle.paper.specs.Store.{Cell, mostCapacity, capacityOf, scenesHeld, keptOf, sceneDepth, sceneRoot, storeOk}
+use Rattle.paper.specs.Store.{Cell, mostCapacity, capacityOf, isHeld, keptOf, sceneDepth, sceneRoot, storeOk}
 use Rattle.paper.specs.Packed.{proper, packedRoom, packedPath}
 use Rattle.paper.specs.Pack.{packedFile, packedMost}
 use Rattle.paper.specs.Answers.{told, outcome}
@@ -55,7 +55,7 @@ module _ (s : State) (h : Holds (s .words) (s .held)) where
     abbrev packed : List ℕ
     packed = packBytes ws n
 
-    pack-written : n < scenesHeld ws → (scratch out : List ℕ) → scratchFor ws ≤ length scratch → length packed ≤ length out
+    pack-written : T (isHeld ws n) → (scratch out : List ℕ) → scratchFor ws ≤ length scratch → length packed ≤ length out
         → packOutcome ws n scratch out ≡ outcome (told 0 (length packed ∷ [])) (cleared (scratchFor ws) scratch ∷ over packed out ∷ [])
     unfolding packOutcome packShort firstOf
     pack-written l scratch out hs ho =
@@ -94,7 +94,7 @@ module _ (s : State) (h : Holds (s .words) (s .held)) where
       unfolding packBytes
       packed-most = pack-most K packable (capacityOf ws) (h .sound .few) D p deep (m .okp)
 
-      pub scene-packs : n < scenesHeld ws → capacityOf ws ≡ s .capacity → Packs s n (sceneOf file) packed
+      pub scene-packs : T (isHeld ws n) → capacityOf ws ≡ s .capacity → Packs s n (sceneOf file) packed
       scene-packs l given = record {
         written = pack-written l;
         isProper = packed-proper;

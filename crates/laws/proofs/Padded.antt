@@ -3,16 +3,16 @@
 use mathlib.Core.Path.{_≡_, refl, sym, _∙_, ap}
 use mathlib.Core.Bool.{true}
 use mathlib.Core.List.{List, [], _∷_, _++_, append-assoc, append-nil}
-use Prim.Native.Nat.{ℕ, zero, suc, _+_, _-_, _*_, _≤_}
-use native.Mathlib.Nat.{zero-mul, add-zero}
+use Prim.Native.Nat.{ℕ, zero, suc, _+_, _-_, _*_, _<_, _≤_}
+use native.Mathlib.Nat.{zero-mul, add-zero, not-suc-le-zero, le-of-suc-le-suc, mul-le-mul-right}
 use native.Mathlib.Omega.{arith}
 use lib.Dec.{T, eqb}
-use lib.ListN.{length, take, drop, replicate, length-append, length-replicate, length-drop}
-use lib.Seq.{sets, take-at, drop-at, take-add, drop-drop, length-take-le}
+use lib.ListN.{length, take, drop, getD, set, replicate, length-set, List·getD-append, length-append, length-replicate, length-drop}
+use lib.Seq.{sets, length-sets, set-append-left, take-at, drop-at, take-add, drop-drop, length-take-le}
 use Rattle.paper.specs.Numbers.{allIn, flatten}
 use Rattle.paper.specs.Store.{Cell, groups, padded, blank}
 use Rattle.laws.proofs.Lists.{zeros-of, zeros-pass}
-use Rattle.laws.proofs.Put.{sets-right, sets-zeros}
+use Rattle.laws.proofs.Put.{sets-right, sets-left, sets-all, sets-zeros}
 
 -- ---- cells laid out
 
@@ -31,12 +31,12 @@ unfolding padded
 padded-length {w} {cs} n r h = simp (length-append, length-replicate, flatten-length r) (omega arith)
 
 -- read group by group, they are the groups
-groups-flatten : {w : ℕ} {cs : List Cell} (l : List ℕ) → Sized w cs → groups w (length cs) (flatten cs ++ l) ≡ cs
+groups-flatten : {w : ℕ} {cs : List Cell} (l : List ℕ) → Sized w cs → groups w w (length cs) (flatten cs ++ l) ≡ cs
 unfolding flatten groups
 groups-flatten l snil = refl
 groups-flatten {w} l (scons {c} {cs} e r) = rw (append-assoc, take-at c (flatten cs ++ l) w e, drop-at c (flatten cs ++ l) w e, groups-flatten l r)
 
-pub groups-padded : {w : ℕ} {cs : List Cell} (n : ℕ) (l : List ℕ) → Sized w cs → groups w (length cs) (padded n cs ++ l) ≡ cs
+pub groups-padded : {w : ℕ} {cs : List Cell} (n : ℕ) (l : List ℕ) → Sized w cs → groups w w (length cs) (padded n cs ++ l) ≡ cs
 unfolding padded
 groups-padded {w} {cs} n l r = rw append-assoc (groups-flatten (replicate (n - length (flatten cs)) 0 ++ l) r)
 
@@ -87,15 +87,55 @@ padded-snoc w n cs c r e h =
     ∙ sym (sets-right c F (replicate m 0) 0)
     ∙ ap (λ (i : ℕ). sets (F ++ replicate m 0) i c) (add-zero (length F) ∙ flatten-length r)
 
+-- another cell of as many words in place of cell i
+flatten-set : {w : ℕ} {cs : List Cell} (i : ℕ) (c : Cell) → Sized w cs → length c ≡ w → i < length cs → flatten (set cs i c) ≡ sets (flatten cs) (i * w) c
+unfolding flatten
+flatten-set i c snil e h = absurd (not-suc-le-zero h)
+flatten-set {w} zero c (scons {c = d} {cs = cs} l r) e h =
+    ap (λ (x : List ℕ). x ++ flatten cs) (sym (sets-all c d (e ∙ sym l))) ∙ sym (sets-left c d (flatten cs) 0 (omega arith))
+    ∙ ap (λ (j : ℕ). sets (d ++ flatten cs) j c) (sym (zero-mul w))
+flatten-set {w} (suc i) c (scons {c = d} {cs = cs} l r) e h =
+    let at : length d + i * w ≡ suc i * w = omega arith in
+    ap (λ (x : List ℕ). d ++ x) (flatten-set i c r e (le-of-suc-le-suc h)) ∙ sym (sets-right c d (flatten cs) (i * w))
+    ∙ ap (λ (j : ℕ). sets (d ++ flatten cs) j c) at
+
+pub padded-set : (w n : ℕ) (cs : List Cell) (i : ℕ) (c : Cell) → Sized w cs → length c ≡ w → i < length cs → padded n (set cs i c) ≡ sets (padded n cs) (i * w) c
+unfolding padded
+padded-set w n cs i c r e h =
+    let F : List ℕ = flatten cs in
+    let fits : i * w + length c ≤ length F = rw (flatten-length r) (omega (arith, mul-le-mul-right w h)) in
+    ap (λ (x : List ℕ). x ++ replicate (n - length x) 0) (flatten-set i c r e h)
+    ∙ ap (λ (m : ℕ). sets F (i * w) c ++ replicate (n - m) 0) (length-sets F (i * w) c)
+    ∙ sym (sets-left c F (replicate (n - length F) 0) (i * w) fits)
+
+pub sized-set : {w : ℕ} {cs : List Cell} (i : ℕ) (c : Cell) → Sized w cs → length c ≡ w → Sized w (set cs i c)
+sized-set i c snil e = snil
+sized-set zero c (scons l r) e = scons e r
+sized-set (suc i) c (scons l r) e = scons l (sized-set i c r e)
+
+-- a row by itself: a word of it set, and read with others behind
+pub row-set : (n : ℕ) (row : List ℕ) (i v : ℕ) → i < length row → padded n (set row i v ∷ []) ≡ set (padded n (row ∷ [])) i v
+unfolding padded flatten
+row-set n row i v h =
+    let alone : (x : List ℕ) → (x ++ []) ++ replicate (n - length (x ++ [])) 0 ≡ x ++ replicate (n - length x) 0 = λ x. ap (λ (y : List ℕ). y ++ replicate (n - length y) 0) (append-nil x) in
+    alone (set row i v) ∙ ap (λ (m : ℕ). set row i v ++ replicate (n - m) 0) (length-set row i v)
+    ∙ sym (set-append-left row (replicate (n - length row) 0) i v h) ∙ ap (λ (x : List ℕ). set x i v) (sym (alone row))
+
+pub row-word : (n : ℕ) (row l : List ℕ) (i : ℕ) → i < length row → getD (padded n (row ∷ []) ++ l) i 0 ≡ getD row i 0
+unfolding padded flatten
+row-word n row l i h =
+    let Z : List ℕ = replicate (n - length (row ++ [])) 0 in
+    ap (λ (x : List ℕ). getD ((x ++ Z) ++ l) i 0) (append-nil row) ∙ ap (λ (x : List ℕ). getD x i 0) (append-assoc row Z l) ∙ List·getD-append row (Z ++ l) 0 i h
+
 -- ---- cells cut
 
-pub groups-sized : (w n : ℕ) (l : List ℕ) → n * w ≤ length l → Sized w (groups w n l)
+pub groups-sized : (w n : ℕ) (l : List ℕ) → n * w ≤ length l → Sized w (groups w w n l)
 unfolding groups
 groups-sized w zero l h = snil
 groups-sized w (suc n) l h =
     scons (length-take-le w l (omega arith)) (groups-sized w n (drop w l) (rw length-drop (omega arith)))
 
-flatten-groups : (w n : ℕ) (l : List ℕ) → flatten (groups w n l) ≡ take (n * w) l
+flatten-groups : (w n : ℕ) (l : List ℕ) → flatten (groups w w n l) ≡ take (n * w) l
 unfolding flatten groups
 flatten-groups w zero l = ap (λ (m : ℕ). take m l) (sym (zero-mul w))
 flatten-groups w (suc n) l =
@@ -110,7 +150,7 @@ blank-zeros ws a n h t =
 
 -- n groups of w words at place a, and zeros up to m words
 pub padded-groups : (ws : List ℕ) (a w n m : ℕ) → n * w ≤ m → a + m ≤ length ws → T (blank ws (a + n * w) (m - n * w))
-    → padded m (groups w n (drop a ws)) ≡ take m (drop a ws)
+    → padded m (groups w w n (drop a ws)) ≡ take m (drop a ws)
 unfolding padded
 padded-groups ws a w n m fit long t =
     let l : List ℕ = drop a ws in

@@ -1,12 +1,12 @@
 -- Words stored in place of as many others: what is read there, before and after, and storing into the first or the second part of a list; put at
 -- once (`put`) or one by one (`sets`), which is the same. By cutting the list at the place. Assumes nothing.
 use mathlib.Core.Path.{_≡_, refl, sym, ap, ap₂, _∙_}
-use mathlib.Core.List.{List, [], _∷_, _++_, append-assoc}
+use mathlib.Core.List.{List, [], _∷_, _++_, append-assoc, append-nil}
 use Prim.Native.Nat.{ℕ, zero, suc, _+_, _-_, _<_, _≤_}
 use native.Mathlib.Nat.{zero-add, add-suc, suc-add, sub-zero, zero-sub, suc-sub-suc}
 use native.Mathlib.Omega.{arith}
 use lib.ListN.{length, take, drop, getD, set, replicate, length-append, length-set, length-replicate, List·getD-append}
-use lib.Seq.{length-take-le, drop-append-add, getD-append-add, getD-take, getD-drop, set-append-left, sets, sets-eq}
+use lib.Seq.{length-take-le, drop-length, drop-append-add, getD-append-add, getD-take, getD-drop, set-append-left, sets, sets-eq}
 
 -- c in place of as many words of l, from place a on
 unfoldable pub put : ℕ → List ℕ → List ℕ → List ℕ
@@ -74,6 +74,13 @@ sets-left (a ∷ vs) p q i h =
 
 pub sets-zeros : (c : List ℕ) (n : ℕ) → length c ≤ n → sets (replicate n 0) 0 c ≡ c ++ replicate (n - length c) 0
 sets-zeros c n h = sym (put-sets 0 c (replicate n 0) (rw (length-replicate {A = ℕ} n 0, zero-add (length c)) h)) ∙ put-zeros c n
+
+-- all words of a list replaced
+pub sets-all : (c l : List ℕ) → length c ≡ length l → sets l 0 c ≡ c
+unfolding put
+sets-all c l e =
+    let all : 0 + length c ≡ length l = zero-add (length c) ∙ e in
+    sym (put-sets 0 c l (omega arith)) ∙ ap (λ (n : ℕ). c ++ drop n l) all ∙ ap (λ (r : List ℕ). c ++ r) (drop-length l) ∙ append-nil c
 
 -- a word and then words stored in the first part of a list
 pub stored-before : (w x c : List ℕ) (a i v : ℕ) → i < length w → a + length c ≤ length w → sets (set w i v) a c ++ x ≡ put a c (set (w ++ x) i v)

@@ -11,7 +11,7 @@ use lib.Dec.{T}
 use lib.ListN.{length, getD}
 use Rattle.paper.specs.Rooms.{depthOk, mirrored, Same, Image}
 use Rattle.paper.specs.Outline.{edge}
-use Rattle.paper.specs.Store.{Cell, badPointer, cellsAt, cellAt, scenesHeld, keptCount, keptOf, headerOk}
+use Rattle.paper.specs.Store.{Cell, badPointer, cellsAt, cellAt, isHeld, keptCount, keptOf, headerOk}
 use Rattle.paper.specs.Meaning.{cellVoxel}
 use Rattle.paper.specs.Match.{matches}
 use Rattle.paper.specs.Answers.{told, outcome}
@@ -73,9 +73,9 @@ module _ {ws : List ℕ} {held : Held} (s : Holds ws held) where
         subst (λ (m : ℕ). Number held m n) (depth-two h d) (kept-number s k),
       )
 
-  -- the scenes held are those below the count
-  pub held-numbers : (n : ℕ) → (n < scenesHeld ws) ↔ ((sc : Scene) × (held n ≡ some sc))
-  held-numbers n = (λ h. (sceneOf (s .file n), s .isHeld n h), λ w. held-at s n (w .0) (w .1) .below)
+  -- the numbers that the words hold are those of the scenes held
+  pub held-numbers : (n : ℕ) → T (isHeld ws n) ↔ ((sc : Scene) × (held n ≡ some sc))
+  held-numbers n = (λ h. (sceneOf (s .file n), s .under n h), λ w. held-at s n (w .0) (w .1) .below)
 
 pub claim3 : C3
 claim3 s r = record { agree = sought-match (reached-holds s r); kept = kept-sought (reached-holds s r) }

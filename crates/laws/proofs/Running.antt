@@ -13,25 +13,27 @@ use lib.ListN.{length, drop, getD, set, replicate, replicate-append-replicate}
 use lib.Seq.{drop-at}
 use Rattle.paper.specs.Numbers.{flatten}
 use Rattle.paper.specs.Outline.{fileDepth, outlineTree}
-use Rattle.paper.specs.Store.{Cell, Store, mostScenes, heights, used, cellWords, capacityOk, scenesHeld, padded, listWords, wordsOf, emptyStore}
+use Rattle.paper.specs.Store.{Cell, Store, mostScenes, heights, firstScene, sceneWords, stride, firstList, used, freePlace, capacityOk, scenesHeld, padded, listRegions, headerRow, wordsOf, emptyStore}
 use Rattle.paper.specs.Match.{Adding, full, added, addTree}
 use Rattle.paper.specs.Answers.{Outcome, told, outcome}
 use Rattle.paper.specs.Order.{firstOf}
 use Rattle.paper.specs.Calls.{over, badSize, newOrder, newWords, newOutcome, nextScene, adding, isFull, cellsFull, addOrder, withScene, addWords, addOutcome}
-use Rattle.paper.specs.Runs.{Call, new, add, voxel, cell, box, kept, outline, pack, check, packedVoxel, opening, ask, detail, Bytes, Given, sceneOf, Held, nothing, holding, State, accepted, step, run, start, AllGiven, Reached}
+use Rattle.paper.specs.Runs.{Call, new, add, ofStore, ofFile, Bytes, Given, sceneOf, Held, nothing, holding, State, accepted, step, run, start, AllGiven, Reached}
 use Rattle.laws.proofs.Tests.{true-T, and-left}
-use Rattle.laws.proofs.Words.{Fine, storeWith, stored, gap, gap-place, wordsOf-length, storeOf-wordsOf, capacity-read, kept-read, scenes-read}
+use Rattle.laws.proofs.Words.{lists-place, Fine, storeWith, stored, wordsOf-length, storeOf-wordsOf, capacity-read, kept-read, scenes-read}
+use Rattle.laws.proofs.Regions.{inRow, regionPlace}
 use Rattle.laws.proofs.Filled.{Filled, filled-fine}
 use Rattle.laws.proofs.Filling.{empty-filled, AddsFile, file-adds, S⁺, held⁺, add-filled}
 use Rattle.laws.proofs.Refusals.{settled-accepted, settled-refused, settled-number, Passed, add-passed}
 
 -- the words are those of a store of the capacity given as calls make it, and others behind them
 pub record Running (s : State) : Type 0 where
+  pub count : ℕ
   pub scenes : List Cell
   pub lists : List (List Cell)
   pub rest : List ℕ
-  pub words : s .words ≡ stored (s .capacity) scenes lists rest
-  pub filled : Filled (s .capacity) scenes lists (s .held)
+  pub words : s .words ≡ stored (s .capacity) count scenes lists rest
+  pub filled : Filled (s .capacity) count scenes lists (s .held)
 
 -- ---- new store
 
@@ -39,27 +41,36 @@ no-words : (n : ℕ) → padded n [] ≡ replicate n 0
 unfolding padded flatten
 no-words n = let e : n - 0 ≡ n = omega arith in ap (λ (m : ℕ). replicate m 0) e
 
-no-lists : (C j n : ℕ) → listWords C j (replicate n []) ≡ replicate (gap C j n) 0
-unfolding listWords gap
+no-lists : (C j n : ℕ) → inRow (listRegions C j (replicate n [])) ≡ replicate (regionPlace (listRegions C j (replicate n [])) n) 0
+unfolding listRegions flatten regionPlace
 no-lists C j zero = refl
 no-lists C j (suc n) =
-    ap₂ (λ (a b : List ℕ). a ++ b) (no-words (cellWords j * C)) (no-lists C (suc j) n) ∙ replicate-append-replicate (cellWords j * C) (gap C (suc j) n) 0
+    ap₂ (λ (a b : List ℕ). a ++ b) (no-words (stride j * C)) (no-lists C (suc j) n) ∙ replicate-append-replicate (stride j * C) (regionPlace (listRegions C (suc j) (replicate n [])) n) 0
+
+no-scenes : padded (sceneWords * mostScenes) (replicate mostScenes freePlace) ≡ replicate (sceneWords * mostScenes) 0
+unfolding padded flatten
+no-scenes = refl
+
+bare-header : (C : ℕ) → padded firstScene (headerRow (emptyStore C) ∷ []) ≡ C ∷ replicate (firstScene - 1) 0
+unfolding padded flatten emptyStore
+bare-header C = refl
 
 -- 'a new store zeroes its words, then sets word 0'
-empty-words : (C : ℕ) → wordsOf (storeWith C [] (emptyStore C .kept)) ≡ C ∷ replicate (159 + 114 * C) 0
-unfolding wordsOf emptyStore
+empty-words : (C : ℕ) → wordsOf (storeWith C 0 (emptyStore C .scenes) (emptyStore C .kept)) ≡ C ∷ replicate (used C - 1) 0
+unfolding wordsOf emptyStore flatten
 empty-words C =
-    let n : ℕ = gap C 0 heights in
-    let e : 31 + (128 + n) ≡ 159 + 114 * C = omega (arith, gap-place C heights) in
-    ap₂ (λ (a b : List ℕ). C ∷ (replicate 31 0 ++ (a ++ b))) (no-words 128) (no-lists C 0 heights)
-    ∙ ap (λ (a : List ℕ). C ∷ (replicate 31 0 ++ a)) (replicate-append-replicate 128 n 0)
-    ∙ ap (λ (a : List ℕ). C ∷ a) (replicate-append-replicate 31 (128 + n) 0 ∙ ap (λ (m : ℕ). replicate m 0) e)
+    let n : ℕ = regionPlace (listRegions C 0 (replicate heights [])) heights in
+    let m : ℕ = sceneWords * mostScenes in
+    let place : firstList + n ≡ used C = lists-place C 0 (replicate heights []) heights (omega arith) in
+    let e : firstScene - 1 + (m + n) ≡ used C - 1 = omega (arith, place) in
+    ap₂ (λ (a b : List ℕ). a ++ b) (bare-header C) (ap₂ (λ (a b : List ℕ). a ++ b) no-scenes (no-lists C 0 heights) ∙ replicate-append-replicate m n 0)
+    ∙ ap (λ (a : List ℕ). C ∷ a) (replicate-append-replicate (firstScene - 1) (m + n) 0 ∙ ap (λ (j : ℕ). replicate j 0) e)
 
-pub new-words : (C : ℕ) (ws : List ℕ) → newWords C ws ≡ stored C [] (emptyStore C .kept) (drop (used C) ws)
+pub new-words : (C : ℕ) (ws : List ℕ) → newWords C ws ≡ stored C 0 (emptyStore C .scenes) (emptyStore C .kept) (drop (used C) ws)
 unfolding newWords
 new-words C ws =
     let r : List ℕ = drop (used C) ws in
-    let e : used C ≡ suc (159 + 114 * C) = omega arith in
+    let e : used C ≡ suc (used C - 1) = omega arith in
     ap (λ (n : ℕ). set (replicate n 0 ++ r) 0 C) e ∙ ap (λ (l : List ℕ). l ++ r) (sym (empty-words C))
 
 -- the state after an outcome of new store
@@ -74,7 +85,8 @@ unfolding newOutcome firstOf
 new-accepted C ws held c e =
     subst (λ (o : Outcome). Running (newState C held c o)) (sym (settled-accepted (firstOf (newOrder C ws)) [] (newWords C ws ∷ []) (ws ∷ []) (ap (λ (b : Bool). cond b 1 0) e)))
     (record {
-      scenes = [];
+      count = 0;
+      scenes = emptyStore C .scenes;
       lists = emptyStore C .kept;
       rest = drop (used C) ws;
       words = new-words C ws;
@@ -111,42 +123,43 @@ start-running C ws e =
 
 -- ---- add
 
-module _ {C : ℕ} {S : List Cell} {K : List (List Cell)} {held : Held} (f : Filled C S K held) (l : List ℕ) where
+module _ {C N : ℕ} {S : List Cell} {K : List (List Cell)} {held : Held} (f : Filled C N S K held) (l : List ℕ) where
   -- adding to the words is adding to the lists
-  pub adding-is : (file : List ℕ) → adding (stored C S K l) file ≡ addTree C (outlineTree file) (fileDepth file - 2) K
+  pub adding-is : (file : List ℕ) → adding (stored C N S K l) file ≡ addTree C (outlineTree file) (fileDepth file - 2) K
   unfolding adding
-  adding-is file = ap₂ (λ (c : ℕ) (Ks : List (List Cell)). addTree c (outlineTree file) (fileDepth file - 2) Ks) (capacity-read C S K (filled-fine f) l) (kept-read C S K (filled-fine f) l)
+  adding-is file = ap₂ (λ (c : ℕ) (Ks : List (List Cell)). addTree c (outlineTree file) (fileDepth file - 2) Ks) (capacity-read C N S K (filled-fine f) l) (kept-read C N S K (filled-fine f) l)
 
   -- the words afterwards
-  add-words : (file : List ℕ) (p : ℕ) (K′ : List (List Cell)) → adding (stored C S K l) file ≡ added p K′ → Fine C (S ++ ((fileDepth file ∷ p ∷ []) ∷ [])) K′
-      → addWords (stored C S K l) file ≡ stored C (S ++ ((fileDepth file ∷ p ∷ []) ∷ [])) K′ l
+  add-words : (file : List ℕ) (p : ℕ) (K′ : List (List Cell)) → adding (stored C N S K l) file ≡ added p K′ → Fine C (suc N) (set S N (fileDepth file ∷ p ∷ [])) K′
+      → addWords (stored C N S K l) file ≡ stored C (suc N) (set S N (fileDepth file ∷ p ∷ [])) K′ l
   unfolding addWords
   add-words file p K′ e fine =
-      let W : List ℕ = wordsOf (storeWith C (S ++ ((fileDepth file ∷ p ∷ []) ∷ [])) K′) in
-      ap₂ (λ (st : Store) (x : Adding ℕ). over (wordsOf (withScene st (fileDepth file) x)) (stored C S K l)) (storeOf-wordsOf C S K (filled-fine f) l) e
-      ∙ ap (λ (r : List ℕ). W ++ r) (drop-at (wordsOf (storeWith C S K)) l (length W)
-      (wordsOf-length C S K (filled-fine f) ∙ sym (wordsOf-length C (S ++ ((fileDepth file ∷ p ∷ []) ∷ [])) K′ fine)))
+      let W : List ℕ = wordsOf (storeWith C (suc N) (set S N (fileDepth file ∷ p ∷ [])) K′) in
+      (λ i. over (wordsOf (withScene (storeOf-wordsOf C N S K (filled-fine f) l i) (scenes-read C N S K (filled-fine f) l i) (fileDepth file) (e i))) (stored C N S K l))
+      ∙ ap (λ (r : List ℕ). W ++ r) (drop-at (wordsOf (storeWith C N S K)) l (length W)
+      (wordsOf-length C N S K (filled-fine f) ∙ sym (wordsOf-length C (suc N) (set S N (fileDepth file ∷ p ∷ [])) K′ fine)))
 
   -- the file is held under the number of scenes before
-  add-held : (file : List ℕ) → Bytes file → Passed (stored C S K l) file
-      → Running (record { words = addWords (stored C S K l) file; held = holding (nextScene (stored C S K l)) (sceneOf file) held; capacity = C })
+  add-held : (file : List ℕ) → Bytes file → Passed (stored C N S K l) file
+      → Running (record { words = addWords (stored C N S K l) file; held = holding (nextScene (stored C N S K l)) (sceneOf file) held; capacity = C })
   unfolding cellsFull
   add-held file b p = go (addTree C (outlineTree file) (fileDepth file - 2) K) refl (file-adds C K (f .capacity) (f .lists) (f .sound) (f .invs) file b (p .accepted))
     where
-      few : length S < mostScenes
-      few = subst (λ (n : ℕ). n < mostScenes) (scenes-read C S K (filled-fine f) l) (leb-false mostScenes (scenesHeld (stored C S K l)) (p .scenes))
+      few : N < mostScenes
+      few = subst (λ (n : ℕ). n < mostScenes) (scenes-read C N S K (filled-fine f) l) (leb-false mostScenes (scenesHeld (stored C N S K l)) (p .scenes))
 
       go : (x : Adding ℕ) → addTree C (outlineTree file) (fileDepth file - 2) K ≡ x → AddsFile C K file x
-          → Running (record { words = addWords (stored C S K l) file; held = holding (nextScene (stored C S K l)) (sceneOf file) held; capacity = C })
+          → Running (record { words = addWords (stored C N S K l) file; held = holding (nextScene (stored C N S K l)) (sceneOf file) held; capacity = C })
       go full e d = absurd (false≢true (sym (p .cells) ∙ ap isFull (adding-is file ∙ e)))
       go (added q K′) e d =
-          let filled : Filled C (S⁺ f file b (p .accepted) q K′ d few) K′ (held⁺ f file b (p .accepted) q K′ d few) = add-filled f file b (p .accepted) q K′ d few in
+          let filled : Filled C (suc N) (S⁺ f file b (p .accepted) q K′ d few) K′ (held⁺ f file b (p .accepted) q K′ d few) = add-filled f file b (p .accepted) q K′ d few in
           record {
-            scenes = S ++ ((fileDepth file ∷ q ∷ []) ∷ []);
+            count = suc N;
+            scenes = set S N (fileDepth file ∷ q ∷ []);
             lists = K′;
             rest = l;
             words = add-words file q K′ (adding-is file ∙ e) (filled-fine filled);
-            filled = subst (λ (n : ℕ). Filled C (S ++ ((fileDepth file ∷ q ∷ []) ∷ [])) K′ (holding n (sceneOf file) held)) (sym (scenes-read C S K (filled-fine f) l)) filled;
+            filled = subst (λ (n : ℕ). Filled C (suc N) (set S N (fileDepth file ∷ q ∷ [])) K′ (holding n (sceneOf file) held)) (sym (scenes-read C N S K (filled-fine f) l)) filled;
           }
 
 -- the state after an outcome of add
@@ -181,17 +194,8 @@ add-running s file r b = go (ℕ-discrete n 0)
 pub step-running : (s : State) (c : Call) → Given c → Running s → Running (step s c)
 step-running s (new C) g r = new-running C s r
 step-running s (add file) g r = add-running s file r g
-step-running s (voxel n v) g r = r
-step-running s (cell n h c) g r = r
-step-running s (box n low high) g r = r
-step-running s (kept h) g r = r
-step-running s (outline n out) g r = r
-step-running s (pack n scratch out) g r = r
-step-running s (check file scratch) g r = r
-step-running s (packedVoxel file v) g r = r
-step-running s (opening file) g r = r
-step-running s (ask file D starts v) g r = r
-step-running s (detail D w) g r = r
+step-running s (ofStore q) g r = r
+step-running s (ofFile q) g r = r
 
 pub run-running : (cs : List Call) (s : State) → AllGiven cs → Running s → Running (run s cs)
 unfolding run

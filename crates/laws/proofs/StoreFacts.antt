@@ -10,10 +10,10 @@ use lib.Dec.{T, eqb, leb, lit<, leb→le, ltb→lt}
 use lib.ListN.{length, getD}
 use Rattle.paper.specs.Numbers.{both, allBelow}
 use Rattle.paper.specs.Rooms.{depthOk, least, deepest}
-use Rattle.paper.specs.Store.{Cell, heights, scenesHeld, keptCount, keptOf, cellsAt, cellAt, cellNo, leafNo, badPointer, anyBad, sceneDepth, sceneRoot, sceneOk, leafUsable, cellUsable, listUsable, storeOk}
+use Rattle.paper.specs.Store.{Cell, heights, isHeld, keptCount, keptOf, cellsAt, cellAt, cellNo, leafNo, badPointer, anyBad, sceneDepth, sceneRoot, sceneOk, leafUsable, cellUsable, listUsable, storeOk}
 use Rattle.laws.proofs.Tests.{not-false, and-left, and-right, none-at}
 use Rattle.laws.proofs.Kept.{kept-length}
-use Rattle.laws.proofs.Undamaged.{undamaged}
+use Rattle.laws.proofs.Undamaged.{undamaged, held-sound}
 use Rattle.laws.proofs.Invariant.{named-kept}
 use Rattle.laws.proofs.Lists.{allIn-in}
 
@@ -48,12 +48,12 @@ cell-names n c b i h = names-kept n (getD c i 0) (none-at 8 (λ j. badPointer n 
 
 module _ (ws : List ℕ) (ok : T (storeOk ws)) where
   -- a scene held has a depth and a root that is not bad
-  pub scene-sound : (n : ℕ) → n < scenesHeld ws → T (depthOk (sceneDepth ws n)) × (badPointer (keptCount ws (sceneDepth ws n - 2)) (sceneRoot ws n) ≡ false)
+  pub scene-sound : (n : ℕ) → T (isHeld ws n) → T (depthOk (sceneDepth ws n)) × (badPointer (keptCount ws (sceneDepth ws n - 2)) (sceneRoot ws n) ≡ false)
   unfolding sceneOk
   scene-sound n h =
       let D : ℕ = sceneDepth ws n in
       let b : Bool = badPointer (keptCount ws (D - 2)) (sceneRoot ws n) in
-      (and-left (depthOk D) (not b) (undamaged ws ok .scenes n h), not-false b (and-right (depthOk D) (not b) (undamaged ws ok .scenes n h)))
+      (and-left (depthOk D) (not b) (held-sound (undamaged ws ok) n h), not-false b (and-right (depthOk D) (not b) (held-sound (undamaged ws ok) n h)))
 
   -- a kept leaf is not 0; a kept cell has a child, and no bad pointer
   pub leaf-not-zero : (n : ℕ) → n < keptCount ws 0 → 0 < leafNo (cellAt (keptOf ws) 0 n)

@@ -94,6 +94,9 @@ and5 a b c d e t =
     let w : T (a && b) = and-left (a && b) c v in
     (and-left a b w, and-right a b w, and-right (a && b) c v, and-right (a && b && c) d u, and-right (a && b && c && d) e t)
 
+pub and4 : (a b c d : Bool) → T (a && b && c && d) → T a × T b × T c × T d
+and4 a b c d t = let q = and5 true a b c d t in (q .1, q .2, q .3, q .4)
+
 pub and5-T : (a b c d e : Bool) → T a → T b → T c → T d → T e → T (a && b && c && d && e)
 and5-T a b c d e p q r s t = and-T (a && b && c && d) e (and-T (a && b && c) d (and-T (a && b) c (and-T a b p q) r) s) t
 

@@ -1,22 +1,25 @@
 -- What the tests of a store say; the store that words with a good header hold is fine, and an undamaged store's words are the words of the store
--- that they hold, followed by the rest of the slice. By the parts of the words, each cut into cells and padded with zeros. Assumes nothing.
+-- that they hold, followed by the rest of the slice. By the regions of the words, each cut into cells and padded with zeros. Assumes nothing.
 use mathlib.Core.Path.{_≡_, refl, sym, _∙_, subst, ap, ap₂}
-use mathlib.Core.Bool.{Bool, true, false, _&&_}
-use mathlib.Core.List.{List, [], _∷_, _++_, map}
+use mathlib.Core.Bool.{Bool, true, false, cond, not, _&&_}
+use mathlib.Core.List.{List, [], _∷_, _++_, map, append-nil}
 use Prim.Native.Nat.{ℕ, zero, suc, _+_, _-_, _*_, _<_, _≤_}
+use native.Mathlib.Nat.{zero-add}
 use native.Mathlib.Omega.{arith}
-use lib.Dec.{T, leb, leb→le, le→leb}
+use borrow.Author.Tests.{not-false, le-ltb}
+use lib.Dec.{T, leb, leb→le, le→leb, ltb→lt}
 use lib.ListN.{length, take, drop, getD, replicate, length-map, length-drop, take-append-drop}
 use lib.Seq.{take-add, drop-drop, length-take-le, ext-getD, getD-take, getD-drop}
-use Rattle.paper.specs.Numbers.{tabulate, allBelow}
+use Rattle.paper.specs.Numbers.{tabulate, allBelow, allIn, flatten}
 use Rattle.paper.specs.Rooms.{depthOk}
-use Rattle.paper.specs.Store.{Cell, mostScenes, heights, used, capacityOf, scenesHeld, keptCount, zerosPlace, scenePlace, cellWords, listPlace, cellPlace, groups, keptIn, keptOf, storeOf, padded, listWords, headerWords, wordsOf, blank, capacityOk, headerOk, sceneOk, scenesBlank, listUsable, listBlank, storeOk}
-use Rattle.laws.proofs.Tests.{true-T, and-right, and5, and5-T, all-at, all-T}
+use Rattle.paper.specs.Store.{Cell, mostScenes, heights, used, capacityOf, scenesHeld, isHeld, keptCount, zerosPlace, firstScene, sceneWords, stride, listPlace, cellPlace, keptIn, keptOf, storeOf, padded, region, regionWords, listRegions, headerRow, regions, wordsOf, blank, capacityOk, headerOk, sceneOk, isFree, placeOk, listUsable, listBlank, storeOk}
+use Rattle.paper.specs.Calls.{nextScene, noScene}
+use Rattle.laws.proofs.Tests.{T-true, true-T, and-right, and4, and5, and5-T, all-at, all-T}
 use Rattle.laws.proofs.Lists.{map-at}
-use Rattle.laws.proofs.Kept.{groups-length}
-use Rattle.laws.proofs.Kept.{kept-length, kept-tall, held-length}
-use Rattle.laws.proofs.Padded.{groups-sized, blank-zeros, padded-groups}
-use Rattle.laws.proofs.Words.{Lists, lnil, lcons, Fine, gap, gap-place, list-next, list-in, words-fit}
+use Rattle.laws.proofs.Kept.{kept-rows, keptIn-length, kept-list, kept-length, kept-tall, places-length}
+use Rattle.laws.proofs.Padded.{Sized, groups-sized, blank-zeros, padded-groups}
+use Rattle.laws.proofs.Regions.{regionAt, regionPlace, regions-length, regions-back}
+use Rattle.laws.proofs.Words.{Lists, lnil, lcons, list-in, words-fit, lists-place, lists-many, list-region, Fine, store-fit, wordsOf-length}
 
 -- ---- what the tests say
 
@@ -25,14 +28,14 @@ pub record Headed (ws : List ℕ) : Type 0 where
   pub capacity : T (capacityOk (capacityOf ws))
   pub held : scenesHeld ws ≤ mostScenes
   pub few : (k : ℕ) → k < heights → keptCount ws k ≤ capacityOf ws
-  pub header-zeros : T (blank ws zerosPlace 15)
+  pub header-zeros : T (blank ws zerosPlace (firstScene - zerosPlace))
 
 pub headed : (ws : List ℕ) → T (headerOk ws) → Headed ws
 unfolding headerOk
 headed ws t =
     let C : ℕ = capacityOf ws in
     let few : ℕ → Bool = λ k. leb (keptCount ws k) C in
-    let h = and5 (leb (used C) (length ws)) (capacityOk C) (leb (scenesHeld ws) mostScenes) (allBelow heights few) (blank ws zerosPlace 15) t in
+    let h = and5 (leb (used C) (length ws)) (capacityOk C) (leb (scenesHeld ws) mostScenes) (allBelow heights few) (blank ws zerosPlace (firstScene - zerosPlace)) t in
     record {
       long = leb→le (used C) (length ws) (h .0);
       capacity = h .1;
@@ -46,7 +49,7 @@ unfolding headerOk
 headed-ok ws h =
     let C : ℕ = capacityOf ws in
     let few : ℕ → Bool = λ k. leb (keptCount ws k) C in
-    and5-T (leb (used C) (length ws)) (capacityOk C) (leb (scenesHeld ws) mostScenes) (allBelow heights few) (blank ws zerosPlace 15)
+    and5-T (leb (used C) (length ws)) (capacityOk C) (leb (scenesHeld ws) mostScenes) (allBelow heights few) (blank ws zerosPlace (firstScene - zerosPlace))
     (le→leb (used C) (length ws) (h .long)) (h .capacity) (le→leb (scenesHeld ws) mostScenes (h .held))
     (all-T heights few (λ k l. le→leb (keptCount ws k) C (h .few k l))) (h .header-zeros)
 
@@ -55,17 +58,15 @@ pub record Undamaged (ws : List ℕ) : Type 0 where
   pub capacity : T (capacityOk (capacityOf ws))
   pub held : scenesHeld ws ≤ mostScenes
   pub few : (k : ℕ) → k < heights → keptCount ws k ≤ capacityOf ws
-  pub header-zeros : T (blank ws zerosPlace 15)
-  pub scenes : (n : ℕ) → n < scenesHeld ws → T (sceneOk ws n)
-  pub scenes-zeros : T (scenesBlank ws)
+  pub header-zeros : T (blank ws zerosPlace (firstScene - zerosPlace))
+  pub places : (n : ℕ) → n < mostScenes → T (placeOk ws n)
   pub usable : (k : ℕ) → k < heights → T (listUsable (keptOf ws) k)
   pub list-zeros : (k : ℕ) → k < heights → T (listBlank ws k)
 
 store-tests : (ws : List ℕ) → T (storeOk ws)
-    → T (headerOk ws) × T (allBelow (scenesHeld ws) (sceneOk ws)) × T (scenesBlank ws) × T (allBelow heights (listUsable (keptOf ws))) × T (allBelow heights (listBlank ws))
+    → T (headerOk ws) × T (allBelow mostScenes (placeOk ws)) × T (allBelow heights (listUsable (keptOf ws))) × T (allBelow heights (listBlank ws))
 unfolding storeOk
-store-tests ws =
-    and5 (headerOk ws) (allBelow (scenesHeld ws) (sceneOk ws)) (scenesBlank ws) (allBelow heights (listUsable (keptOf ws))) (allBelow heights (listBlank ws))
+store-tests ws = and4 (headerOk ws) (allBelow mostScenes (placeOk ws)) (allBelow heights (listUsable (keptOf ws))) (allBelow heights (listBlank ws))
 
 -- an undamaged store has a good header
 pub store-header : (ws : List ℕ) → T (storeOk ws) → T (headerOk ws)
@@ -81,14 +82,32 @@ undamaged ws t =
       held = h .held;
       few = h .few;
       header-zeros = h .header-zeros;
-      scenes = all-at (scenesHeld ws) (sceneOk ws) (s .1);
-      scenes-zeros = s .2;
-      usable = all-at heights (listUsable (keptOf ws)) (s .3);
-      list-zeros = all-at heights (listBlank ws) (s .4);
+      places = all-at mostScenes (placeOk ws) (s .1);
+      usable = all-at heights (listUsable (keptOf ws)) (s .2);
+      list-zeros = all-at heights (listBlank ws) (s .3);
     }
 
 pub undamaged-headed : {ws : List ℕ} → Undamaged ws → Headed ws
 undamaged-headed u = record { long = u .long; capacity = u .capacity; held = u .held; few = u .few; header-zeros = u .header-zeros }
+
+-- a number held is no refusal 9, and any other is
+pub held-there : (ws : List ℕ) (n : ℕ) → T (isHeld ws n) → noScene ws n ≡ false
+held-there ws n t = ap not (T-true {b = isHeld ws n} t)
+
+pub there-held : (ws : List ℕ) (n : ℕ) → noScene ws n ≡ false → T (isHeld ws n)
+there-held ws n e = true-T (not-false (isHeld ws n) e)
+
+-- nothing is held under the next number
+pub next-free : (ws : List ℕ) → isHeld ws (nextScene ws) ≡ false
+next-free ws = le-ltb (scenesHeld ws) (scenesHeld ws) (omega arith)
+
+-- the number of a scene held has a place, and the scene there is not damaged
+pub held-placed : (ws : List ℕ) (n : ℕ) → scenesHeld ws ≤ mostScenes → T (isHeld ws n) → n < mostScenes
+held-placed ws n h t = omega (arith, ltb→lt n (scenesHeld ws) t)
+
+pub held-sound : {ws : List ℕ} → Undamaged ws → (n : ℕ) → T (isHeld ws n) → T (sceneOk ws n)
+unfolding placeOk
+held-sound {ws} u n t = subst (λ (b : Bool). T (cond b (sceneOk ws n) (isFree ws n))) (T-true {b = isHeld ws n} t) (u .places n (held-placed ws n (u .held) t))
 
 -- a depth in range has its list, and a test after it looks at that list only
 pub depth-low : (D : ℕ) → T (depthOk D) → D - 2 < heights
@@ -105,22 +124,23 @@ depth-list D f g e = go (depthOk D) refl
 
 module _ (ws : List ℕ) (h : Headed ws) where
   tables-fine : (n j : ℕ) → j + n ≡ heights → Lists (capacityOf ws) j (tabulate j n (keptIn ws))
-  unfolding tabulate keptIn
+  unfolding tabulate
   tables-fine zero j e = lnil
   tables-fine (suc n) j e =
       let C : ℕ = capacityOf ws in
       let m : ℕ = keptCount ws j in
       let hj : j < heights = omega arith in
-      let hl : m * cellWords j ≤ length (drop (listPlace C j) ws) = rw length-drop (omega (arith, h .long, list-in C j hj, words-fit j m C (h .few j hj))) in
-      lcons (groups-sized (cellWords j) m (drop (listPlace C j) ws) hl)
-      (rw (groups-length (cellWords j) m (drop (listPlace C j) ws)) (h .few j hj)) (tables-fine n (suc j) (omega arith))
+      let hl : m * stride j ≤ length (drop (listPlace C j) ws) = rw length-drop (omega (arith, h .long, list-in C j hj, words-fit j m C (h .few j hj))) in
+      lcons (subst (Sized (stride j)) (sym (kept-rows ws j)) (groups-sized (stride j) m (drop (listPlace C j) ws) hl)) (rw (keptIn-length ws j) (h .few j hj))
+      (tables-fine n (suc j) (omega arith))
 
-  pub header-fine : Fine (capacityOf ws) (storeOf ws .scenes) (storeOf ws .kept)
+  pub header-fine : Fine (capacityOf ws) (scenesHeld ws) (storeOf ws .scenes) (storeOf ws .kept)
   unfolding storeOf keptOf
   header-fine = record {
     lists = kept-tall ws;
-    of-scenes = groups-sized 2 (scenesHeld ws) (drop (scenePlace 0) ws) (rw length-drop (omega (arith, h .long, h .held)));
-    few-scenes = rw (held-length ws) (h .held);
+    of-scenes = groups-sized sceneWords mostScenes (drop firstScene ws) (rw length-drop (omega (arith, h .long)));
+    all-scenes = places-length ws;
+    few-scenes = h .held;
     of-cells = tables-fine heights 0 refl;
   }
 
@@ -131,73 +151,77 @@ take2 [] h = absurd (omega arith)
 take2 (x ∷ []) h = absurd (omega arith)
 take2 (x ∷ y ∷ ws) h = refl
 
--- the zeros of the scenes and of list j, counted in groups
-pub scenes-blank-at : (ws : List ℕ) (n : ℕ) → blank ws (scenePlace n) (2 * (mostScenes - n)) ≡ blank ws (32 + n * 2) (128 - n * 2)
-scenes-blank-at ws n = ap₂ (blank ws) (omega arith) (omega arith)
-
-pub list-blank-at : (ws : List ℕ) (C j n : ℕ) → blank ws (cellPlace C j n) (cellWords j * (C - n)) ≡ blank ws (listPlace C j + n * cellWords j) (cellWords j * C - n * cellWords j)
+-- the zeros of list j, counted in groups
+pub list-blank-at : (ws : List ℕ) (C j n : ℕ) → blank ws (cellPlace C j n) (stride j * (C - n)) ≡ blank ws (listPlace C j + n * stride j) (stride j * C - n * stride j)
 list-blank-at ws C zero n = ap₂ (blank ws) (omega arith) (omega arith)
 list-blank-at ws C (suc j) n = ap₂ (blank ws) (omega arith) (omega arith)
 
 module _ (ws : List ℕ) (u : Undamaged ws) where
-  counts-back : map length (keptOf ws) ≡ take 15 (drop 2 ws)
+  counts-back : map length (keptOf ws) ≡ take heights (drop 2 ws)
   counts-back =
       let m : List ℕ = map (length {A = Cell}) (keptOf ws) in
-      let hm : length m ≡ 15 = length-map (keptOf ws) length ∙ kept-tall ws in
-      let hd : 15 ≤ length (drop 2 ws) = rw length-drop (omega (arith, u .long)) in
-      ext-getD 0 m (take 15 (drop 2 ws)) (hm ∙ sym (length-take-le 15 (drop 2 ws) hd))
+      let hm : length m ≡ heights = length-map (keptOf ws) length ∙ kept-tall ws in
+      let hd : heights ≤ length (drop 2 ws) = rw length-drop (omega (arith, u .long)) in
+      ext-getD 0 m (take heights (drop 2 ws)) (hm ∙ sym (length-take-le heights (drop 2 ws) hd))
       (λ i h.
-      let hi : i < 15 = omega arith in
-      map-at length (keptOf ws) i [] 0 (rw (kept-tall ws) hi) ∙ kept-length ws i hi ∙ sym (getD-take 15 (drop 2 ws) i 0 hi ∙ getD-drop 2 ws i 0))
+      let hi : i < heights = omega arith in
+      map-at length (keptOf ws) i [] 0 (rw (kept-tall ws) hi) ∙ kept-length ws i hi ∙ sym (getD-take heights (drop 2 ws) i 0 hi ∙ getD-drop 2 ws i 0))
 
-  header-back : headerWords (storeOf ws) ≡ take 32 ws
-  unfolding storeOf
+  -- the header's row is its first words, and zeros follow
+  header-back : padded firstScene (headerRow (storeOf ws) ∷ []) ≡ take firstScene ws
+  unfolding storeOf padded flatten
   header-back =
-      let A : List ℕ = take 15 (drop 2 ws) in
-      let whole : take 32 ws ≡ (getD ws 0 0 ∷ getD ws 1 0 ∷ A) ++ take 15 (drop 17 ws) =
-      take-add 2 30 ws ∙ ap₂ (λ (x y : List ℕ). x ++ y) (take2 ws (omega (arith, u .long))) (take-add 15 15 (drop 2 ws) ∙ ap (λ (x : List ℕ). A ++ take 15 x) (drop-drop 15 2 ws)) in
-      ap₂ (λ (n : ℕ) (r : List ℕ). (getD ws 0 0 ∷ n ∷ r) ++ replicate 15 0) (held-length ws) counts-back
-      ∙ ap (λ (r : List ℕ). (getD ws 0 0 ∷ getD ws 1 0 ∷ A) ++ r) (sym (blank-zeros ws zerosPlace 15 (omega (arith, u .long)) (u .header-zeros)))
+      let A : List ℕ = take heights (drop 2 ws) in
+      let R : List ℕ = getD ws 0 0 ∷ getD ws 1 0 ∷ A in
+      let n : ℕ = firstScene - zerosPlace in
+      let row : headerRow (storeOf ws) ≡ R = ap (λ (r : List ℕ). getD ws 0 0 ∷ getD ws 1 0 ∷ r) counts-back in
+      let long : length R ≡ zerosPlace = ap (λ (m : ℕ). suc (suc m)) (length-take-le heights (drop 2 ws) (rw length-drop (omega (arith, u .long)))) in
+      let whole : take firstScene ws ≡ R ++ take n (drop zerosPlace ws) =
+      take-add 2 30 ws ∙ ap₂ (λ (x y : List ℕ). x ++ y) (take2 ws (omega (arith, u .long))) (take-add heights n (drop 2 ws) ∙ ap (λ (x : List ℕ). A ++ take n x) (drop-drop heights 2 ws)) in
+      ap (λ (r : List ℕ). r ++ replicate (firstScene - length r) 0) (append-nil (headerRow (storeOf ws)) ∙ row) ∙ ap (λ (m : ℕ). R ++ replicate (firstScene - m) 0) long
+      ∙ ap (λ (r : List ℕ). R ++ r) (sym (blank-zeros ws zerosPlace n (omega (arith, u .long)) (u .header-zeros)))
       ∙ sym whole
 
-  scenes-back : padded (2 * mostScenes) (groups 2 (scenesHeld ws) (drop (scenePlace 0) ws)) ≡ take 128 (drop 32 ws)
-  scenes-back =
-      padded-groups ws 32 2 (scenesHeld ws) 128 (omega (arith, u .held)) (omega (arith, u .long)) (subst T (scenes-blank-at ws (scenesHeld ws)) (u .scenes-zeros))
+  scenes-back : padded (sceneWords * mostScenes) (storeOf ws .scenes) ≡ take (sceneWords * mostScenes) (drop firstScene ws)
+  unfolding storeOf blank allIn
+  scenes-back = padded-groups ws firstScene sceneWords mostScenes (sceneWords * mostScenes) (omega arith) (omega (arith, u .long)) tt
 
-  list-back : (j : ℕ) → j < heights → padded (cellWords j * capacityOf ws) (keptIn ws j) ≡ take (cellWords j * capacityOf ws) (drop (listPlace (capacityOf ws) j) ws)
-  unfolding keptIn
+  list-back : (j : ℕ) → j < heights → padded (stride j * capacityOf ws) (keptIn ws j) ≡ take (stride j * capacityOf ws) (drop (listPlace (capacityOf ws) j) ws)
   list-back j h =
       let C : ℕ = capacityOf ws in
       let n : ℕ = keptCount ws j in
-      padded-groups ws (listPlace C j) (cellWords j) n (cellWords j * C) (words-fit j n C (u .few j h)) (omega (arith, u .long, list-in C j h))
+      ap (padded (stride j * C)) (kept-rows ws j)
+      ∙ padded-groups ws (listPlace C j) (stride j) n (stride j * C) (words-fit j n C (u .few j h)) (omega (arith, u .long, list-in C j h))
       (subst T (list-blank-at ws C j n) (u .list-zeros j h))
 
-  lists-back : (n j : ℕ) → j + n ≡ heights → listWords (capacityOf ws) j (tabulate j n (keptIn ws)) ≡ take (gap (capacityOf ws) j n) (drop (listPlace (capacityOf ws) j) ws)
-  unfolding listWords tabulate gap
-  lists-back zero j e = refl
-  lists-back (suc n) j e =
+  pub store-fine : Fine (capacityOf ws) (scenesHeld ws) (storeOf ws .scenes) (storeOf ws .kept)
+  store-fine = header-fine ws (undamaged-headed u)
+
+  words-long : length (wordsOf (storeOf ws)) ≡ used (capacityOf ws)
+  unfolding storeOf
+  words-long = wordsOf-length (capacityOf ws) (scenesHeld ws) (storeOf ws .scenes) (storeOf ws .kept) store-fine
+
+  -- each region's words stand where it starts
+  region-back : (i : ℕ) → i < length (regions (storeOf ws))
+      → regionWords (regionAt (regions (storeOf ws)) i) ≡ take (regionAt (regions (storeOf ws)) i .size) (drop (0 + regionPlace (regions (storeOf ws)) i) ws)
+  unfolding regionPlace storeOf
+  region-back zero h = header-back
+  region-back (suc zero) h = scenes-back
+  region-back (suc (suc k)) h =
       let C : ℕ = capacityOf ws in
-      let w : ℕ = cellWords j * C in
-      let l : List ℕ = drop (listPlace C j) ws in
-      let next : drop (listPlace C (suc j)) ws ≡ drop w l = ap (λ (x : ℕ). drop x ws) (list-next C j) ∙ sym (drop-drop w (listPlace C j) ws) in
-      ap₂ (λ (x y : List ℕ). x ++ y) (list-back j (omega arith)) (lists-back n (suc j) (omega arith) ∙ ap (take (gap C (suc j) n)) next)
-      ∙ sym (take-add w (gap C (suc j) n) l)
+      let K : List (List Cell) = keptOf ws in
+      let hk : k < heights = omega (arith, lists-many C 0 K, kept-tall ws) in
+      let there : regionAt (listRegions C 0 K) k ≡ region (stride k * C) (keptIn ws k) =
+      list-region C 0 K k (omega (arith, kept-tall ws)) ∙ ap₂ (λ (i : ℕ) (cs : List Cell). region (stride i * C) cs) (zero-add k) (kept-list ws k hk) in
+      let start : 0 + (firstScene + (sceneWords * mostScenes + regionPlace (listRegions C 0 K) k)) ≡ listPlace C k =
+      omega (arith, lists-place C 0 K k (omega (arith, kept-tall ws)) ∙ ap (listPlace C) (zero-add k)) in
+      rw (there, start) (list-back k hk)
 
   pub words-front : wordsOf (storeOf ws) ≡ take (used (capacityOf ws)) ws
-  unfolding wordsOf storeOf keptOf
+  unfolding wordsOf storeOf
   words-front =
-      let C : ℕ = capacityOf ws in
-      let all : gap C 0 heights ≡ 114 * C = omega (arith, gap-place C heights) in
-      let L : List ℕ = take (114 * C) (drop 160 ws) in
-      let e : 32 + (128 + 114 * C) ≡ used C = omega arith in
-      ap₂ (λ (x y : List ℕ). x ++ y) header-back
-      (ap₂ (λ (x y : List ℕ). x ++ y) scenes-back (lists-back heights 0 refl ∙ ap (λ (n : ℕ). take n (drop 160 ws)) all)
-      ∙ ap (λ (x : List ℕ). take 128 (drop 32 ws) ++ take (114 * C) x) (sym (drop-drop 128 32 ws)) ∙ sym (take-add 128 (114 * C) (drop 32 ws)))
-      ∙ sym (take-add 32 (128 + 114 * C) ws) ∙ ap (λ (n : ℕ). take n ws) e
+      regions-back ws 0 (regions (storeOf ws)) region-back ∙ ap (λ (n : ℕ). take n ws) (sym (regions-length (store-fit (storeOf ws .capacity) (storeOf ws .held) (storeOf ws .scenes) (storeOf ws .kept) store-fine)) ∙ words-long)
 
   -- the words are those of the store that they hold, and the rest of the slice
   pub wordsOf-storeOf : wordsOf (storeOf ws) ++ drop (used (capacityOf ws)) ws ≡ ws
   wordsOf-storeOf = ap (λ (x : List ℕ). x ++ drop (used (capacityOf ws)) ws) words-front ∙ take-append-drop (used (capacityOf ws)) ws
-
-  pub store-fine : Fine (capacityOf ws) (storeOf ws .scenes) (storeOf ws .kept)
-  store-fine = header-fine ws (undamaged-headed u)

@@ -16,7 +16,7 @@ use Rattle.paper.specs.Answers.{Outcome}
 use Rattle.paper.specs.Order.{when, firstOf, settled}
 use Rattle.paper.specs.Calls.{over, cleared, noScene, outlineBytes, outlineShort, outlineOutOrder, outlineOutcome}
 use Rattle.paper.specs.Calls.{scratchFor, packBytes, packShort, packOrder, packScratchAfter, packOutcome, packedOrder, checkOrder, checkScratchAfter, checkOutcome}
-use Rattle.paper.specs.Runs.{Call, new, add, voxel, cell, box, kept, outline, pack, check, packedVoxel, opening, ask, detail, outcomeOf, writes, wordsAfter, besides, usedBy}
+use Rattle.paper.specs.Runs.{StoreQuestion, voxel, cell, box, kept, outline, pack, Call, new, add, ofStore, ofFile, storeAnswer, outcomeOf, writes, wordsAfter, besides, usedBy}
 use Rattle.paper.specs.Claims.{SameAnswer, SameBut, lengthIn, C11}
 use Rattle.laws.proofs.UnseenAnswers.{voxel-unseen, cell-unseen, box-unseen, kept-answer-unseen, outline-unseen, pack-unseen}
 use Rattle.laws.proofs.Orders.{told-number, told-values}
@@ -53,36 +53,27 @@ stores-only c f r w o = record {
   long = rw w (o .long);
 }
 
+-- a question on a store; one that looks at no store is not asked what is behind
+question-unseen : (q : StoreQuestion) (f r : List ℕ) → used (capacityOf f) ≤ length f → storeAnswer (f ++ r) q ≡ storeAnswer f q
+question-unseen (voxel n v) f r h = voxel-unseen f r h n v
+question-unseen (cell n k c) f r h = cell-unseen f r h n k c
+question-unseen (box n low high) f r h = box-unseen f r h n low high
+question-unseen (kept k) f r h = kept-answer-unseen f r h k
+question-unseen (outline n out) f r h = outline-unseen f r h n out
+question-unseen (pack n scratch out) f r h = pack-unseen f r h n scratch out
+
 unseen : (c : Call) (f r : List ℕ) → usedBy f c ≤ length f → Unseen c f r
 unseen (new C) f r h = stores-only (new C) f r refl (new-written C f r h)
 unseen (add file) f r h = stores-only (add file) f r refl (add-written f r file h)
-unseen (voxel n v) f r h = reads (voxel n v) f r refl (voxel-unseen f r h n v)
-unseen (cell n k c) f r h = reads (cell n k c) f r refl (cell-unseen f r h n k c)
-unseen (box n low high) f r h = reads (box n low high) f r refl (box-unseen f r h n low high)
-unseen (kept k) f r h = reads (kept k) f r refl (kept-answer-unseen f r h k)
-unseen (outline n out) f r h = reads (outline n out) f r refl (outline-unseen f r h n out)
-unseen (pack n scratch out) f r h = reads (pack n scratch out) f r refl (pack-unseen f r h n scratch out)
-unseen (check file scratch) f r h = reads (check file scratch) f r refl refl
-unseen (packedVoxel file v) f r h = reads (packedVoxel file v) f r refl refl
-unseen (opening file) f r h = reads (opening file) f r refl refl
-unseen (ask file D starts v) f r h = reads (ask file D starts v) f r refl refl
-unseen (detail D w) f r h = reads (detail D w) f r refl refl
+unseen (ofStore q) f r h = reads (ofStore q) f r refl (question-unseen q f r h)
+unseen (ofFile q) f r h = reads (ofFile q) f r refl refl
 
 -- a slice that is too short is left as it is
 short : (c : Call) (ws : List ℕ) → length ws < usedBy ws c → wordsAfter ws c ≡ ws
 short (new C) ws l = new-short C ws l
 short (add file) ws l = add-short ws file l
-short (voxel n v) ws l = refl
-short (cell n k c) ws l = refl
-short (box n low high) ws l = refl
-short (kept k) ws l = refl
-short (outline n out) ws l = refl
-short (pack n scratch out) ws l = refl
-short (check file scratch) ws l = refl
-short (packedVoxel file v) ws l = refl
-short (opening file) ws l = refl
-short (ask file D starts v) ws l = refl
-short (detail D w) ws l = refl
+short (ofStore q) ws l = refl
+short (ofFile q) ws l = refl
 
 -- the words used say how many are used
 used-front : (ws : List ℕ) → used (capacityOf (take (used (capacityOf ws)) ws)) ≡ used (capacityOf ws)
@@ -91,17 +82,8 @@ used-front ws = ap used (getD-take (used (capacityOf ws)) ws 0 0 (omega arith))
 front : (c : Call) (ws : List ℕ) → usedBy (take (usedBy ws c) ws) c ≡ usedBy ws c
 front (new C) ws = refl
 front (add file) ws = used-front ws
-front (voxel n v) ws = used-front ws
-front (cell n k c) ws = used-front ws
-front (box n low high) ws = used-front ws
-front (kept k) ws = used-front ws
-front (outline n out) ws = used-front ws
-front (pack n scratch out) ws = used-front ws
-front (check file scratch) ws = refl
-front (packedVoxel file v) ws = refl
-front (opening file) ws = refl
-front (ask file D starts v) ws = refl
-front (detail D w) ws = refl
+front (ofStore q) ws = used-front ws
+front (ofFile q) ws = refl
 
 -- ---- two stores that agree on the words used
 

@@ -4,13 +4,12 @@ use mathlib.Core.Path.{_≡_, refl, ap, ap₂, _∙_}
 use mathlib.Core.Bool.{Bool, true, false, cond, not, _||_}
 use mathlib.Core.List.{List, [], _∷_, _++_}
 use Prim.Native.Nat.{ℕ, _-_, _<_, _≤_, _^_}
-use borrow.Author.Tests.{leb-false}
 use lib.Dec.{T, eqb, leb, ltb}
 use lib.ListN.{length}
 use Rattle.paper.specs.Numbers.{bitFor}
 use Rattle.paper.specs.Rooms.{Point, depthOk, inside}
 use Rattle.paper.specs.Outline.{longest, outlineOf}
-use Rattle.paper.specs.Store.{Cell, used, capacityOf, scenesHeld, keptCount, headerOk, sceneOk, storeOk}
+use Rattle.paper.specs.Store.{Cell, mostScenes, used, capacityOf, keptCount, headerOk, sceneOk, storeOk}
 use Rattle.paper.specs.Meaning.{rootRoom}
 use Rattle.paper.specs.Walk.{isDamaged, solidAt}
 use Rattle.paper.specs.Questions.{voxelWalk, cellFull, cellWay, boxSolid, boxWay}
@@ -19,8 +18,8 @@ use Rattle.paper.specs.Answers.{Outcome}
 use Rattle.paper.specs.Order.{when, firstOf, settled}
 use Rattle.paper.specs.Calls.{over, cleared, noScene, ofScene, axisOutside, voxelOutside, voxelDamaged, voxelOutcome, cellOutside, cellDamaged, cellOutcome, boxOutside, boxDamaged, boxOutcome}
 use Rattle.paper.specs.Calls.{keptOutcome, outShort, outlineBytes, outlineShort, outlineOutcome, packScratch, packBytes, packShort, packOutcome}
-use Rattle.laws.proofs.Undamaged.{depth-low, store-header}
-use Rattle.laws.proofs.UnseenWords.{capacity-unseen, held-unseen, count-unseen, header-unseen, kept-unseen, depth-unseen, root-unseen, scene-unseen, undamaged-unseen}
+use Rattle.laws.proofs.Undamaged.{headed, depth-low, store-header, there-held, held-placed}
+use Rattle.laws.proofs.UnseenWords.{capacity-unseen, number-unseen, count-unseen, header-unseen, kept-unseen, depth-unseen, root-unseen, scene-unseen, undamaged-unseen}
 
 -- ---- the answers, by what their tests give
 
@@ -75,12 +74,16 @@ packFor-same true false m B B′ scratch out q = ap (λ (b : List ℕ). packFor 
 
 module _ (f r : List ℕ) (whole : used (capacityOf f) ≤ length f) where
   no-scene-unseen : (n : ℕ) → noScene (f ++ r) n ≡ noScene f n
-  no-scene-unseen n = ap (λ (m : ℕ). leb m n) (held-unseen f r whole)
+  no-scene-unseen n = ap not (number-unseen f r whole n)
+
+  -- a scene that is there has a place
+  placed : (n : ℕ) → T (headerOk f) → noScene f n ≡ false → n < mostScenes
+  placed n h e = held-placed f n (headed f h .held) (there-held f n e)
 
   -- whatever the kept cells and a scene's two words give
   scene-part : {A : Type 0} (F : List (List Cell) → ℕ → ℕ → A) (n : ℕ) → T (headerOk f) → noScene f n ≡ false → ofScene F (f ++ r) n ≡ ofScene F f n
   scene-part F n h e =
-      let l : n < scenesHeld f = leb-false (scenesHeld f) n e in
+      let l : n < mostScenes = placed n h e in
       λ i. F (kept-unseen f r whole h i) (depth-unseen f r whole h n l i) (root-unseen f r whole h n l i)
 
   question-unseen : (n : ℕ) (O W : List (List Cell) → ℕ → ℕ → Bool) (N : List (List Cell) → ℕ → ℕ → ℕ)
@@ -91,7 +94,7 @@ module _ (f r : List ℕ) (whole : used (capacityOf f) ≤ length f) where
       (header-unseen f r whole) (no-scene-unseen n)
       ∙ question-same (headerOk f) (noScene f n) (sceneOk (f ++ r) n) (sceneOk f n) (ofScene O (f ++ r) n) (ofScene O f n) (ofScene W (f ++ r) n) (ofScene W f n)
       (ofScene N (f ++ r) n) (ofScene N f n)
-      (λ h e. (scene-unseen f r whole h n (leb-false (scenesHeld f) n e), scene-part O n h e, scene-part W n h e, scene-part N n h e))
+      (λ h e. (scene-unseen f r whole h n (placed n h e), scene-part O n h e, scene-part W n h e, scene-part N n h e))
 
   pub voxel-unseen : (n : ℕ) (v : Point) → voxelOutcome (f ++ r) n v ≡ voxelOutcome f n v
   unfolding voxelOutcome voxelOutside voxelDamaged

@@ -1,37 +1,38 @@
 -- Words behind those that a store uses are not looked at: each reader and each test of a store long enough gives the same with words behind it.
 -- By the places that each looks at, all of them inside. Assumes nothing.
 use mathlib.Core.Path.{_≡_, refl, sym, ap, ap₂, _∙_}
-use mathlib.Core.Bool.{Bool, true, false, not, _&&_}
+use mathlib.Core.Bool.{Bool, true, false, cond, not, _&&_}
 use mathlib.Core.List.{List, _∷_, _++_}
 use Prim.Native.Nat.{ℕ, zero, suc, _+_, _-_, _*_, _<_, _≤_}
 use native.Mathlib.Nat.{zero-add, mul-le-mul-left, mul-sub}
 use native.Mathlib.Omega.{arith}
 use borrow.Author.Tests.{le-leb}
-use lib.Dec.{T, eqb, leb}
+use lib.Dec.{T, eqb, leb, ltb}
 use lib.ListN.{length, take, drop, getD, length-append, length-drop, List·getD-append}
 use lib.Seq.{take-append-le, drop-append-le}
 use Rattle.paper.specs.Numbers.{allBelow, allIn}
 use Rattle.paper.specs.Rooms.{depthOk}
-use Rattle.paper.specs.Store.{Cell, badPointer, mostScenes, heights, used, capacityOf, scenesHeld, keptCount, zerosPlace, scenePlace, cellWords, listPlace, cellPlace}
-use Rattle.paper.specs.Store.{groups, keptIn, keptOf, storeOf, sceneDepth, sceneRoot, blank, capacityOk, headerOk, sceneOk, listUsable, scenesBlank, listBlank, storeOk}
+use Rattle.paper.specs.Store.{Cell, badPointer, mostScenes, heights, used, capacityOf, scenesHeld, isHeld, keptCount, zerosPlace, firstScene, sceneWords, scenePlace, cellLength, stride, firstList, listPlace, cellPlace}
+use Rattle.paper.specs.Store.{groups, keptIn, keptOf, storeOf, sceneDepth, sceneRoot, blank, capacityOk, headerOk, sceneOk, placeOk, listUsable, listBlank, storeOk}
 use Rattle.laws.proofs.Tests.{true-T, all-same}
 use Rattle.laws.proofs.Lists.{tabulate-same}
+use Rattle.laws.proofs.Kept.{cell-fills}
 use Rattle.laws.proofs.Words.{list-in}
 use Rattle.laws.proofs.Undamaged.{Headed, headed, depth-list}
 
 -- ---- parts of a list
 
-pub groups-front : (w n : ℕ) (l r : List ℕ) → w * n ≤ length l → groups w n (l ++ r) ≡ groups w n l
+pub groups-front : (s w n : ℕ) (l r : List ℕ) → w ≤ s → s * n ≤ length l → groups s w n (l ++ r) ≡ groups s w n l
 unfolding groups
-groups-front w zero l r h = refl
-groups-front w (suc n) l r h =
-    let one : w ≤ length l = omega arith in
-    ap₂ _∷_ (take-append-le w l r one)
-    (ap (groups w n) (drop-append-le w l r one) ∙ groups-front w n (drop w l) r (rw (length-drop w l) (omega arith)))
+groups-front s w zero l r inside h = refl
+groups-front s w (suc n) l r inside h =
+    let one : s ≤ length l = omega arith in
+    ap₂ _∷_ (take-append-le w l r (omega arith))
+    (ap (groups s w n) (drop-append-le s l r one) ∙ groups-front s w n (drop s l) r inside (rw (length-drop s l) (omega arith)))
 
-groups-part : (w n a : ℕ) (f r : List ℕ) → a + w * n ≤ length f → groups w n (drop a (f ++ r)) ≡ groups w n (drop a f)
-groups-part w n a f r h =
-    ap (groups w n) (drop-append-le a f r (omega arith)) ∙ groups-front w n (drop a f) r (rw (length-drop a f) (omega arith))
+groups-part : (s w n a : ℕ) (f r : List ℕ) → w ≤ s → a + s * n ≤ length f → groups s w n (drop a (f ++ r)) ≡ groups s w n (drop a f)
+groups-part s w n a f r inside h =
+    ap (groups s w n) (drop-append-le a f r (omega arith)) ∙ groups-front s w n (drop a f) r inside (rw (length-drop a f) (omega arith))
 
 blank-part : (f r : List ℕ) (a n : ℕ) → a + n ≤ length f → blank (f ++ r) a n ≡ blank f a n
 unfolding blank
@@ -48,7 +49,7 @@ no-header ws e = rw e refl
 -- ---- readers and tests, of a store f long enough with words r behind it
 
 module _ (f r : List ℕ) (whole : used (capacityOf f) ≤ length f) where
-  word-unseen : (i : ℕ) → i < 160 → getD (f ++ r) i 0 ≡ getD f i 0
+  word-unseen : (i : ℕ) → i < firstList → getD (f ++ r) i 0 ≡ getD f i 0
   word-unseen i h = List·getD-append f r 0 i (omega arith)
 
   pub capacity-unseen : capacityOf (f ++ r) ≡ capacityOf f
@@ -56,6 +57,9 @@ module _ (f r : List ℕ) (whole : used (capacityOf f) ≤ length f) where
 
   pub held-unseen : scenesHeld (f ++ r) ≡ scenesHeld f
   held-unseen = word-unseen 1 (omega arith)
+
+  pub number-unseen : (n : ℕ) → isHeld (f ++ r) n ≡ isHeld f n
+  number-unseen n = ap (ltb n) held-unseen
 
   pub count-unseen : (k : ℕ) → k < heights → keptCount (f ++ r) k ≡ keptCount f k
   count-unseen k h = word-unseen (2 + k) (omega arith)
@@ -70,7 +74,7 @@ module _ (f r : List ℕ) (whole : used (capacityOf f) ≤ length f) where
       λ k l. ap₂ leb (count-unseen k l) capacity-unseen in
       ap₂ _&&_ (ap₂ _&&_ (ap₂ _&&_ (ap₂ _&&_ room (ap capacityOk capacity-unseen)) (ap (λ (n : ℕ). leb n mostScenes) held-unseen))
       (all-same heights (λ k. leb (keptCount (f ++ r) k) (capacityOf (f ++ r))) (λ k. leb (keptCount f k) (capacityOf f)) count))
-      (blank-part f r zerosPlace (32 - zerosPlace) (omega arith))
+      (blank-part f r zerosPlace (firstScene - zerosPlace) (omega arith))
 
   module _ (head : T (headerOk f)) where
     list-unseen : (k : ℕ) → k < heights → keptIn (f ++ r) k ≡ keptIn f k
@@ -78,10 +82,11 @@ module _ (f r : List ℕ) (whole : used (capacityOf f) ≤ length f) where
     list-unseen k l =
         let h : Headed f = headed f head in
         let C : ℕ = capacityOf f in
-        let w : ℕ = cellWords k in
+        let s : ℕ = stride k in
+        let w : ℕ = cellLength k in
         let n : ℕ = keptCount f k in
-        ap₂ (λ (m c : ℕ). groups w m (drop (listPlace c k) (f ++ r))) (count-unseen k l) capacity-unseen
-        ∙ groups-part w n (listPlace C k) f r (omega (arith, mul-le-mul-left w (h .few k l), list-in C k l))
+        ap₂ (λ (m c : ℕ). groups s w m (drop (listPlace c k) (f ++ r))) (count-unseen k l) capacity-unseen
+        ∙ groups-part s w n (listPlace C k) f r (omega (arith, cell-fills k)) (omega (arith, mul-le-mul-left s (h .few k l), list-in C k l))
 
     pub kept-unseen : keptOf (f ++ r) ≡ keptOf f
     unfolding keptOf
@@ -90,18 +95,17 @@ module _ (f r : List ℕ) (whole : used (capacityOf f) ≤ length f) where
     pub store-unseen : storeOf (f ++ r) ≡ storeOf f
     unfolding storeOf
     store-unseen =
-        let h : Headed f = headed f head in
-        let scenes : groups 2 (scenesHeld (f ++ r)) (drop 32 (f ++ r)) ≡ groups 2 (scenesHeld f) (drop 32 f) =
-        ap (λ (n : ℕ). groups 2 n (drop 32 (f ++ r))) held-unseen ∙ groups-part 2 (scenesHeld f) 32 f r (omega (arith, h .held)) in
-        λ i. record { capacity = capacity-unseen i; scenes = scenes i; kept = kept-unseen i }
+        let scenes : groups sceneWords sceneWords mostScenes (drop firstScene (f ++ r)) ≡ groups sceneWords sceneWords mostScenes (drop firstScene f) =
+        groups-part sceneWords sceneWords mostScenes firstScene f r (omega arith) (omega arith) in
+        λ i. record { capacity = capacity-unseen i; held = held-unseen i; scenes = scenes i; kept = kept-unseen i }
 
-    pub depth-unseen : (n : ℕ) → n < scenesHeld f → sceneDepth (f ++ r) n ≡ sceneDepth f n
-    depth-unseen n l = word-unseen (scenePlace n) (omega (arith, headed f head .held))
+    pub depth-unseen : (n : ℕ) → n < mostScenes → sceneDepth (f ++ r) n ≡ sceneDepth f n
+    depth-unseen n l = word-unseen (scenePlace n) (omega arith)
 
-    pub root-unseen : (n : ℕ) → n < scenesHeld f → sceneRoot (f ++ r) n ≡ sceneRoot f n
-    root-unseen n l = word-unseen (scenePlace n + 1) (omega (arith, headed f head .held))
+    pub root-unseen : (n : ℕ) → n < mostScenes → sceneRoot (f ++ r) n ≡ sceneRoot f n
+    root-unseen n l = word-unseen (scenePlace n + 1) (omega arith)
 
-    pub scene-unseen : (n : ℕ) → n < scenesHeld f → sceneOk (f ++ r) n ≡ sceneOk f n
+    pub scene-unseen : (n : ℕ) → n < mostScenes → sceneOk (f ++ r) n ≡ sceneOk f n
     unfolding sceneOk
     scene-unseen n l =
         let p : ℕ = sceneRoot f n in
@@ -109,16 +113,15 @@ module _ (f r : List ℕ) (whole : used (capacityOf f) ≤ length f) where
         ∙ depth-list (sceneDepth f n) (λ k. not (badPointer (keptCount (f ++ r) k) p)) (λ k. not (badPointer (keptCount f k) p))
         (λ k m. ap (λ (c : ℕ). not (badPointer c p)) (count-unseen k m))
 
-    scenes-blank-unseen : scenesBlank (f ++ r) ≡ scenesBlank f
-    scenes-blank-unseen =
-        let n : ℕ = scenesHeld f in
-        ap (λ (m : ℕ). blank (f ++ r) (scenePlace m) (2 * (mostScenes - m))) held-unseen
-        ∙ blank-part f r (scenePlace n) (2 * (mostScenes - n)) (omega (arith, headed f head .held))
+    place-unseen : (n : ℕ) → n < mostScenes → placeOk (f ++ r) n ≡ placeOk f n
+    unfolding placeOk
+    place-unseen n l =
+        λ i. cond (number-unseen n i) (scene-unseen n l i) (eqb (depth-unseen n l i) 0 && eqb (root-unseen n l i) 0)
 
     list-blank-unseen : (k : ℕ) → k < heights → listBlank (f ++ r) k ≡ listBlank f k
     list-blank-unseen k l =
         let C : ℕ = capacityOf f in
-        let w : ℕ = cellWords k in
+        let w : ℕ = stride k in
         let n : ℕ = keptCount f k in
         let all : w * n ≤ w * C = mul-le-mul-left w (headed f head .few k l) in
         ap₂ (λ (c m : ℕ). blank (f ++ r) (cellPlace c k m) (w * (c - m))) capacity-unseen (count-unseen k l)
@@ -127,9 +130,7 @@ module _ (f r : List ℕ) (whole : used (capacityOf f) ≤ length f) where
     tests-unseen : storeOk (f ++ r) ≡ storeOk f
     unfolding storeOk
     tests-unseen =
-        let scenes : allBelow (scenesHeld (f ++ r)) (sceneOk (f ++ r)) ≡ allBelow (scenesHeld f) (sceneOk f) =
-        ap (λ (n : ℕ). allBelow n (sceneOk (f ++ r))) held-unseen ∙ all-same (scenesHeld f) (sceneOk (f ++ r)) (sceneOk f) scene-unseen in
-        ap₂ _&&_ (ap₂ _&&_ (ap₂ _&&_ (ap₂ _&&_ header-unseen scenes) scenes-blank-unseen) (ap (λ (K : List (List Cell)). allBelow heights (listUsable K)) kept-unseen))
+        ap₂ _&&_ (ap₂ _&&_ (ap₂ _&&_ header-unseen (all-same mostScenes (placeOk (f ++ r)) (placeOk f) place-unseen)) (ap (λ (K : List (List Cell)). allBelow heights (listUsable K)) kept-unseen))
         (all-same heights (listBlank (f ++ r)) (listBlank f) list-blank-unseen)
 
   pub undamaged-unseen : storeOk (f ++ r) ≡ storeOk f

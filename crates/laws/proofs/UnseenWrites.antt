@@ -130,9 +130,9 @@ module _ (f r file : List ℕ) (whole : used (capacityOf f) ≤ length f) where
   add-words a =
       let t : T (storeOk f) = a .sound in
       let D : ℕ = fileDepth file in
-      let W : List ℕ = wordsOf (withScene (storeOf f) D (adding f file)) in
+      let W : List ℕ = wordsOf (withScene (storeOf f) (nextScene f) D (adding f file)) in
       let long : length W ≡ used (capacityOf f) = add-length f file (headed f (store-header f t)) (a .room) in (
-        ap₂ (λ (s : Store) (x : Adding ℕ). over (wordsOf (withScene s D x)) (f ++ r)) (store-unseen f r whole (store-header f t)) (adding-unseen t)
+        (λ i. over (wordsOf (withScene (store-unseen f r whole (store-header f t) i) (held-unseen f r whole i) D (adding-unseen t i))) (f ++ r))
             ∙ ap (λ (l : List ℕ). W ++ l) (drop-append-le (length W) f r (omega arith)) ∙ sym (append-assoc W (drop (length W) f) r),
         length-append W (drop (length W) f) ∙ omega (arith, length-drop (length W) f),
       )

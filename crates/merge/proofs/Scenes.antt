@@ -4,10 +4,10 @@ use mathlib.Core.Path.{_≡_, refl, sym, _∙_, ap, ap₂, subst}
 use mathlib.Core.Bool.{Bool, true, false, false≢true, cond, not}
 use mathlib.Core.List.{List, [], _∷_, _++_}
 use mathlib.Core.Logic.{inl}
-use Prim.Native.Nat.{ℕ, _-_, _^_, _<_, _≤_}
+use Prim.Native.Nat.{ℕ, suc, _-_, _^_, _<_, _≤_}
 use native.Mathlib.Omega.{arith}
 use lib.Dec.{T, eqb, leb→le, leb}
-use lib.ListN.{length, drop, getD, drop-of-length-le}
+use lib.ListN.{length, drop, getD, set, drop-of-length-le}
 use lib.Seq.{drop-cons}
 use borrow.Author.Tests.{eqb-true, eqb-false, ne-eqb, lt-leb}
 use Rattle.paper.specs.Numbers.{tabulate}
@@ -25,7 +25,6 @@ use Rattle.laws.proofs.Tests.{T-true, and-left, and-right}
 use Rattle.laws.proofs.Outlines.{Accepted}
 use Rattle.laws.proofs.OutlineClaim.{file-accepted}
 use Rattle.laws.proofs.Refusals.{settled-accepted, settled-refused, add-number}
-use Rattle.laws.proofs.Kept.{held-length}
 use Rattle.laws.proofs.Words.{Fine, stored, storeWith, wordsOf-length, scene-fine, scenes-read}
 use Rattle.laws.proofs.Undamaged.{Undamaged, undamaged, depth-low, store-fine, wordsOf-storeOf}
 use Rattle.laws.proofs.Adding.{Sound}
@@ -82,6 +81,10 @@ module _ (ws file : List ℕ) (words : (i : ℕ) → getD ws i 0 < 2 ^ 32) (byte
   abbrev C : ℕ
   C = capacityOf ws
 
+  -- how many scenes are held, and their places
+  abbrev N : ℕ
+  N = scenesHeld ws
+
   abbrev S : List Cell
   S = storeOf ws .scenes
 
@@ -98,26 +101,22 @@ module _ (ws file : List ℕ) (words : (i : ℕ) → getD ws i 0 < 2 ^ 32) (byte
   u : Undamaged ws
   u = undamaged ws t
 
-  fine : Fine C S K
+  fine : Fine C N S K
   unfolding storeOf
   fine = store-fine ws u
 
   sound : Sound C K
   sound = store-sound ws u words
 
-  again : stored C S K x ≡ ws
+  again : stored C N S K x ≡ ws
   unfolding storeOf
   again = wordsOf-storeOf ws u
 
-  held : length S ≡ scenesHeld ws
-  unfolding storeOf
-  held = held-length ws
-
   abbrev Standing : Adding ℕ → Taking → Type 0
-  Standing a o = Stands C (u .capacity) S x file bytes K (D - 2) [] a o
+  Standing a o = Stands C (u .capacity) N S x file bytes K (D - 2) [] a o
 
   -- a file that is read whole: its tree, and nothing after it
-  whole-stands : (r : Read Tree) (o : Taking) → readWhole r ≡ true → After C (u .capacity) S x file bytes K (D - 2) r (λ t. addTree C t (D - 2) K) o → Standing (addTree C (treeRead r) (D - 2) K) o
+  whole-stands : (r : Read Tree) (o : Taking) → readWhole r ≡ true → After C (u .capacity) N S x file bytes K (D - 2) r (λ t. addTree C t (D - 2) K) o → Standing (addTree C (treeRead r) (D - 2) K) o
   whole-stands bad o e h = absurd (false≢true e)
   whole-stands (ok t []) o e h = h
   whole-stands (ok t (b ∷ bs)) o e h = absurd (false≢true e)
@@ -126,10 +125,10 @@ module _ (ws file : List ℕ) (words : (i : ℕ) → getD ws i 0 < 2 ^ 32) (byte
   unfolding outlineRules
   rules = T-true {b = readWhole (outlineRead file)} (accepted file fair .rules)
 
-  record-after : After C (u .capacity) S x file bytes K (D - 2) (readRecord (D - 2) (drop outlineHead file)) (λ t. addTree C t (D - 2) K) (takeRecord file (D - 2) outlineHead ws)
+  record-after : After C (u .capacity) N S x file bytes K (D - 2) (readRecord (D - 2) (drop outlineHead file)) (λ t. addTree C t (D - 2) K) (takeRecord file (D - 2) outlineHead ws)
   record-after =
-      subst (λ (w : List ℕ). After C (u .capacity) S x file bytes K (D - 2) (readRecord (D - 2) (drop outlineHead file)) (λ t. addTree C t (D - 2) K) (takeRecord file (D - 2) outlineHead w)) again
-      (record-stands C (u .capacity) S x file bytes (D - 2) (depth-low D (accepted file fair .deep)) outlineHead K (file-long file fair) sound fine)
+      subst (λ (w : List ℕ). After C (u .capacity) N S x file bytes K (D - 2) (readRecord (D - 2) (drop outlineHead file)) (λ t. addTree C t (D - 2) K) (takeRecord file (D - 2) outlineHead w)) again
+      (record-stands C (u .capacity) N S x file bytes (D - 2) (depth-low D (accepted file fair .deep)) outlineHead K (file-long file fair) sound fine)
 
   root-read : outlineHead < length file → readRoot (D - 2) (drop outlineHead file) ≡ readRecord (D - 2) (drop outlineHead file)
   unfolding readRoot
@@ -138,7 +137,7 @@ module _ (ws file : List ℕ) (words : (i : ℕ) → getD ws i 0 < 2 ^ 32) (byte
   some-stands : outlineHead < length file → Standing (addTree C (treeRead (outlineRead file)) (D - 2) K) (takeRecord file (D - 2) outlineHead ws)
   some-stands l =
       whole-stands (outlineRead file) (takeRecord file (D - 2) outlineHead ws) rules
-      (subst (λ (r : Read Tree). After C (u .capacity) S x file bytes K (D - 2) r (λ t. addTree C t (D - 2) K) (takeRecord file (D - 2) outlineHead ws)) (sym (root-read l)) record-after)
+      (subst (λ (r : Read Tree). After C (u .capacity) N S x file bytes K (D - 2) r (λ t. addTree C t (D - 2) K) (takeRecord file (D - 2) outlineHead ws)) (sym (root-read l)) record-after)
 
   nothing-read : length file ≡ outlineHead → outlineRead file ≡ ok none []
   unfolding readRoot
@@ -180,18 +179,15 @@ module _ (ws file : List ℕ) (words : (i : ℕ) → getD ws i 0 < 2 ^ 32) (byte
 
   -- ---- taken: the scene's two words follow
 
-  -- the scenes with this one
+  -- the places with this one
   abbrev more : ℕ → List Cell
-  more p = S ++ ((D ∷ p ∷ []) ∷ [])
+  more p = set S (nextScene ws) (D ∷ p ∷ [])
 
-  few : length S < mostScenes
-  few = omega (arith, held)
-
-  words-added : (p : ℕ) (K′ : List (List Cell)) → adding ws file ≡ added p K′ → Fine C S K′ → addWords ws file ≡ stored C (more p) K′ x
+  words-added : (p : ℕ) (K′ : List (List Cell)) → adding ws file ≡ added p K′ → Fine C N S K′ → addWords ws file ≡ stored C (suc N) (more p) K′ x
   unfolding addWords storeOf
   words-added p K′ e f =
-      ap (λ (a : Adding ℕ). over (wordsOf (withScene (storeOf ws) D a)) ws) e
-      ∙ ap (λ (n : ℕ). wordsOf (storeWith C (more p) K′) ++ drop n ws) (wordsOf-length C (more p) K′ (scene-fine C S K′ f (D ∷ p ∷ []) refl few))
+      ap (λ (a : Adding ℕ). over (wordsOf (withScene (storeOf ws) (nextScene ws) D a)) ws) e
+      ∙ ap (λ (n : ℕ). wordsOf (storeWith C (suc N) (more p) K′) ++ drop n ws) (wordsOf-length C (suc N) (more p) K′ (scene-fine C N S K′ f (nextScene ws) (D ∷ p ∷ []) refl room))
 
   module _ (next p m : ℕ) (v : List ℕ) (told-so : takeRoot file ws ≡ taking (At next p m) v) where
     taken-as : (a : Adding ℕ) → adding ws file ≡ a → Standing a (taking (At next p m) v) → outcome (added-told (Scene (scenesHeld ws))) (holdIn (D ∷ p ∷ []) v ∷ []) ≡ addOutcome ws file
@@ -199,7 +195,7 @@ module _ (ws file : List ℕ) (words : (i : ℕ) → getD ws i 0 < 2 ^ 32) (byte
     taken-as full e s = absurd s
     taken-as (added q K′) e s =
         ap (λ (l : List ℕ). outcome (told 0 (nextScene ws ∷ [])) (l ∷ []))
-        (ap₂ (λ (r : ℕ) (w : List ℕ). holdIn (D ∷ r ∷ []) w) (s .same) (s .words) ∙ hold-stored C S K′ (s .fine) x (D ∷ q ∷ []) refl few ∙ sym (words-added q K′ e (s .fine)))
+        (ap₂ (λ (r : ℕ) (w : List ℕ). holdIn (D ∷ r ∷ []) w) (s .same) (s .words) ∙ hold-stored C N S K′ (s .fine) x (D ∷ q ∷ []) refl room ∙ sym (words-added q K′ e (s .fine)))
         ∙ sym (settled-accepted (firstOf (addOrder ws file)) (nextScene ws ∷ []) (addWords ws file ∷ []) (ws ∷ []) (number (added q K′) e))
 
     pub taken-outcome : outcome (added-told (Scene (scenesHeld ws))) (holdIn (D ∷ p ∷ []) v ∷ []) ≡ addOutcome ws file
@@ -207,7 +203,7 @@ module _ (ws file : List ℕ) (words : (i : ℕ) → getD ws i 0 < 2 ^ 32) (byte
 
     ready-as : (a : Adding ℕ) → Standing a (taking (At next p m) v) → T (headerOk v) × (scenesHeld v < mostScenes)
     ready-as full s = absurd s
-    ready-as (added q K′) s = rw (s .words) (stored-headed C S K′ (s .fine) x (u .capacity), omega (arith, scenes-read C S K′ (s .fine) x, few))
+    ready-as (added q K′) s = rw (s .words) (stored-headed C N S K′ (s .fine) x (u .capacity), omega (arith, scenes-read C N S K′ (s .fine) x, room))
 
     pub hold-ready : T (headerOk v) × (scenesHeld v < mostScenes)
     hold-ready = ready-as (adding ws file) (stands-as _ told-so)
@@ -219,7 +215,7 @@ module _ (ws file : List ℕ) (words : (i : ℕ) → getD ws i 0 < 2 ^ 32) (byte
     ns = tabulate 0 heights (keptCount ws)
 
     counted : (k : ℕ) → k < heights → getD ns k 0 ≡ length (cellsAt K k)
-    counted k h = subst (λ (w : List ℕ). getD (tabulate 0 heights (keptCount w)) k 0 ≡ length (cellsAt K k)) again (counts-taken C S K fine x k h)
+    counted k h = subst (λ (w : List ℕ). getD (tabulate 0 heights (keptCount w)) k 0 ≡ length (cellsAt K k)) again (counts-taken C N S K fine x k h)
 
     full-as : (a : Adding ℕ) → adding ws file ≡ a → Standing a (taking Full v) → outcome (added-told (Refused CellsFull)) (cutBack ns v ∷ []) ≡ addOutcome ws file
     unfolding addOutcome
@@ -227,7 +223,7 @@ module _ (ws file : List ℕ) (words : (i : ℕ) → getD ws i 0 < 2 ^ 32) (byte
     full-as full e s =
         let eight : firstOf (addOrder ws file) ≡ 8 = number full e in
         ap₂ (λ (l : List ℕ) (n : ℕ). outcome (told n (0 ∷ [])) (l ∷ []))
-        (ap (cutBack ns) (s .words) ∙ cut-stored C S K (s .lists) (s .fine) (s .grown .ext) (fine .lists) x ns counted ∙ again) (sym eight)
+        (ap (cutBack ns) (s .words) ∙ cut-stored C N S K (s .lists) (s .fine) (s .grown .ext) (fine .lists) x ns counted ∙ again) (sym eight)
         ∙ sym (settled-refused (firstOf (addOrder ws file)) (nextScene ws ∷ []) (addWords ws file ∷ []) (ws ∷ []) (λ z. omega arith))
 
     pub full-outcome : outcome (added-told (Refused CellsFull)) (cutBack (tabulate 0 heights (keptCount ws)) v ∷ []) ≡ addOutcome ws file
@@ -236,7 +232,7 @@ module _ (ws file : List ℕ) (words : (i : ℕ) → getD ws i 0 < 2 ^ 32) (byte
     cut-as : (a : Adding ℕ) → Standing a (taking Full v) → T (headerOk v) × ((k : ℕ) → k < heights → getD ns k 0 ≤ keptCount v k)
     cut-as (added q K′) s = absurd s
     cut-as full s =
-        rw (s .words) (stored-headed C S (s .lists) (s .fine) x (u .capacity), cut-counts C S K (s .lists) (s .fine) (s .grown .ext) (fine .lists) x ns counted)
+        rw (s .words) (stored-headed C N S (s .lists) (s .fine) x (u .capacity), cut-counts C N S K (s .lists) (s .fine) (s .grown .ext) (fine .lists) x ns counted)
 
     pub cut-ready : T (headerOk v) × ((k : ℕ) → k < heights → getD (tabulate 0 heights (keptCount ws)) k 0 ≤ keptCount v k)
     cut-ready = cut-as (adding ws file) (stands-as _ told-so)

@@ -18,7 +18,7 @@ use borrow.Author.Tests.{ltb-true, leb-true}
 use Rattle.paper.specs.Numbers.{num}
 use Rattle.paper.specs.Leaf.{mirrorLeaf}
 use Rattle.paper.specs.Outline.{Tree, none, leaf, nodeOf, Read, bad, ok, bind, before, readLeaf, readChildren, readRecord}
-use Rattle.paper.specs.Store.{Cell, cellsAt, cellAt, cellNo, pointer, mostCapacity, heights, cellWords, capacityOk}
+use Rattle.paper.specs.Store.{Cell, cellsAt, cellAt, cellNo, pointer, mostCapacity, heights, stride, capacityOk}
 use Rattle.paper.specs.Meaning.{cellVoxel}
 use Rattle.paper.specs.Match.{Adding, full, added, then, orKeep, matches, find, keep, addCell, inTurn, leafCell, addTree}
 use Rattle.paper.specs.Runs.{Bytes}
@@ -44,23 +44,23 @@ use Rattle.merge.specs.Taking.{Taking, taking, endingAt, thenTake, takeC
 use Rattle.seek.proofs.MaskImage.{leaf-symmetries}
 use Rattle.seek.proofs.FindMasks.{find-masks}
 
--- a store of capacity C with the scenes S, the words x behind it, and a file of bytes
-module _ (C : ℕ) (okC : T (capacityOk C)) (S : List Cell) (x file : List ℕ) (bytes : Bytes file) where
+-- a store of capacity C with N scenes held at the places S, the words x behind it, and a file of bytes
+module _ (C : ℕ) (okC : T (capacityOk C)) (N : ℕ) (S : List Cell) (x file : List ℕ) (bytes : Bytes file) where
   -- ---- what is said of an answer
 
   -- full: the words are those of lists that have grown
   pub record Stopped (K : List (List Cell)) (u : List ℕ) : Type 0 where
     pub lists : List (List Cell)
-    pub fine : Fine C S lists
+    pub fine : Fine C N S lists
     pub grown : Grown K lists
-    pub words : u ≡ stored C S lists x
+    pub words : u ≡ stored C N S lists x
 
   -- taken: the pointer and the lists that adding gives, the mask of the cell that the pointer names, and the position of the bytes that follow
   pub record Took (K : List (List Cell)) (k p : ℕ) (K′ : List (List Cell)) (rest : List ℕ) (next q m : ℕ) (u : List ℕ) : Type 0 where
     pub same : q ≡ p
-    pub words : u ≡ stored C S K′ x
+    pub words : u ≡ stored C N S K′ x
     pub sound : Sound C K′
-    pub fine : Fine C S K′
+    pub fine : Fine C N S K′
     pub grown : Grown K K′
     pub okp : OkPointer (length (cellsAt K′ k)) p
     pub mask : (p ≡ 0 → ⊥) → m ≡ symmetries K′ k (cellAt K′ k (cellNo p))
@@ -105,10 +105,10 @@ module _ (C : ℕ) (okC : T (capacityOk C)) (S : List Cell) (x file : List ℕ) 
   few : C ≤ mostCapacity
   few = leb→le C mostCapacity (and-right (leb 1 C) (leb C mostCapacity) okC)
 
-  module _ (K : List (List Cell)) (sd : Sound C K) (f : Fine C S K) (k : ℕ) (hk : k < heights) (c : Cell) (sized : length c ≡ cellWords k) (okc : OkCell K k c)
+  module _ (K : List (List Cell)) (sd : Sound C K) (f : Fine C N S K) (k : ℕ) (hk : k < heights) (c : Cell) (sized : length c ≡ stride k) (okc : OkCell K k c)
       (at : ℕ) (within : at ≤ length file) (mask : ℕ) (masked : mask ≡ symmetries K k c) where
     abbrev ws : List ℕ
-    ws = stored C S K x
+    ws = stored C N S K x
 
     abbrev Right : Adding ℕ → Type 0
     Right a = Answer (Refused ⊥ C K (Occurs (cellVoxel K k c) k)) (Done ⊥ C K k (cellVoxel K k c)) a
@@ -122,7 +122,7 @@ module _ (C : ℕ) (okC : T (capacityOk C)) (S : List Cell) (x file : List ℕ) 
     right : Right (addCell C k c K)
     right = addCell-done C few K sd k in-lists c okc ⊥ (λ z. absurd z) (λ z. absurd z) (λ z. absurd z)
 
-    taken : (p : ℕ) (K′ : List (List Cell)) (u : List ℕ) → Fine C S K′ → u ≡ stored C S K′ x → Right (added p K′) → Masked (added p K′)
+    taken : (p : ℕ) (K′ : List (List Cell)) (u : List ℕ) → Fine C N S K′ → u ≡ stored C N S K′ x → Right (added p K′) → Masked (added p K′)
         → Stands K k (drop at file) (added p K′) (taking (At at p mask) u)
     taken p K′ u g e d m = record {
       same = refl;
@@ -143,7 +143,7 @@ module _ (C : ℕ) (okC : T (capacityOk C)) (S : List Cell) (x file : List ℕ) 
     kept-words : keptWith mask k c ws ≡ keptOr (ltb (length (cellsAt K k)) C)
     unfolding keptWith
     kept-words =
-        ap₂ (λ (n D : ℕ). cond (ltb n D) (placing (placed.At (pointer 0 n) mask) (keepIn k c ws)) (placing placed.Full ws)) (count-read C S K f x k hk) (capacity-read C S K f x)
+        ap₂ (λ (n D : ℕ). cond (ltb n D) (placing (placed.At (pointer 0 n) mask) (keepIn k c ws)) (placing placed.Full ws)) (count-read C N S K f x k hk) (capacity-read C N S K f x)
 
     kept-stands : Right (keep C k c K) → Masked (keep C k c K) → Stands K k (drop at file) (keep C k c K) (endingAt at (keptOr (ltb (length (cellsAt K k)) C)))
     unfolding keep endingAt
@@ -155,7 +155,7 @@ module _ (C : ℕ) (okC : T (capacityOk C)) (S : List Cell) (x file : List ℕ) 
         go : (b : Bool) → ltb (length (cellsAt K k)) C ≡ b → Right (cond b new full) → Masked (cond b new full) → Stands K k (drop at file) (cond b new full) (endingAt at (keptOr b))
         go true e d m =
             let room : length (cellsAt K k) < C = ltb-true (length (cellsAt K k)) C e in
-            taken _ _ _ (keep-fine C S K f k c sized room) (keep-stored C S K f x k c hk sized room) d m
+            taken _ _ _ (keep-fine C N S K f k c sized room) (keep-stored C N S K f x k c hk sized room) d m
         go false e d m = record { lists = K; fine = f; grown = grown-refl K; words = refl }
 
     cell-stands : Stands K k (drop at file) (addCell C k c K) (endingAt at (foundOr (find (λ b t. matches K k c b t) (cellsAt K k) 0) mask k c ws))
@@ -167,19 +167,19 @@ module _ (C : ℕ) (okC : T (capacityOk C)) (S : List Cell) (x file : List ℕ) 
         go (some p) d m = taken p K ws f refl d m
 
   -- a leaf, whose mask is by its mirror images
-  leaf-stands : (K : List (List Cell)) → Sound C K → Fine C S K → (n : ℕ) → n < 2 ^ 64 → (at : ℕ) → at ≤ length file
-      → Stands K 0 (drop at file) (addCell C 0 (leafCell n) K) (endingAt at (seekLeaf n (stored C S K x)))
+  leaf-stands : (K : List (List Cell)) → Sound C K → Fine C N S K → (n : ℕ) → n < 2 ^ 64 → (at : ℕ) → at ≤ length file
+      → Stands K 0 (drop at file) (addCell C 0 (leafCell n) K) (endingAt at (seekLeaf n (stored C N S K x)))
   unfolding seekLeaf
   leaf-stands K sd f n hn at w =
-      rw (kept-read C S K f x) (cell-stands K sd f 0 (lit< tt) (leafCell n) refl (rw (leaf-words n) hn) at w (maskFor (λ t. eqb n (mirrorLeaf t n))) (leaf-symmetries K n))
+      rw (kept-read C N S K f x) (cell-stands K sd f 0 (lit< tt) (leafCell n) refl (rw (leaf-words n) hn) at w (maskFor (λ t. eqb n (mirrorLeaf t n))) (leaf-symmetries K n))
 
   -- a cell of eight pointers, whose mask is by those of the cells that they name
-  module _ (K : List (List Cell)) (sd : Sound C K) (f : Fine C S K) (k : ℕ) (hk : suc k < heights) where
+  module _ (K : List (List Cell)) (sd : Sound C K) (f : Fine C N S K) (k : ℕ) (hk : suc k < heights) where
     inner-stands : (c ms : List ℕ) → length c ≡ 8 → OkCell K (suc k) c → ChildMasks K k c ms → (at : ℕ) → at ≤ length file
-        → Stands K (suc k) (drop at file) (addCell C (suc k) c K) (endingAt at (seekCell (suc k) c ms (stored C S K x)))
+        → Stands K (suc k) (drop at file) (addCell C (suc k) c K) (endingAt at (seekCell (suc k) c ms (stored C N S K x)))
     unfolding seekCell
     inner-stands c ms sized okc known at w =
-        rw (kept-read C S K f x, find-masks K k c ms known)
+        rw (kept-read C N S K f x, find-masks K k c ms known)
         (cell-stands K sd f (suc k) hk c sized okc at w (maskFor (maskMatch ms c c)) (mask-children K k c ms known))
 
   -- ---- the children taken so far
@@ -238,8 +238,8 @@ module _ (C : ℕ) (okC : T (capacityOk C)) (S : List Cell) (x file : List ℕ) 
 
   -- a record of list k at a position, whatever the lists
   abbrev Records : ℕ → Type 0
-  Records k = (at : ℕ) (K : List (List Cell)) → at ≤ length file → Sound C K → Fine C S K
-      → After K k (readRecord k (drop at file)) (λ t. addTree C t k K) (takeRecord file k at (stored C S K x))
+  Records k = (at : ℕ) (K : List (List Cell)) → at ≤ length file → Sound C K → Fine C N S K
+      → After K k (readRecord k (drop at file)) (λ t. addTree C t k K) (takeRecord file k at (stored C N S K x))
 
   -- the trees added in turn behind the pointers so far, and the cell of all eight
   abbrev adds : ℕ → List (List Cell) → List ℕ → List Tree → Adding ℕ
@@ -271,9 +271,9 @@ module _ (C : ℕ) (okC : T (capacityOk C)) (S : List Cell) (x file : List ℕ) 
 
   module _ (k : ℕ) (hk : suc k < heights) (right : Records k) where
     abbrev Children : ℕ → ℕ → Type 0
-    Children n m = (at : ℕ) (K : List (List Cell)) (pre mpre : List ℕ) → at ≤ length file → Sound C K → Fine C S K → length pre + n ≡ 8 → Known k K pre mpre
+    Children n m = (at : ℕ) (K : List (List Cell)) (pre mpre : List ℕ) → at ≤ length file → Sound C K → Fine C N S K → length pre + n ≡ 8 → Known k K pre mpre
         → After K (suc k) (readChildren (readRecord k) n m (drop at file)) (adds k K pre)
-        (takeChildren (takeRecord file k) (suc k) n m at (pre ++ replicate n 0) (mpre ++ replicate n 0) (stored C S K x))
+        (takeChildren (takeRecord file k) (suc k) n m at (pre ++ replicate n 0) (mpre ++ replicate n 0) (stored C N S K x))
 
     -- what is taken behind a child's record
     abbrev goOn : ℕ → ℕ → List ℕ → List ℕ → ℕ → ℕ → ℕ → List ℕ → Taking
@@ -312,8 +312,8 @@ module _ (C : ℕ) (okC : T (capacityOk C)) (S : List Cell) (x file : List ℕ) 
       here-after (ok t bs) o h = child-after t bs (addTree C t k K) refl o h
 
       -- a child that is none
-      skip-after : (at : ℕ) → at ≤ length file → Fine C S K
-          → After K (suc k) (before none (readChildren (readRecord k) n m (drop at file))) (adds k K pre) (takeChildren (takeRecord file k) (suc k) n m at c ms (stored C S K x))
+      skip-after : (at : ℕ) → at ≤ length file → Fine C N S K
+          → After K (suc k) (before none (readChildren (readRecord k) n m (drop at file))) (adds k K pre) (takeChildren (takeRecord file k) (suc k) n m at c ms (stored C N S K x))
       unfolding addTree
       skip-after at w f =
           one-more k K pre none 0 K refl (grown-refl K) (readChildren (readRecord k) n m (drop at file)) _
@@ -322,8 +322,8 @@ module _ (C : ℕ) (okC : T (capacityOk C)) (S : List Cell) (x file : List ℕ) 
           (known-more k K K sd (grown-refl K) pre mpre kn 0 0 (inl refl) (λ ne. absurd (ne refl)))))
 
     -- all eight are there
-    last-stands : (at : ℕ) (K : List (List Cell)) (pre mpre : List ℕ) → at ≤ length file → Sound C K → Fine C S K → length pre ≡ 8 → Known k K pre mpre
-        → Stands K (suc k) (drop at file) (addCell C (suc k) (pre ++ []) K) (endingAt at (seekCell (suc k) (pre ++ []) (mpre ++ []) (stored C S K x)))
+    last-stands : (at : ℕ) (K : List (List Cell)) (pre mpre : List ℕ) → at ≤ length file → Sound C K → Fine C N S K → length pre ≡ 8 → Known k K pre mpre
+        → Stands K (suc k) (drop at file) (addCell C (suc k) (pre ++ []) K) (endingAt at (seekCell (suc k) (pre ++ []) (mpre ++ []) (stored C N S K x)))
     last-stands at K pre mpre w sd f e kn =
         rw (append-nil pre, append-nil mpre)
         (inner-stands K sd f k hk pre mpre e (λ i h. kn .okay i (omega arith)) (λ i h. kn .masks i (omega arith)) at w)
@@ -337,9 +337,9 @@ module _ (C : ℕ) (okC : T (capacityOk C)) (S : List Cell) (x file : List ℕ) 
             → After K (suc k)
             (cond b (bind (readRecord k (drop at file)) (λ t bs. before t (readChildren (readRecord k) n (m / 2) bs))) (before none (readChildren (readRecord k) n (m / 2) (drop at file))))
             (adds k K pre)
-            (cond b (thenTake (takeRecord file k at (stored C S K x)) (goOn n (m / 2) (pre ++ replicate (suc n) 0) (mpre ++ replicate (suc n) 0)))
-            (takeChildren (takeRecord file k) (suc k) n (m / 2) at (pre ++ replicate (suc n) 0) (mpre ++ replicate (suc n) 0) (stored C S K x)))
-        go true ih = here-after n (m / 2) ih K pre mpre sd e kn (readRecord k (drop at file)) (takeRecord file k at (stored C S K x)) (right at K w sd f)
+            (cond b (thenTake (takeRecord file k at (stored C N S K x)) (goOn n (m / 2) (pre ++ replicate (suc n) 0) (mpre ++ replicate (suc n) 0)))
+            (takeChildren (takeRecord file k) (suc k) n (m / 2) at (pre ++ replicate (suc n) 0) (mpre ++ replicate (suc n) 0) (stored C N S K x)))
+        go true ih = here-after n (m / 2) ih K pre mpre sd e kn (readRecord k (drop at file)) (takeRecord file k at (stored C N S K x)) (right at K w sd f)
         go false ih = skip-after n (m / 2) ih K pre mpre sd e kn at w f
 
   -- ---- a record
@@ -393,7 +393,7 @@ module _ (C : ℕ) (okC : T (capacityOk C)) (S : List Cell) (x file : List ℕ) 
       m = getD file at 0
 
       o : Taking
-      o = takeRecord file (suc k) at (stored C S K x)
+      o = takeRecord file (suc k) at (stored C N S K x)
 
       go : Dec (at < length file) → After K (suc k) (readRecord (suc k) (drop at file)) (λ t. addTree C t (suc k) K) o
       go (no n) = rw (drop-of-length-le file {i = at} (omega arith)) tt
@@ -420,7 +420,7 @@ module _ (C : ℕ) (okC : T (capacityOk C)) (S : List Cell) (x file : List ℕ) 
       bs = drop at file
 
       o : Taking
-      o = endingAt (at + 8) (seekLeaf (num 8 bs) (stored C S K x))
+      o = endingAt (at + 8) (seekLeaf (num 8 bs) (stored C N S K x))
 
       go : (a : Bool) → leb 8 (length bs) ≡ a → (b : Bool) → After K 0 (cond a (cond b bad (ok (leaf (num 8 bs)) (drop 8 bs))) bad) (λ t. addTree C t 0 K) o
       go false e b = tt

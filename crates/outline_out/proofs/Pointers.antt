@@ -11,7 +11,7 @@ use lib.ListN.{length, getD, length-append}
 use Rattle.paper.specs.Numbers.{bitFor, bytes, flatten, tabulate}
 use Rattle.paper.specs.Rooms.{Room, nonEmpty, depthOk}
 use Rattle.paper.specs.Outline.{childOf, childFull, recordOf, rootRecord, outlineOf, outlineFront, outlineHead}
-use Rattle.paper.specs.Store.{Cell, heights, scenesHeld, keptCount, keptOf, cellAt, tagOf, cellNo, badPointer, sceneDepth, sceneRoot, storeOk}
+use Rattle.paper.specs.Store.{Cell, heights, isHeld, keptCount, keptOf, cellAt, tagOf, cellNo, badPointer, sceneDepth, sceneRoot, storeOk}
 use Rattle.paper.specs.Meaning.{rootRoom}
 use Rattle.paper.specs.Calls.{outlineBytes}
 use Rattle.laws.proofs.Eight.{below8, xor8-lt}
@@ -112,7 +112,7 @@ module _ (ws : List ℕ) (ok : T (storeOk ws)) (w : Words ws) where
       ∙ record-by-pointers (D - 2) (cellNo p) (tagOf p) (omega arith) (names-kept (keptCount ws (D - 2)) p b e) (tag-lt p))
 
   -- the bytes by pointers are the outline of the scene's room
-  pub file-by-pointers : (n : ℕ) → n < scenesHeld ws → outlineBytes ws n ≡ sceneFile ws n
+  pub file-by-pointers : (n : ℕ) → T (isHeld ws n) → outlineBytes ws n ≡ sceneFile ws n
   unfolding outlineBytes outlineOf fileAt
   file-by-pointers n h =
       let D : ℕ = sceneDepth ws n in

@@ -10,9 +10,9 @@ use lib.ListN.{length, length-append}
 use borrow.Author.Tests.{eq-eqb, ne-eqb}
 use Rattle.paper.specs.Rooms.{least, deepest}
 use Rattle.paper.specs.Outline.{outlineFront, outlineHead}
-use Rattle.paper.specs.Store.{Cell, mostScenes, scenesHeld, keptCount, tagOf, cellNo, badPointer, sceneDepth, sceneRoot, storeOk}
+use Rattle.paper.specs.Store.{Cell, mostScenes, isHeld, keptCount, tagOf, cellNo, badPointer, sceneDepth, sceneRoot, storeOk}
 use Rattle.laws.proofs.StoreFacts.{scene-sound, names-kept, depth-range}
-use Rattle.laws.proofs.Undamaged.{store-header}
+use Rattle.laws.proofs.Undamaged.{store-header, held-placed}
 use Rattle.laws.proofs.Matching.{tag-lt}
 use Rattle.store.proofs.HeaderFacts.{header}
 use Rattle.numbers.specs.Laid.{headOf}
@@ -28,12 +28,12 @@ pub record Held (ws : List ℕ) (n : ℕ) : Type 0 where
   pub high : sceneDepth ws n ≤ deepest
   pub sound : badPointer (keptCount ws (sceneDepth ws n - 2)) (sceneRoot ws n) ≡ false
 
-pub held : (ws : List ℕ) (n : ℕ) → T (storeOk ws) → n < scenesHeld ws → Held ws n
+pub held : (ws : List ℕ) (n : ℕ) → T (storeOk ws) → T (isHeld ws n) → Held ws n
 held ws n ok h =
     let s = scene-sound ws ok n h in
     let range = depth-range (sceneDepth ws n) (s .0) in
     record {
-      few = omega (arith, header ws (store-header ws ok) .scenes);
+      few = held-placed ws n (header ws (store-header ws ok) .scenes) h;
       low = range .0;
       high = range .1;
       sound = s .1;

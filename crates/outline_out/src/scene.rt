@@ -5,7 +5,7 @@ ghost use Prim.Native.Nat.{_^_, _≤_, _<_, min};
 ghost use lib.Dec.{T};
 ghost use lib.ListN.{length};
 ghost use Rattle.paper.specs.Outline.{longest};
-ghost use Rattle.paper.specs.Store.{scenesHeld, storeOk};
+ghost use Rattle.paper.specs.Store.{isHeld, storeOk};
 ghost use Rattle.paper.specs.Answers.{outcome, written};
 ghost use Rattle.paper.specs.Calls.{outlineOutcome};
 ghost use Rattle.numbers.specs.Laid.{reached, writing};
@@ -20,9 +20,9 @@ use numbers::write_head;
 use paper::Refusal;
 use paper::Written;
 use store::cell_number;
+use store::not_held;
 use store::scene_depth;
 use store::scene_root;
-use store::scenes_held;
 use store::store_bad;
 use store::tag;
 
@@ -46,7 +46,7 @@ fn most(bytes: usize) -> u64
 // The length of a scene's file, or one more than the limit where it is longer.
 fn measure_scene(store: &[u32], scene: u32, limit: u64) -> u64
     requires { ⌜ T (storeOk (now store)) ⌝ }
-    requires { ⌜ (scene < scenesHeld (now store)) × (limit < 2 ^ 32) ⌝ }
+    requires { ⌜ T (isHeld (now store) scene) × (limit < 2 ^ 32) ⌝ }
     ensures { λ r. ⌜ r ≡ upTo limit (length (sceneFile (now (store .entry)) scene)) ⌝ }
 {
     if limit < HEAD {
@@ -63,7 +63,7 @@ fn measure_scene(store: &[u32], scene: u32, limit: u64) -> u64
 // Writes a scene's file, which has this length; answers the position after it.
 fn write_scene(store: &[u32], scene: u32, total: u64, out: &mut [u8]) -> usize
     requires { ⌜ T (storeOk (now store)) ⌝ }
-    requires { ⌜ scene < scenesHeld (now store) ⌝ }
+    requires { ⌜ T (isHeld (now store) scene) ⌝ }
     requires { ⌜ total ≡ length (sceneFile (now store) scene) ⌝ }
     requires { ⌜ total ≤ length (now out) ⌝ }
     ensures { λ r. ⌜ reached r (now (out .exit)) ≡ writing (sceneFile (now (store .entry)) scene) 0 (now (out .entry)) ⌝ }
@@ -91,7 +91,7 @@ pub fn outline_out(store: &[u32], scene: u32, out: &mut [u8]) -> Written
     if store_bad(store) {
         return Written::Refused(Refusal::DamagedStore);
     }
-    if scenes_held(store) <= scene {
+    if not_held(store, scene) {
         return Written::Refused(Refusal::NoScene);
     }
     let limit = most(out.len());

@@ -5,11 +5,11 @@ use mathlib.Core.Bool.{Bool, true, false, cond, not}
 use mathlib.Core.List.{List, [], _∷_, _++_}
 use Prim.Native.Nat.{ℕ, _+_, _-_, _≤_, _<_}
 use native.Mathlib.Omega.{arith}
-use borrow.Author.Tests.{le-leb, lt-leb, lt-ltb, le-ltb, eq-eqb}
-use lib.Dec.{ltb}
+use borrow.Author.Tests.{lt-ltb, le-ltb, eq-eqb}
+use lib.Dec.{T, ltb}
 use lib.ListN.{length, take, drop, replicate, length-append, length-drop, length-replicate}
 use lib.Seq.{take-at, drop-at}
-use Rattle.paper.specs.Store.{tagOf, scenesHeld, sceneDepth, sceneRoot, keptOf, storeOk}
+use Rattle.paper.specs.Store.{tagOf, isHeld, sceneDepth, sceneRoot, keptOf, storeOk}
 use Rattle.paper.specs.Answers.{Outcome, outcome, told, numberOf, written}
 use Rattle.paper.specs.Order.{when, firstOf, settled}
 use Rattle.paper.specs.Pack.{emptyFile, layout, sceneGraph, packedFile}
@@ -17,6 +17,7 @@ use Rattle.paper.specs.Calls.{over, cleared, noScene, scratchFor, packBytes, pa
 use Rattle.paper.specs.declared.Refusal.the-variants.{DamagedStore, NoScene, ScratchShort, OutputShort}
 use Rattle.paper.specs.declared.Written.{Written}
 use Rattle.paper.specs.declared.Written.the-variants.{Length, Refused}
+use Rattle.laws.proofs.Undamaged.{held-there}
 use Rattle.writing.specs.Writing.{fitted}
 
 -- ---- an output
@@ -85,20 +86,20 @@ module _ (ws : List ℕ) (n : ℕ) (scratch out : List ℕ) where
   damaged e = ap (λ (p : Bool). by-tests p (noScene ws n) (ltb (length scratch) (scratchFor ws)) (packShort ws n out)) (sym e) ∙ whole
 
   module _ (ok : storeOk ws ≡ true) where
-    pub no-scene : scenesHeld ws ≤ n → outcome (written (Refused NoScene)) (scratch ∷ out ∷ []) ≡ packOutcome ws n scratch out
+    pub no-scene : noScene ws n ≡ true → outcome (written (Refused NoScene)) (scratch ∷ out ∷ []) ≡ packOutcome ws n scratch out
     unfolding firstOf settled
-    no-scene h = (λ i. by-tests (sym ok i) (sym (le-leb (scenesHeld ws) n h) i) (ltb (length scratch) (scratchFor ws)) (packShort ws n out)) ∙ whole
+    no-scene h = (λ i. by-tests (sym ok i) (sym h i) (ltb (length scratch) (scratchFor ws)) (packShort ws n out)) ∙ whole
 
-    module _ (held : n < scenesHeld ws) where
+    module _ (held : T (isHeld ws n)) where
       pub scratch-short : length scratch < scratchFor ws → outcome (written (Refused ScratchShort)) (scratch ∷ out ∷ []) ≡ packOutcome ws n scratch out
       unfolding firstOf settled
       scratch-short h =
-          (λ i. by-tests (sym ok i) (sym (lt-leb (scenesHeld ws) n held) i) (sym (lt-ltb (length scratch) (scratchFor ws) h) i) (packShort ws n out)) ∙ whole
+          (λ i. by-tests (sym ok i) (sym (held-there ws n held) i) (sym (lt-ltb (length scratch) (scratchFor ws) h) i) (packShort ws n out)) ∙ whole
 
       module _ (room : scratchFor ws ≤ length scratch) where
         at-length : (b : Bool) → packShort ws n out ≡ b → by-tests true false false b ≡ packOutcome ws n scratch out
         at-length b e =
-            (λ i. by-tests (sym ok i) (sym (lt-leb (scenesHeld ws) n held) i) (sym (le-ltb (length scratch) (scratchFor ws) room) i) (sym e i)) ∙ whole
+            (λ i. by-tests (sym ok i) (sym (held-there ws n held) i) (sym (le-ltb (length scratch) (scratchFor ws) room) i) (sym e i)) ∙ whole
 
         settles : (b : Bool)
             → before (cleared (scratchFor ws) scratch) (cond b (outcome (told 12 (0 ∷ [])) (out ∷ [])) (outcome (told 0 (length (packBytes ws n) ∷ [])) (over (packBytes ws n) out ∷ [])))

@@ -23,9 +23,9 @@ use paper::Written;
 use placing::place_lists;
 use store::capacity;
 use store::clear;
+use store::not_held;
 use store::scene_depth;
 use store::scene_root;
-use store::scenes_held;
 use store::store_bad;
 use store::tag;
 use writing::HEAD;
@@ -99,7 +99,7 @@ pub fn pack(store: &[u32], scene: u32, scratch: &mut [u32], out: &mut [u8]) -> W
     if store_bad(store) {
         return Written::Refused(Refusal::DamagedStore);
     }
-    if scenes_held(store) <= scene {
+    if not_held(store, scene) {
         return Written::Refused(Refusal::NoScene);
     }
     let words = scratch_words(store);

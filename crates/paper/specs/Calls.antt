@@ -3,13 +3,13 @@
 -- Words (ws, scratch of pack) and bytes (files, out, scratch of check) are lists of numbers.
 use mathlib.Core.Bool.{Bool, true, false, cond, not, _&&_, _||_}
 use mathlib.Core.List.{List, [], _∷_, _++_}
-use Prim.Native.Nat.{ℕ, _+_, _-_, _*_, _^_}
+use Prim.Native.Nat.{ℕ, suc, _+_, _-_, _*_, _^_}
 use lib.Dec.{eqb, leb, ltb}
 use lib.ListN.{length, drop, replicate, set}
 use Rattle.paper.specs.Numbers.{bitFor, sameList}
 use Rattle.paper.specs.Rooms.{Point, depthOk, inside}
 use Rattle.paper.specs.Outline.{outlineFront, outlineHead, longest, outlineOf, frontOk, lengthOk, fileDepth, outlineRules, outlineTree}
-use Rattle.paper.specs.Store.{Cell, Store, mostScenes, used, capacityOf, scenesHeld, keptCount, capacityOk, keptOf, storeOf, wordsOf, sceneDepth, sceneRoot, headerOk, sceneOk, storeOk}
+use Rattle.paper.specs.Store.{Cell, Store, mostScenes, used, capacityOf, scenesHeld, isHeld, keptCount, capacityOk, keptOf, storeOf, wordsOf, sceneDepth, sceneRoot, headerOk, sceneOk, storeOk}
 use Rattle.paper.specs.Meaning.{rootRoom}
 use Rattle.paper.specs.Match.{Adding, full, added, addTree}
 use Rattle.paper.specs.Walk.{isDamaged, solidAt}
@@ -55,7 +55,7 @@ scenesFull ws = leb mostScenes (scenesHeld ws)
 
 -- n is no scene's number: refusal 9
 abbrev pub noScene : List ℕ → ℕ → Bool
-noScene ws n = leb (scenesHeld ws) n
+noScene ws n = not (isHeld ws n)
 
 -- ---- add
 
@@ -82,14 +82,19 @@ abbrev pub addOrder : List ℕ → List ℕ → List Test
 addOrder ws file =
     when (not (storeOk ws)) 2 ∷ outlineOrder file ++ (when (scenesFull ws) 7 ∷ when (cellsFull ws file) 8 ∷ [])
 
--- one scene more, of depth D: its two words, and the cells
-abbrev pub withScene : Store → ℕ → Adding ℕ → Store
-withScene s D full = s
-withScene s D (added p K) = record { capacity = s .capacity; scenes = s .scenes ++ ((D ∷ p ∷ []) ∷ []); kept = K }
+-- one scene more, under number n and of depth D: its two words, and the cells
+abbrev pub withScene : Store → ℕ → ℕ → Adding ℕ → Store
+withScene s n D full = s
+withScene s n D (added p K) = record {
+  capacity = s .capacity;
+  held = suc (s .held);
+  scenes = set (s .scenes) n (D ∷ p ∷ []);
+  kept = K;
+}
 
 -- the store with the scene in it; what lies beyond its words stays ('Words beyond')
 unfoldable pub addWords : List ℕ → List ℕ → List ℕ
-addWords ws file = over (wordsOf (withScene (storeOf ws) (fileDepth file) (adding ws file))) ws
+addWords ws file = over (wordsOf (withScene (storeOf ws) (nextScene ws) (fileDepth file) (adding ws file))) ws
 
 unfoldable pub addOutcome : List ℕ → List ℕ → Outcome
 addOutcome ws file = settled (firstOf (addOrder ws file)) (nextScene ws ∷ []) (addWords ws file ∷ []) (ws ∷ [])

@@ -15,7 +15,7 @@ use lib.ListN.{length, take, drop, getD}
 use Rattle.paper.specs.Numbers.{allIn, bitFor, isIn}
 use Rattle.paper.specs.Rooms.{Point, Room, deepest, depthOk, Inside, cellOf, childRoom, mirror, mirrored, Same, Image, NonEmpty, boxCount, nonEmpty}
 use Rattle.paper.specs.Outline.{edge, IsOutline, outlineOf, fileDepth, fileRoom}
-use Rattle.paper.specs.Store.{Cell, leafNo, tagOf, cellNo, anyBad, capacityOf, scenesHeld, keptOf, cellsAt, cellAt}
+use Rattle.paper.specs.Store.{Cell, leafNo, tagOf, cellNo, anyBad, capacityOf, isHeld, keptOf, cellsAt, cellAt}
 use Rattle.paper.specs.Meaning.{cellVoxel}
 use Rattle.paper.specs.Match.{matches}
 use Rattle.paper.specs.Packed.{rootTag, isEmpty, topOf, graphOf, proper, packedRoom, packedPath, startsOf}
@@ -92,8 +92,8 @@ pub record Demand3 (s : State) : Type 0 where
   pub kept : (h : ℕ) → T (depthOk h) → (n : ℕ) × (keptOutcome (s .words) h ≡ outcome (told 0 (n ∷ [])) []) × Number (s .held) h n
   -- word 0 is the capacity given to the last accepted new store
   pub given : capacityOf (s .words) ≡ s .capacity
-  -- the scenes held are those below the count, so that a number is never given twice
-  pub numbers : (n : ℕ) → (n < scenesHeld (s .words)) ↔ ((sc : Scene) × (s .held n ≡ some sc))
+  -- the numbers that the words hold are those of the scenes held, so that a number is never given twice
+  pub numbers : (n : ℕ) → T (isHeld (s .words) n) ↔ ((sc : Scene) × (s .held n ≡ some sc))
 
 abbrev pub C4 : Type 0
 C4 = (s : State) → Reached s → Demand3 s

@@ -18,21 +18,29 @@ use Rattle.paper.specs.declared.Wish.{Wish}
 
 -- ---- calls
 
+-- a question on a store, with its arguments and what is lent to it beside the store: it reads the words and changes none
+pub data StoreQuestion : Type 0 where
+  voxel : ℕ → Point → StoreQuestion
+  cell : ℕ → ℕ → Point → StoreQuestion
+  box : ℕ → Point → Point → StoreQuestion
+  kept : ℕ → StoreQuestion
+  outline : ℕ → List ℕ → StoreQuestion
+  pack : ℕ → List ℕ → List ℕ → StoreQuestion
+
+-- a question that looks at no store: on a packed file, or on detail
+pub data FileQuestion : Type 0 where
+  check : List ℕ → List ℕ → FileQuestion
+  packedVoxel : List ℕ → Point → FileQuestion
+  opening : List ℕ → FileQuestion
+  ask : List ℕ → ℕ → List ℕ → Point → FileQuestion
+  detail : ℕ → Wish → FileQuestion
+
 -- a call with its arguments and what is lent to it beside the store: any numbers, any bytes, any output and scratch
 pub data Call : Type 0 where
   new : ℕ → Call
   add : List ℕ → Call
-  voxel : ℕ → Point → Call
-  cell : ℕ → ℕ → Point → Call
-  box : ℕ → Point → Point → Call
-  kept : ℕ → Call
-  outline : ℕ → List ℕ → Call
-  pack : ℕ → List ℕ → List ℕ → Call
-  check : List ℕ → List ℕ → Call
-  packedVoxel : List ℕ → Point → Call
-  opening : List ℕ → Call
-  ask : List ℕ → ℕ → List ℕ → Point → Call
-  detail : ℕ → Wish → Call
+  ofStore : StoreQuestion → Call
+  ofFile : FileQuestion → Call
 
 -- bytes are below 256
 abbrev pub Bytes : List ℕ → Type 0
@@ -42,49 +50,39 @@ Bytes bs = (i : ℕ) → getD bs i 0 < 256
 abbrev pub Given : Call → Type 0
 Given (new C) = Unit {0}
 Given (add file) = Bytes file
-Given (voxel n v) = Unit {0}
-Given (cell n h c) = Unit {0}
-Given (box n low high) = Unit {0}
-Given (kept h) = Unit {0}
-Given (outline n out) = Unit {0}
-Given (pack n scratch out) = Unit {0}
-Given (check file scratch) = Unit {0}
-Given (packedVoxel file v) = Unit {0}
-Given (opening file) = Unit {0}
-Given (ask file D starts v) = Unit {0}
-Given (detail D w) = Unit {0}
+Given (ofStore q) = Unit {0}
+Given (ofFile q) = Unit {0}
+
+-- what a question answers on these words
+abbrev pub storeAnswer : List ℕ → StoreQuestion → Outcome
+storeAnswer ws (voxel n v) = voxelOutcome ws n v
+storeAnswer ws (cell n h c) = cellOutcome ws n h c
+storeAnswer ws (box n low high) = boxOutcome ws n low high
+storeAnswer ws (kept h) = keptOutcome ws h
+storeAnswer ws (outline n out) = outlineOutcome ws n out
+storeAnswer ws (pack n scratch out) = packOutcome ws n scratch out
+
+-- what a question that looks at no store answers
+abbrev pub fileAnswer : FileQuestion → Outcome
+fileAnswer (check file scratch) = checkOutcome file scratch
+fileAnswer (packedVoxel file v) = packedVoxelOutcome file v
+fileAnswer (opening file) = openOutcome file
+fileAnswer (ask file D starts v) = askOutcome file D starts v
+fileAnswer (detail D w) = detailOutcome D w
 
 -- what a call answers on these words
 abbrev pub outcomeOf : List ℕ → Call → Outcome
 outcomeOf ws (new C) = newOutcome C ws
 outcomeOf ws (add file) = addOutcome ws file
-outcomeOf ws (voxel n v) = voxelOutcome ws n v
-outcomeOf ws (cell n h c) = cellOutcome ws n h c
-outcomeOf ws (box n low high) = boxOutcome ws n low high
-outcomeOf ws (kept h) = keptOutcome ws h
-outcomeOf ws (outline n out) = outlineOutcome ws n out
-outcomeOf ws (pack n scratch out) = packOutcome ws n scratch out
-outcomeOf ws (check file scratch) = checkOutcome file scratch
-outcomeOf ws (packedVoxel file v) = packedVoxelOutcome file v
-outcomeOf ws (opening file) = openOutcome file
-outcomeOf ws (ask file D starts v) = askOutcome file D starts v
-outcomeOf ws (detail D w) = detailOutcome D w
+outcomeOf ws (ofStore q) = storeAnswer ws q
+outcomeOf ws (ofFile q) = fileAnswer q
 
 -- new store and add write the store, and are lent nothing else for writing
 abbrev pub writes : Call → Bool
 writes (new C) = true
 writes (add file) = true
-writes (voxel n v) = false
-writes (cell n h c) = false
-writes (box n low high) = false
-writes (kept h) = false
-writes (outline n out) = false
-writes (pack n scratch out) = false
-writes (check file scratch) = false
-writes (packedVoxel file v) = false
-writes (opening file) = false
-writes (ask file D starts v) = false
-writes (detail D w) = false
+writes (ofStore q) = false
+writes (ofFile q) = false
 
 -- the store afterwards
 abbrev pub wordsAfter : List ℕ → Call → List ℕ
@@ -134,33 +132,15 @@ abbrev pub heldAfter : State → Call → Held
 heldAfter s (new C) = cond (accepted (newOutcome C (s .words))) nothing (s .held)
 heldAfter s (add file) =
     cond (accepted (addOutcome (s .words) file)) (holding (getD (addOutcome (s .words) file .values) 0 0) (sceneOf file) (s .held)) (s .held)
-heldAfter s (voxel n v) = s .held
-heldAfter s (cell n h c) = s .held
-heldAfter s (box n low high) = s .held
-heldAfter s (kept h) = s .held
-heldAfter s (outline n out) = s .held
-heldAfter s (pack n scratch out) = s .held
-heldAfter s (check file scratch) = s .held
-heldAfter s (packedVoxel file v) = s .held
-heldAfter s (opening file) = s .held
-heldAfter s (ask file D starts v) = s .held
-heldAfter s (detail D w) = s .held
+heldAfter s (ofStore q) = s .held
+heldAfter s (ofFile q) = s .held
 
 -- an accepted new store has the capacity given; nothing else changes it
 abbrev pub capacityAfter : State → Call → ℕ
 capacityAfter s (new C) = cond (accepted (newOutcome C (s .words))) C (s .capacity)
 capacityAfter s (add file) = s .capacity
-capacityAfter s (voxel n v) = s .capacity
-capacityAfter s (cell n h c) = s .capacity
-capacityAfter s (box n low high) = s .capacity
-capacityAfter s (kept h) = s .capacity
-capacityAfter s (outline n out) = s .capacity
-capacityAfter s (pack n scratch out) = s .capacity
-capacityAfter s (check file scratch) = s .capacity
-capacityAfter s (packedVoxel file v) = s .capacity
-capacityAfter s (opening file) = s .capacity
-capacityAfter s (ask file D starts v) = s .capacity
-capacityAfter s (detail D w) = s .capacity
+capacityAfter s (ofStore q) = s .capacity
+capacityAfter s (ofFile q) = s .capacity
 
 abbrev pub step : State → Call → State
 step s c = record { words = wordsAfter (s .words) c; held = heldAfter s c; capacity = capacityAfter s c }
@@ -229,14 +209,5 @@ keptRoom ws k q = cellVoxel (keptOf ws) k (cellAt (keptOf ws) k q)
 abbrev pub usedBy : List ℕ → Call → ℕ
 usedBy ws (new C) = used C
 usedBy ws (add file) = used (capacityOf ws)
-usedBy ws (voxel n v) = used (capacityOf ws)
-usedBy ws (cell n h c) = used (capacityOf ws)
-usedBy ws (box n low high) = used (capacityOf ws)
-usedBy ws (kept h) = used (capacityOf ws)
-usedBy ws (outline n out) = used (capacityOf ws)
-usedBy ws (pack n scratch out) = used (capacityOf ws)
-usedBy ws (check file scratch) = 0
-usedBy ws (packedVoxel file v) = 0
-usedBy ws (opening file) = 0
-usedBy ws (ask file D starts v) = 0
-usedBy ws (detail D w) = 0
+usedBy ws (ofStore q) = used (capacityOf ws)
+usedBy ws (ofFile q) = 0

@@ -1,7 +1,7 @@
 -- Document 01, 'The store': the cells and scenes that a store holds, the words that hold them, and when a store is damaged. Definitions only.
 -- Heights are counted from 2: list k has the cells of height k + 2, so list 0 has the leaves. A cell is its words: a leaf two, high first,
 -- any other eight pointers.
-use mathlib.Core.Bool.{Bool, not, _&&_}
+use mathlib.Core.Bool.{Bool, cond, not, _&&_}
 use mathlib.Core.List.{List, [], _∷_, _++_, map}
 use Prim.Native.Nat.{ℕ, zero, suc, _+_, _-_, _*_, _/_, _%_, _^_}
 use lib.Dec.{eqb, leb, ltb}
@@ -12,9 +12,11 @@ use Rattle.paper.specs.Rooms.{depthOk}
 abbrev pub Cell : Type 0
 Cell = List ℕ
 
--- what a store holds: its capacity, its scenes (depth and root pointer), and the cells kept at each height
+-- what a store holds: its capacity, how many scenes are held, the places of scenes (depth and root pointer; a free one two zeros), and the
+-- cells kept at each height
 pub record Store : Type 0 where
   pub capacity : ℕ
+  pub held : ℕ
   pub scenes : List Cell
   pub kept : List (List Cell)
 
@@ -66,16 +68,9 @@ mostScenes = 64
 abbrev pub heights : ℕ
 heights = 15
 
--- where the header ends and the scenes start; where the scenes end and the lists start
+-- where the header ends and the scenes start
 abbrev pub firstScene : ℕ
 firstScene = 32
-
-abbrev pub firstList : ℕ
-firstList = 160
-
--- how many words a store of capacity C has ('uses the first'): for each of C cells two at height 2 and eight at each of 14 heights
-abbrev pub used : ℕ → ℕ
-used C = firstList + 114 * C
 
 -- the header ('Word 0'): the capacity, the number of scenes held, how many cells each height keeps, and from `zerosPlace` on nothing
 abbrev pub capacityOf : List ℕ → ℕ
@@ -84,6 +79,10 @@ capacityOf ws = getD ws 0 0
 abbrev pub scenesHeld : List ℕ → ℕ
 scenesHeld ws = getD ws 1 0
 
+-- is a scene held under number n
+abbrev pub isHeld : List ℕ → ℕ → Bool
+isHeld ws n = ltb n (scenesHeld ws)
+
 abbrev pub keptCount : List ℕ → ℕ → ℕ
 keptCount ws k = getD ws (2 + k) 0
 
@@ -91,37 +90,58 @@ abbrev pub zerosPlace : ℕ
 zerosPlace = 17
 
 -- where the two words of scene n are ('64 scenes of two'), its depth first, then its root pointer
-abbrev pub scenePlace : ℕ → ℕ
-scenePlace n = firstScene + 2 * n
+abbrev pub sceneWords : ℕ
+sceneWords = 2
 
--- the lists ('Then C leaves'), lowest height first, each with room for C cells: the words of a cell of list k, where the list starts, where its
--- cell n does
-abbrev pub cellWords : ℕ → ℕ
-cellWords zero = 2
-cellWords (suc k) = 8
+abbrev pub scenePlace : ℕ → ℕ
+scenePlace n = firstScene + sceneWords * n
+
+-- the words of a cell of list k: a leaf two, any other eight pointers
+abbrev pub cellLength : ℕ → ℕ
+cellLength zero = 2
+cellLength (suc k) = 8
+
+-- the words that a store has for a cell of list k: just the cell's
+abbrev pub stride : ℕ → ℕ
+stride zero = 2
+stride (suc k) = 8
+
+-- the lists ('Then C leaves'), lowest height first, each with room for C cells: where list k starts, where its cell n does. All lists above the
+-- leaves have one stride.
+abbrev pub firstList : ℕ
+firstList = scenePlace mostScenes
 
 abbrev pub listPlace : ℕ → ℕ → ℕ
 listPlace C zero = firstList
-listPlace C (suc k) = firstList + 2 * C + 8 * C * k
+listPlace C (suc k) = firstList + stride 0 * C + stride 1 * C * k
 
 abbrev pub cellPlace : ℕ → ℕ → ℕ → ℕ
-cellPlace C k n = listPlace C k + cellWords k * n
+cellPlace C k n = listPlace C k + stride k * n
+
+-- how many words a store of capacity C has ('uses the first'): up to where a list after the last would start
+abbrev pub used : ℕ → ℕ
+used C = listPlace C heights
 
 -- ---- from words to cells
 
--- n groups of w words
-unfoldable pub groups : ℕ → ℕ → List ℕ → List Cell
-groups w zero l = []
-groups w (suc n) l = take w l ∷ groups w n (drop w l)
+-- n groups, one every s words: of each the first w
+unfoldable pub groups : ℕ → ℕ → ℕ → List ℕ → List Cell
+groups s w zero l = []
+groups s w (suc n) l = take w l ∷ groups s w n (drop s l)
 
 unfoldable pub keptIn : List ℕ → ℕ → List Cell
-keptIn ws k = groups (cellWords k) (keptCount ws k) (drop (listPlace (capacityOf ws) k) ws)
+keptIn ws k = groups (stride k) (cellLength k) (keptCount ws k) (drop (listPlace (capacityOf ws) k) ws)
 
 unfoldable pub keptOf : List ℕ → List (List Cell)
 keptOf ws = tabulate 0 heights (keptIn ws)
 
 unfoldable pub storeOf : List ℕ → Store
-storeOf ws = record { capacity = capacityOf ws; scenes = groups 2 (scenesHeld ws) (drop (scenePlace 0) ws); kept = keptOf ws }
+storeOf ws = record {
+  capacity = capacityOf ws;
+  held = scenesHeld ws;
+  scenes = groups sceneWords sceneWords mostScenes (drop firstScene ws);
+  kept = keptOf ws;
+}
 
 -- a scene's two words
 abbrev pub sceneDepth : List ℕ → ℕ → ℕ
@@ -132,24 +152,42 @@ sceneRoot ws n = getD ws (scenePlace n + 1) 0
 
 -- ---- from cells to words
 
--- these cells' words, and zeros up to n words ('Unused words')
-unfoldable pub padded : ℕ → List Cell → List ℕ
-padded n cs = flatten cs ++ replicate (n - length (flatten cs)) 0
+-- these rows, and zeros up to n words ('Unused words')
+unfoldable pub padded : ℕ → List (List ℕ) → List ℕ
+padded n rows = flatten rows ++ replicate (n - length (flatten rows)) 0
 
--- the lists from list k on, each C cells long
-unfoldable pub listWords : ℕ → ℕ → List (List Cell) → List ℕ
-listWords C k [] = []
-listWords C k (cs ∷ Ks) = padded (cellWords k * C) cs ++ listWords C (suc k) Ks
+-- a part of a store's words: how many they are, and the rows that stand in it
+pub record Region : Type 0 where
+  pub size : ℕ
+  pub rows : List (List ℕ)
 
-abbrev pub headerWords : Store → List ℕ
-headerWords s = s .capacity ∷ length (s .scenes) ∷ map length (s .kept) ++ replicate (firstScene - zerosPlace) 0
+abbrev pub region : ℕ → List (List ℕ) → Region
+region n rows = record { size = n; rows = rows }
+
+abbrev pub regionWords : Region → List ℕ
+regionWords r = padded (r .size) (r .rows)
+
+-- the lists from list k on, each with room for C cells
+unfoldable pub listRegions : ℕ → ℕ → List (List Cell) → List Region
+listRegions C k [] = []
+listRegions C k (cs ∷ Ks) = region (stride k * C) cs ∷ listRegions C (suc k) Ks
+
+-- the header, the scenes, list 0, list 1, ..
+abbrev pub headerRow : Store → List ℕ
+headerRow s = s .capacity ∷ s .held ∷ map length (s .kept)
+
+abbrev pub regions : Store → List Region
+regions s = region firstScene (headerRow s ∷ []) ∷ region (sceneWords * mostScenes) (s .scenes) ∷ listRegions (s .capacity) 0 (s .kept)
 
 unfoldable pub wordsOf : Store → List ℕ
-wordsOf s = headerWords s ++ (padded (2 * mostScenes) (s .scenes) ++ listWords (s .capacity) 0 (s .kept))
+wordsOf s = flatten (map regionWords (regions s))
 
--- a store with nothing in it
+-- a place that holds no scene, and a store with nothing in it
+abbrev pub freePlace : Cell
+freePlace = 0 ∷ 0 ∷ []
+
 unfoldable pub emptyStore : ℕ → Store
-emptyStore C = record { capacity = C; scenes = []; kept = replicate heights [] }
+emptyStore C = record { capacity = C; held = 0; scenes = replicate mostScenes freePlace; kept = replicate heights [] }
 
 -- ---- damage
 
@@ -170,6 +208,13 @@ headerOk ws =
 unfoldable pub sceneOk : List ℕ → ℕ → Bool
 sceneOk ws n = depthOk (sceneDepth ws n) && not (badPointer (keptCount ws (sceneDepth ws n - 2)) (sceneRoot ws n))
 
+-- neither place n of the scenes: a scene held is not damaged, any other place is two zeros
+abbrev pub isFree : List ℕ → ℕ → Bool
+isFree ws n = eqb (sceneDepth ws n) 0 && eqb (sceneRoot ws n) 0
+
+unfoldable pub placeOk : List ℕ → ℕ → Bool
+placeOk ws n = cond (isHeld ws n) (sceneOk ws n) (isFree ws n)
+
 -- a kept cell that may stand in a store ('used cells'): a leaf with a voxel; any other with a child and no bad pointer
 unfoldable pub leafUsable : Cell → Bool
 leafUsable c = ltb 0 (leafNo c)
@@ -181,16 +226,13 @@ unfoldable pub listUsable : List (List Cell) → ℕ → Bool
 listUsable K zero = allIn leafUsable (cellsAt K 0)
 listUsable K (suc k) = allIn (cellUsable (length (cellsAt K k))) (cellsAt K (suc k))
 
--- nothing stands past the scenes held, nor past the cells kept in list k
-abbrev pub scenesBlank : List ℕ → Bool
-scenesBlank ws = blank ws (scenePlace (scenesHeld ws)) (2 * (mostScenes - scenesHeld ws))
-
+-- nothing stands past the cells kept in list k
 abbrev pub listBlank : List ℕ → ℕ → Bool
 listBlank ws k =
-    blank ws (cellPlace (capacityOf ws) k (keptCount ws k)) (cellWords k * (capacityOf ws - keptCount ws k))
+    blank ws (cellPlace (capacityOf ws) k (keptCount ws k)) (stride k * (capacityOf ws - keptCount ws k))
 
--- the whole store is not damaged ('for the whole store'): its header, every scene held, every kept cell, and nothing where nothing is held or kept
+-- the whole store is not damaged ('for the whole store'): its header, every place of a scene, every kept cell, and nothing where nothing is kept
 unfoldable pub storeOk : List ℕ → Bool
 storeOk ws =
-    headerOk ws && allBelow (scenesHeld ws) (sceneOk ws) && scenesBlank ws
-    && allBelow heights (listUsable (keptOf ws)) && allBelow heights (listBlank ws)
+    headerOk ws && allBelow mostScenes (placeOk ws) && allBelow heights (listUsable (keptOf ws))
+    && allBelow heights (listBlank ws)

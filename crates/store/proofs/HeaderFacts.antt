@@ -10,7 +10,7 @@ use lib.ListN.{length}
 use borrow.Author.Tests.{le-leb, lt-leb}
 use Rattle.laws.proofs.Tests.{and-left, and-right, all-at}
 use Rattle.paper.specs.Numbers.{allBelow}
-use Rattle.paper.specs.Store.{mostCapacity, mostScenes, heights, used, zerosPlace, capacityOf, scenesHeld, keptCount, scenePlace, blank, capacityOk, headerOk}
+use Rattle.paper.specs.Store.{mostCapacity, mostScenes, heights, firstScene, used, zerosPlace, capacityOf, scenesHeld, keptCount, scenePlace, blank, capacityOk, headerOk}
 
 pub record Header (ws : List ℕ) : Type 0 where
   pub room : used (capacityOf ws) ≤ length ws
@@ -27,7 +27,7 @@ header ws t =
     let b : Bool = capacityOk C in
     let s : Bool = leb (scenesHeld ws) mostScenes in
     let p : ℕ → Bool = λ k. leb (keptCount ws k) C in
-    let z : Bool = blank ws zerosPlace 15 in
+    let z : Bool = blank ws zerosPlace (firstScene - zerosPlace) in
     let four : T (a && b && s && allBelow heights p) = and-left (a && b && s && allBelow heights p) z t in
     let three : T (a && b && s) = and-left (a && b && s) (allBelow heights p) four in
     let two : T (a && b) = and-left (a && b) s three in
@@ -56,7 +56,7 @@ module _ (ws : List ℕ) where
   counted = allBelow heights (λ k. leb (keptCount ws k) (capacityOf ws))
 
   abbrev pub zeros : Bool
-  zeros = blank ws zerosPlace (32 - zerosPlace)
+  zeros = blank ws zerosPlace (firstScene - zerosPlace)
 
   abbrev parts : Bool → Bool → Bool → Bool
   parts s h k = s && h && k && zeros

@@ -11,13 +11,13 @@ use lib.ListN.{length, take, drop, getD}
 use lib.Seq.{drop-cons, getD-take, getD-drop}
 use Rattle.laws.proofs.Kept.{kept-cell}
 use Rattle.paper.specs.Numbers.{tabulate}
-use Rattle.paper.specs.Store.{heights, used, capacityOf, keptCount, cellWords, listPlace, cellPlace, keptOf, cellAt, leafNo, blank, listBlank}
+use Rattle.paper.specs.Store.{heights, used, capacityOf, keptCount, stride, listPlace, cellPlace, keptOf, cellAt, leafNo, blank, listBlank}
 
 -- ---- room
 
--- the lists before list k + 1 have 2C + 8Ck words
-pub lists-fit : (C k : ℕ) → k < 14 → 8 * C * k ≤ 104 * C
-lists-fit C k h = let p : 8 * C * k ≤ 8 * C * 13 = mul-le-mul-left (8 * C) (le-of-suc-le-suc h) in omega arith
+-- the lists from list 1 to list k have 8Ck words, at most as many as those of all but the last
+pub lists-fit : (C k : ℕ) → k < 14 → stride 1 * C * k ≤ stride 1 * C * 13
+lists-fit C k h = mul-le-mul-left (stride 1 * C) (le-of-suc-le-suc h)
 
 -- cell n's place in list k, and the words from there to the list's end
 pub leaves-fit : (C k n : ℕ) → k ≡ 0 → n ≤ C → cellPlace C k n + 2 * (C - n) ≤ used C
@@ -36,7 +36,7 @@ pub place-rises : (C k n m : ℕ) → n ≤ m → cellPlace C k n ≤ cellPlace 
 place-rises C zero n m l = omega arith
 place-rises C (suc k) n m l = omega arith
 
-pub place-between : (C k n m : ℕ) → n ≤ m → cellPlace C k m - cellPlace C k n ≡ cellWords k * (m - n)
+pub place-between : (C k n m : ℕ) → n ≤ m → cellPlace C k m - cellPlace C k n ≡ stride k * (m - n)
 place-between C zero n m l = omega arith
 place-between C (suc k) n m l = omega arith
 

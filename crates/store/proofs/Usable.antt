@@ -1,4 +1,4 @@
--- The ways through the tests of a cell, of a scene, of the cells of a list and of the whole store, in the code's words.
+-- The ways through the tests of a cell, of a scene and its place, of the cells of a list and of the whole store, in the code's words.
 -- Each by the value of the tests passed, at which the definition computes; a list by what it has from a cell on. Assumes nothing.
 use mathlib.Core.Path.{_≡_, refl, sym, ap, ap₂, _∙_}
 use mathlib.Core.Bool.{Bool, true, false, cond, not, _&&_}
@@ -12,7 +12,7 @@ use lib.Seq.{drop-cons}
 use borrow.Author.Tests.{lt-ltb, le-ltb}
 use Rattle.paper.specs.Numbers.{allBelow, allIn}
 use Rattle.paper.specs.Rooms.{depthOk}
-use Rattle.paper.specs.Store.{Cell, cellsAt, leafNo, badPointer, anyBad, heights, keptCount, scenesHeld, keptOf, sceneDepth, sceneRoot, headerOk, sceneOk, leafUsable, cellUsable, listUsable, scenesBlank, listBlank, storeOk}
+use Rattle.paper.specs.Store.{Cell, cellsAt, leafNo, badPointer, anyBad, mostScenes, heights, isHeld, keptCount, keptOf, sceneDepth, sceneRoot, headerOk, sceneOk, isFree, placeOk, leafUsable, cellUsable, listUsable, listBlank, storeOk}
 
 -- ---- a cell
 
@@ -74,32 +74,41 @@ list-cells K (suc k) m o e =
     let f : length (cellsAt K k) ≡ m = rw (sub-one (suc k)) at (sym e) in
     ap (λ (i : ℕ). allIn (cellUsable i) (cellsAt K (suc k))) f
 
+-- ---- a place of the scenes
+
+module _ (ws : List ℕ) (n : ℕ) where
+  abbrev by-held : Bool → Bool
+  by-held b = cond b (sceneOk ws n) (isFree ws n)
+
+  pub place-held : isHeld ws n ≡ true → placeOk ws n ≡ sceneOk ws n
+  unfolding placeOk
+  place-held e = ap by-held e
+
+  pub place-free : isHeld ws n ≡ false → placeOk ws n ≡ isFree ws n
+  unfolding placeOk
+  place-free e = ap by-held e
+
 -- ---- the whole store
 
 module _ (ws : List ℕ) where
   abbrev scenes : Bool
-  scenes = allBelow (scenesHeld ws) (sceneOk ws)
+  scenes = allBelow mostScenes (placeOk ws)
 
   abbrev usable : Bool
   usable = allBelow heights (listUsable (keptOf ws))
 
-  abbrev parts : Bool → Bool → Bool → Bool → Bool
-  parts h s b u = h && s && b && u && allBelow heights (listBlank ws)
+  abbrev parts : Bool → Bool → Bool → Bool
+  parts h s u = h && s && u && allBelow heights (listBlank ws)
 
-  in-parts : storeOk ws ≡ parts (headerOk ws) scenes (scenesBlank ws) usable
+  in-parts : storeOk ws ≡ parts (headerOk ws) scenes usable
   unfolding storeOk
   in-parts = refl
 
   pub store-scenes : headerOk ws ≡ true → scenes ≡ false → storeOk ws ≡ false
-  store-scenes e f = in-parts ∙ ap₂ (λ (h s : Bool). parts h s (scenesBlank ws) usable) e f
+  store-scenes e f = in-parts ∙ ap₂ (λ (h s : Bool). parts h s usable) e f
 
-  pub store-stained : headerOk ws ≡ true → scenes ≡ true → scenesBlank ws ≡ false → storeOk ws ≡ false
-  store-stained e f g = in-parts ∙ ap₂ (λ (h s : Bool). parts h s (scenesBlank ws) usable) e f ∙ ap (λ (b : Bool). parts true true b usable) g
+  pub store-unusable : headerOk ws ≡ true → scenes ≡ true → usable ≡ false → storeOk ws ≡ false
+  store-unusable e f u = in-parts ∙ ap₂ (λ (h s : Bool). parts h s usable) e f ∙ ap (λ (v : Bool). parts true true v) u
 
-  pub store-unusable : headerOk ws ≡ true → scenes ≡ true → scenesBlank ws ≡ true → usable ≡ false → storeOk ws ≡ false
-  store-unusable e f g u =
-      in-parts ∙ ap₂ (λ (h s : Bool). parts h s (scenesBlank ws) usable) e f ∙ ap₂ (λ (b v : Bool). parts true true b v) g u
-
-  pub store-rest : headerOk ws ≡ true → scenes ≡ true → scenesBlank ws ≡ true → usable ≡ true → storeOk ws ≡ allBelow heights (listBlank ws)
-  store-rest e f g u =
-      in-parts ∙ ap₂ (λ (h s : Bool). parts h s (scenesBlank ws) usable) e f ∙ ap₂ (λ (b v : Bool). parts true true b v) g u
+  pub store-rest : headerOk ws ≡ true → scenes ≡ true → usable ≡ true → storeOk ws ≡ allBelow heights (listBlank ws)
+  store-rest e f u = in-parts ∙ ap₂ (λ (h s : Bool). parts h s usable) e f ∙ ap (λ (v : Bool). parts true true v) u

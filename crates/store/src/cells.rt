@@ -8,10 +8,10 @@ use crate::header::FIRST_LIST;
 use crate::header::capacity;
 use numbers::wider;
 
-// The words of a leaf, and of any other cell.
-pub const LEAF_WORDS: usize = 2;
+// The words that a store has for a leaf, and for any other cell.
+pub const LEAF_STRIDE: usize = 2;
 
-pub const CELL_WORDS: usize = 8;
+pub const CELL_STRIDE: usize = 8;
 
 // A leaf's high word counts so many times: 2^32.
 pub const HIGH_WORD: u64 = 4294967296;
@@ -25,10 +25,13 @@ pub fn cell_place(c: u32, k: u32, n: u32) -> usize
 {
     let number = n as usize;
     if k == 0 {
-        return FIRST_LIST + LEAF_WORDS * number;
+        return FIRST_LIST + LEAF_STRIDE * number;
     }
     let units = c as usize;
-    FIRST_LIST + LEAF_WORDS * units + CELL_WORDS * units * ((k - 1) as usize) + CELL_WORDS * number
+    FIRST_LIST
+        + LEAF_STRIDE * units
+        + CELL_STRIDE * units * ((k - 1) as usize)
+        + CELL_STRIDE * number
 }
 
 // Leaf n: its two words as one number.

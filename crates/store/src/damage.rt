@@ -1,12 +1,12 @@
-// The whole store's tests: every scene held, every cell kept, and the unused words.
+// The whole store's tests: every place of a scene, every cell kept, and the unused words.
 ghost use mathlib.Core.Path.{_≡_};
 ghost use mathlib.Core.Bool.{not};
 ghost use Prim.Native.Nat.{_≤_, _<_};
 ghost use lib.Dec.{T};
 ghost use Rattle.paper.specs.Numbers.{allBelow};
 ghost use Rattle.paper.specs.Store.{heights, keptOf, headerOk, listUsable, listBlank, storeOk};
-use crate::cells::CELL_WORDS;
-use crate::cells::LEAF_WORDS;
+use crate::cells::CELL_STRIDE;
+use crate::cells::LEAF_STRIDE;
 use crate::cells::cell_at;
 use crate::cells::cell_place;
 use crate::cells::leaf_at;
@@ -17,7 +17,6 @@ use crate::header::kept_count;
 use crate::header::not_blank;
 use crate::pointers::cell_bad;
 use crate::scenes::scenes_bad;
-use crate::scenes::scenes_not_blank;
 
 // Whether a kept leaf is empty.
 fn leaves_bad(store: &[u32]) -> bool
@@ -79,9 +78,9 @@ fn list_not_blank(store: &[u32], k: u32) -> bool
     let at = cell_place(c, k, n);
     let spare = (c - n) as usize;
     if k == 0 {
-        return not_blank(store, at, LEAF_WORDS * spare);
+        return not_blank(store, at, LEAF_STRIDE * spare);
     }
-    not_blank(store, at, CELL_WORDS * spare)
+    not_blank(store, at, CELL_STRIDE * spare)
 }
 
 // Whether an unused word of some list is not zero.
@@ -107,9 +106,6 @@ pub fn store_bad(store: &[u32]) -> bool
         return true;
     }
     if scenes_bad(store) {
-        return true;
-    }
-    if scenes_not_blank(store) {
         return true;
     }
     if lists_bad(store) {

@@ -5,7 +5,7 @@ ghost use Prim.Native.Nat.{_+_, _≤_, _<_};
 ghost use lib.Dec.{T, leb};
 ghost use lib.ListN.{length};
 ghost use Rattle.paper.specs.Numbers.{allBelow};
-ghost use Rattle.paper.specs.Store.{mostCapacity, mostScenes, heights, used, capacityOf, scenesHeld, keptCount, scenePlace, blank, capacityOk, headerOk};
+ghost use Rattle.paper.specs.Store.{mostCapacity, mostScenes, heights, used, capacityOf, scenesHeld, isHeld, keptCount, scenePlace, blank, capacityOk, headerOk};
 
 // A capacity is 1 to 65,536.
 const LEAST_CAPACITY: u32 = 1;
@@ -115,6 +115,14 @@ pub fn scenes_held(store: &[u32]) -> u32
     ensures { λ r. ⌜ r ≡ scenesHeld (now (store .entry)) ⌝ }
 {
     store[1]
+}
+
+// Whether no scene is held under number n.
+pub fn not_held(store: &[u32], n: u32) -> bool
+    requires { ⌜ T (headerOk (now store)) ⌝ }
+    ensures { λ r. ⌜ r ≡ not (isHeld (now (store .entry)) n) ⌝ }
+{
+    store[1] <= n
 }
 
 // How many cells list k keeps.

@@ -6,12 +6,11 @@ mod damage; // the whole store's tests
 mod header; // words 0 to 31
 mod mirrors; // a pointer and a cell, mirrored
 mod pointers; // one pointer, and the eight of a cell
-mod scenes; // words 32 to 159
+mod scenes; // the words of the scenes
 mod zeros; // words made zero
 
 pub use calls::kept;
 pub use calls::new_store;
-pub use cells::CELL_WORDS;
 pub use cells::HIGH_WORD;
 pub use cells::cell_at;
 pub use cells::cell_place;
@@ -23,6 +22,7 @@ pub use header::MOST_SCENES;
 pub use header::capacity;
 pub use header::header_bad;
 pub use header::kept_count;
+pub use header::not_held;
 pub use header::scenes_held;
 pub use mirrors::mirrored;
 pub use mirrors::turned;

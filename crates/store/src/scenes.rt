@@ -4,11 +4,10 @@ ghost use mathlib.Core.Bool.{not};
 ghost use Prim.Native.Nat.{_≤_, _<_};
 ghost use lib.Dec.{T};
 ghost use Rattle.paper.specs.Numbers.{allBelow};
-ghost use Rattle.paper.specs.Store.{mostScenes, scenesHeld, scenePlace, sceneDepth, sceneRoot, headerOk, sceneOk, scenesBlank};
+ghost use Rattle.paper.specs.Store.{mostScenes, scenePlace, sceneDepth, sceneRoot, headerOk, sceneOk, placeOk};
 use crate::header::MOST_SCENES;
 use crate::header::kept_count;
-use crate::header::not_blank;
-use crate::header::scenes_held;
+use crate::header::not_held;
 use crate::pointers::bad_pointer;
 use limits::LEAF_HEIGHT;
 use points::depth_bad;
@@ -57,30 +56,29 @@ pub fn scene_bad(store: &[u32], n: u32) -> bool
     bad_pointer(kept_count(store, depth - LEAF_HEIGHT), scene_root(store, n))
 }
 
-// Whether one of the scenes held is damaged.
+// Whether place n is damaged: a place that holds no scene is not two zeros, or the scene held is bad.
+fn place_bad(store: &[u32], n: u32) -> bool
+    requires { ⌜ T (headerOk (now store)) ⌝ }
+    requires { ⌜ n < mostScenes ⌝ }
+    ensures { λ r. ⌜ r ≡ not (placeOk (now (store .entry)) n) ⌝ }
+{
+    if not_held(store, n) {
+        return (scene_depth(store, n) != 0) | (scene_root(store, n) != 0);
+    }
+    scene_bad(store, n)
+}
+
+// Whether one of the places of scenes is damaged.
 pub fn scenes_bad(store: &[u32]) -> bool
     requires { ⌜ T (headerOk (now store)) ⌝ }
-    ensures { λ r. ⌜ r ≡ not (allBelow (scenesHeld (now (store .entry))) (sceneOk (now (store .entry)))) ⌝ }
+    ensures { λ r. ⌜ r ≡ not (allBelow mostScenes (placeOk (now (store .entry)))) ⌝ }
 {
-    let mut n = scenes_held(store);
+    let mut n = MOST_SCENES;
     while n != 0 {
         n -= 1;
-        if scene_bad(store, n) {
+        if place_bad(store, n) {
             return true;
         }
     }
     false
-}
-
-// Whether a word of the scenes not held is not zero.
-pub fn scenes_not_blank(store: &[u32]) -> bool
-    requires { ⌜ T (headerOk (now store)) ⌝ }
-    ensures { λ r. ⌜ r ≡ not (scenesBlank (now (store .entry))) ⌝ }
-{
-    let held = scenes_held(store);
-    not_blank(
-        store,
-        scene_place(held),
-        SCENE_WORDS * ((MOST_SCENES - held) as usize),
-    )
 }

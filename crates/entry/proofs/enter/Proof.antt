@@ -1,9 +1,9 @@
 -- `entry::enter` meets its contract: each way through its tests is a law of entries. Assumes nothing.
-use mathlib.Core.Path.{ap₂, _∙_, subst}
-use Prim.Native.Nat.{ℕ, _<_, _≤_}
+use mathlib.Core.Path.{sym, ap₂, _∙_}
+use Prim.Native.Nat.{_<_}
 use denote.Ref.{now}
 use lib.Dec.{T}
-use Rattle.paper.specs.Store.{scenesHeld, headerOk, sceneOk}
+use Rattle.paper.specs.Store.{isHeld, headerOk, sceneOk}
 use Rattle.entry.specs.declared.Entry.the-variants.{Root}
 use Rattle.entry.proofs.Settled.{held-fits}
 use Rattle.store.proofs.Tests.{passed-T, failed-T}
@@ -19,8 +19,10 @@ header-bad-requires c κs = search needs
 header-good : (c : tie.Else1) → T (headerOk (now (c .before .before .before .args .store)))
 header-good c = passed-T (headerOk (now (c .before .before .before .args .store))) (c .before .header-bad .ensures) (c .if1 .left)
 
-held-here : (c : tie.Else2) → c .before .before .before .before .before .args .scene < scenesHeld (now (c .before .before .before .before .before .args .store))
-held-here c = subst (λ (n : ℕ). c .before .before .before .before .before .args .scene < n) (c .before .scenes-held .ensures) (c .if2 .left)
+held-here : (c : tie.Else2) → T (isHeld (now (c .before .before .before .before .before .args .store)) (c .before .before .before .before .before .args .scene))
+held-here c =
+    let a = c .before .before .before .before .before .args in
+    passed-T (isHeld (now (a .store)) (a .scene)) (c .before .not-held .ensures) (c .if2 .left)
 
 fits-here : (c : tie.Else2) → c .before .before .before .before .before .args .scene < 64
 fits-here c = held-fits (now (c .before .before .before .before .before .args .store)) (c .before .before .before .before .before .args .scene) (header-good (c .before .before)) (held-here c)
@@ -30,13 +32,13 @@ returns c =
     let a = c .before .before .before .args in
     entry-header (now (a .store)) (a .scene) (failed-T (headerOk (now (a .store))) (c .before .header-bad .ensures) (c .if1 .taken))
 
-scenes-held-requires : tie.Need-scenes-held-requires
-scenes-held-requires c κs = header-good c
+not-held-requires : tie.Need-not-held-requires
+not-held-requires c κs = header-good c
 
 returns-2 : tie.Need-returns-2
 returns-2 c =
     let a = c .before .before .before .before .before .args in
-    entry-scene (now (a .store)) (a .scene) (header-good (c .before .before)) (subst (λ (n : ℕ). n ≤ a .scene) (c .before .scenes-held .ensures) (c .if2 .taken))
+    entry-scene (now (a .store)) (a .scene) (header-good (c .before .before)) (sym (c .before .not-held .ensures) ∙ c .if2 .taken)
 
 scene-bad-requires : tie.Need-scene-bad-requires
 scene-bad-requires c κs = (header-good (c .before .before), fits-here c)
@@ -66,7 +68,7 @@ enter-spec =
     (tie.spec
     header-bad-requires
     returns
-    scenes-held-requires
+    not-held-requires
     returns-2
     scene-bad-requires
     returns-3

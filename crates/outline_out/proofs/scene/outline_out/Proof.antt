@@ -6,16 +6,17 @@ use mathlib.Core.List.{List, [], _∷_}
 use Prim.Native.Nat.{ℕ, _<_, _≤_, min}
 use native.Mathlib.Nat.{zero-add}
 use native.Mathlib.Omega.{arith}
+use lib.Dec.{T}
 use lib.ListN.{length}
 use borrow.Author.Needs.{needs}
 use borrow.Author.Tests.{not-true, not-false}
 use Rattle.paper.specs.Outline.{longest}
-use Rattle.paper.specs.Store.{scenesHeld, storeOk}
+use Rattle.paper.specs.Store.{isHeld, storeOk}
 use Rattle.paper.specs.Answers.{outcome, written}
 use Rattle.paper.specs.Calls.{over, outlineBytes}
 use Rattle.paper.specs.declared.Written.the-variants.{Length}
 use Rattle.laws.proofs.Tests.{true-T}
-use Rattle.laws.proofs.Undamaged.{store-header}
+use Rattle.laws.proofs.Undamaged.{store-header, there-held}
 use Rattle.outline_out.specs.Record.{sceneFile}
 use Rattle.numbers.proofs.Laying.{laid-first, reached-at, reached-list}
 use Rattle.outline_out.proofs.Pointers.{file-by-pointers}
@@ -33,22 +34,22 @@ returns c =
 sound : (c : tie.Else1) → storeOk (c .before .before .before .before .args .store .now) ≡ true
 sound c = not-false (storeOk (c .before .before .before .before .args .store .now)) (sym (c .before .store-bad .ensures) ∙ c .if1 .left)
 
-scenes-held-requires : tie.Need-scenes-held-requires
-scenes-held-requires c κs = store-header (c .before .before .before .before .args .store .now) (true-T (sound c))
+not-held-requires : tie.Need-not-held-requires
+not-held-requires c κs = store-header (c .before .before .before .before .args .store .now) (true-T (sound c))
 
 returns-2 : tie.Need-returns-2
 returns-2 c =
     let h = c .before in
     let e = h .before in
     let a = e .before .before .before .before .args in
-    no-scene (a .store .now) (a .scene) (a .out .now) (sound e) (omega (arith, h .scenes-held .ensures, c .if2 .taken))
+    no-scene (a .store .now) (a .scene) (a .out .now) (sound e) (sym (h .not-held .ensures) ∙ c .if2 .taken)
 
 -- and the scene is held
 abbrev at-entry : tie.Else2 → tie.Start
 at-entry c = c .before .before .before .before .before .before
 
-held : (c : tie.Else2) → at-entry c .args .scene < scenesHeld (at-entry c .args .store .now)
-held c = omega (arith, c .before .scenes-held .ensures, c .if2 .left)
+held : (c : tie.Else2) → T (isHeld (at-entry c .args .store .now) (at-entry c .args .scene))
+held c = there-held (at-entry c .args .store .now) (at-entry c .args .scene) (sym (c .before .not-held .ensures) ∙ c .if2 .left)
 
 -- the file is the room's outline
 file : (c : tie.Else2) → outlineBytes (at-entry c .args .store .now) (at-entry c .args .scene) ≡ sceneFile (at-entry c .args .store .now) (at-entry c .args .scene)
@@ -92,8 +93,8 @@ end c =
     reached-at (sceneFile (a .store .now) (a .scene)) 0 (c .write-scene .result) (a .out .now) (c .write-scene .last .1 .1 .1 .0) (c .write-scene .ensures)
     ∙ zero-add (length (sceneFile (a .store .now) (a .scene)))
 
-cast-t8 : tie.Need-cast-t8
-cast-t8 c =
+cast-t15 : tie.Need-cast-t15
+cast-t15 c =
     let w = c .before .before in
     let l = fits (w .before .before) in
     omega (arith, end w)
@@ -116,12 +117,12 @@ outline-out-spec =
     (tie.spec
     (λ c κs. search needs)
     returns
-    scenes-held-requires
+    not-held-requires
     returns-2
     (λ c κs. search needs)
     measure-scene-requires
     returns-3
     write-scene-requires
-    cast-t8
+    cast-t15
     (λ c. search needs)
     returns-4)

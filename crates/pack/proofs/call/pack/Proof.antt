@@ -9,12 +9,12 @@ use lib.ListN.{length, take, drop}
 use borrow.Author.Needs.{needs}
 use borrow.Author.Tests.{not-true, not-false}
 use Rattle.paper.specs.Rooms.{depthOk}
-use Rattle.paper.specs.Store.{scenesHeld, keptCount, keptOf, badPointer, storeOk}
+use Rattle.paper.specs.Store.{mostScenes, isHeld, keptCount, keptOf, badPointer, storeOk}
 use Rattle.paper.specs.Pack.{emptyFile, packedFile}
 use Rattle.paper.specs.Calls.{cleared, scratchFor}
 use Rattle.laws.proofs.Tests.{true-T}
 use Rattle.laws.proofs.StoreFacts.{scene-sound, depth-range}
-use Rattle.laws.proofs.Undamaged.{store-header}
+use Rattle.laws.proofs.Undamaged.{store-header, there-held, held-placed}
 use Rattle.store.proofs.HeaderFacts.{header}
 use Rattle.pack.proofs.Ways.{damaged, no-scene, scratch-short, in-order, bytes-empty, bytes-root, cleared-long, cleared-again, cleared-take}
 use Rattle.pack.proofs.call.pack.Statement.{statement}
@@ -33,22 +33,22 @@ first c = c .before .before .before .before .before
 sound : (c : tie.Else1) → storeOk (first c .args .store .now) ≡ true
 sound c = not-false (storeOk (first c .args .store .now)) (sym (c .before .store-bad .ensures) ∙ c .if1 .left)
 
-scenes-held-requires : tie.Need-scenes-held-requires
-scenes-held-requires c κs = store-header (first c .args .store .now) (true-T (sound c))
+not-held-requires : tie.Need-not-held-requires
+not-held-requires c κs = store-header (first c .args .store .now) (true-T (sound c))
 
 returns-2 : tie.Need-returns-2
 returns-2 c =
     let h = c .before in
     let e = h .before in
     let a = first e .args in
-    no-scene (a .store .now) (a .scene) (a .scratch .now) (a .out .now) (sound e) (omega (arith, h .scenes-held .ensures, c .if2 .taken))
+    no-scene (a .store .now) (a .scene) (a .scratch .now) (a .out .now) (sound e) (sym (h .not-held .ensures) ∙ c .if2 .taken)
 
 -- and the scene is held
 abbrev start : tie.Else2 → tie.Start
 start c = first (c .before .before)
 
-held : (c : tie.Else2) → start c .args .scene < scenesHeld (start c .args .store .now)
-held c = omega (arith, c .before .scenes-held .ensures, c .if2 .left)
+held : (c : tie.Else2) → T (isHeld (start c .args .store .now) (start c .args .scene))
+held c = there-held (start c .args .store .now) (start c .args .scene) (sym (c .before .not-held .ensures) ∙ c .if2 .left)
 
 ok : (c : tie.Else2) → T (storeOk (start c .args .store .now))
 ok c = true-T (sound (c .before .before))
@@ -83,10 +83,10 @@ given c = entry (passed c)
 clean : (c : tie.After-clear) → c .clear .last .0 ≡ cleared (scratchFor (given c .args .store .now)) (given c .args .scratch .now)
 clean c = c .clear .ensures ∙ ap (λ (n : ℕ). cleared n (given c .args .scratch .now)) (passed c .before .scratch-words .ensures)
 
-few : (c : tie.After-clear) → given c .args .scene < 64
+few : (c : tie.After-clear) → given c .args .scene < mostScenes
 few c =
     let h = passed c .before .before in
-    omega (arith, held h, header (start h .args .store .now) (store-header (start h .args .store .now) (ok h)) .scenes)
+    held-placed (start h .args .store .now) (start h .args .scene) (header (start h .args .store .now) (store-header (start h .args .store .now) (ok h)) .scenes) (held h)
 
 scene-depth-requires : tie.Need-scene-depth-requires
 scene-depth-requires c κs =
@@ -221,7 +221,7 @@ pack-spec =
     (tie.spec
     (λ c κs. search needs)
     returns
-    scenes-held-requires
+    not-held-requires
     returns-2
     scratch-words-requires
     returns-3

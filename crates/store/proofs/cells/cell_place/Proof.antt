@@ -2,12 +2,13 @@
 -- By the bound on the lists before list k. Assumes nothing.
 use Prim.Native.Nat.{_-_, _*_, _≤_}
 use native.Mathlib.Omega.{arith}
+use Rattle.paper.specs.Store.{stride}
 use Rattle.store.proofs.Places.{lists-fit, leaf-place, inner-place}
 use borrow.Author.Needs.{needs}
 use Rattle.store.proofs.cells.cell_place.Statement.{statement}
 use Rattle.store.proofs.cells.cell_place.Tie as tie
 
-before : (c : tie.Else1) → 8 * c .before .args .c * (c .before .args .k - 1) ≤ 104 * c .before .args .c
+before : (c : tie.Else1) → stride 1 * c .before .args .c * (c .before .args .k - 1) ≤ stride 1 * c .before .args .c * 13
 before c = lists-fit (c .before .args .c) (c .before .args .k - 1) (omega arith)
 
 returns : tie.Need-returns

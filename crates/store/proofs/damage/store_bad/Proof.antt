@@ -1,4 +1,4 @@
--- `store::damage::store_bad` meets its contract: its five tests are those of the definition, in order.
+-- `store::damage::store_bad` meets its contract: its four tests are those of the definition, in order.
 -- Each way is one of the ways through the store's test. Assumes nothing.
 use mathlib.Core.Path.{_≡_, sym, ap, _∙_}
 use mathlib.Core.Bool.{true, not}
@@ -6,7 +6,7 @@ use Rattle.laws.proofs.Tests.{true-T}
 use Rattle.paper.specs.Store.{headerOk}
 use Rattle.store.proofs.Tests.{passed, failed}
 use Rattle.laws.proofs.UnseenWords.{no-header}
-use Rattle.store.proofs.Usable.{store-scenes, store-stained, store-unusable, store-rest}
+use Rattle.store.proofs.Usable.{store-scenes, store-unusable, store-rest}
 use borrow.Author.Needs.{needs}
 use Rattle.store.proofs.damage.store_bad.Statement.{statement}
 use Rattle.store.proofs.damage.store_bad.Tie as tie
@@ -24,32 +24,22 @@ scenes-bad-requires c κs = true-T (front c)
 returns-2 : tie.Need-returns-2
 returns-2 c = sym (ap not (store-scenes _ (front (c .before .before)) (failed (c .before .scenes-bad .ensures) (c .if2 .taken))))
 
-scenes-not-blank-requires : tie.Need-scenes-not-blank-requires
-scenes-not-blank-requires c κs = true-T (front (c .before .before))
+lists-bad-requires : tie.Need-lists-bad-requires
+lists-bad-requires c κs = true-T (front (c .before .before))
 
 returns-3 : tie.Need-returns-3
 returns-3 c =
     let s = passed (c .before .before .before .scenes-bad .ensures) (c .before .before .if2 .left) in
-    sym (ap not (store-stained _ (front (c .before .before .before .before)) s (failed (c .before .scenes-not-blank .ensures) (c .if3 .taken))))
+    sym (ap not (store-unusable _ (front (c .before .before .before .before)) s (failed (c .before .lists-bad .ensures) (c .if3 .taken))))
 
-lists-bad-requires : tie.Need-lists-bad-requires
-lists-bad-requires c κs = true-T (front (c .before .before .before .before))
+lists-not-blank-requires : tie.Need-lists-not-blank-requires
+lists-not-blank-requires c κs = true-T (front (c .before .before .before .before))
 
 returns-4 : tie.Need-returns-4
 returns-4 c =
-    let s = passed (c .before .before .before .before .before .scenes-bad .ensures) (c .before .before .before .before .if2 .left) in
-    let w = passed (c .before .before .before .scenes-not-blank .ensures) (c .before .before .if3 .left) in
-    sym (ap not (store-unusable _ (front (c .before .before .before .before .before .before)) s w (failed (c .before .lists-bad .ensures) (c .if4 .taken))))
-
-lists-not-blank-requires : tie.Need-lists-not-blank-requires
-lists-not-blank-requires c κs = true-T (front (c .before .before .before .before .before .before))
-
-returns-5 : tie.Need-returns-5
-returns-5 c =
-    let s = passed (c .before .before .before .before .before .before .scenes-bad .ensures) (c .before .before .before .before .before .if2 .left) in
-    let w = passed (c .before .before .before .before .scenes-not-blank .ensures) (c .before .before .before .if3 .left) in
-    let u = passed (c .before .before .lists-bad .ensures) (c .before .if4 .left) in
-    c .lists-not-blank .ensures ∙ sym (ap not (store-rest _ (front (c .before .before .before .before .before .before .before)) s w u))
+    let s = passed (c .before .before .before .before .scenes-bad .ensures) (c .before .before .before .if2 .left) in
+    let u = passed (c .before .before .lists-bad .ensures) (c .before .if3 .left) in
+    c .lists-not-blank .ensures ∙ sym (ap not (store-rest _ (front (c .before .before .before .before .before)) s u))
 
 pub store-bad-spec : {M : Type 1} → statement M
 store-bad-spec =
@@ -59,9 +49,7 @@ store-bad-spec =
     returns
     scenes-bad-requires
     returns-2
-    scenes-not-blank-requires
-    returns-3
     lists-bad-requires
-    returns-4
+    returns-3
     lists-not-blank-requires
-    returns-5)
+    returns-4)

@@ -1,42 +1,39 @@
--- `store::scenes::scenes_bad` meets its contract. The invariant: no scene from n on is damaged, so the answer is that of the scenes below n.
+-- `store::scenes::scenes_bad` meets its contract. The invariant: no place from n on is damaged, so the answer is that of the places below n.
 -- The measure is n. Assumes nothing.
-use mathlib.Core.Path.{_≡_, sym, ap}
+use mathlib.Core.Path.{_≡_, refl, sym, ap}
 use mathlib.Core.Bool.{not}
 use Prim.Native.Nat.{ℕ, _≤_}
 use native.Mathlib.Omega.{arith}
 use Rattle.paper.specs.Numbers.{allBelow}
-use Rattle.paper.specs.Store.{mostScenes, scenesHeld, sceneOk}
+use Rattle.paper.specs.Store.{mostScenes, placeOk}
 use Rattle.store.proofs.Tests.{passed, failed, all-still, all-stop, all-end}
-use Rattle.store.proofs.HeaderFacts.{header}
 use borrow.Author.Needs.{needs}
 use Rattle.store.proofs.scenes.scenes_bad.Statement.{statement}
 use Rattle.store.proofs.scenes.scenes_bad.Tie as tie
 
 abbrev Inv-loop : tie.InvT-loop
-Inv-loop store n₀ n = (n ≤ mostScenes) × (allBelow (scenesHeld store) (sceneOk store) ≡ allBelow n (sceneOk store))
+Inv-loop store n₀ n = (n ≤ mostScenes) × (allBelow mostScenes (placeOk store) ≡ allBelow n (placeOk store))
 
 abbrev μ-loop : tie.MeasureT-loop
 μ-loop store n₀ n = n
 
 loop-holds : tie.Need-loop-holds Inv-loop μ-loop
-loop-holds c =
-    let s = c .before .before in
-    (omega (arith, header (s .args .store .now) (s .pre) .scenes), ap (λ (i : ℕ). allBelow i (sceneOk (s .args .store .now))) (sym (c .scenes-held .ensures)))
+loop-holds c = (omega arith, refl)
 
 returns : tie.Need-returns Inv-loop μ-loop
 returns c =
     let l = c .before .before .before in
-    sym (ap not (all-stop (sceneOk (c .before .before .before .before .before .before .args .store .now)) (l .loop .n) (l .loop .inv .1) (c .before .before .loop-test .taken) (failed (c .before .scene-bad .ensures) (c .if1 .taken))))
+    sym (ap not (all-stop (placeOk (c .before .before .before .before .before .args .store .now)) (l .loop .n) (l .loop .inv .1) (c .before .before .loop-test .taken) (failed (c .before .place-bad .ensures) (c .if1 .taken))))
 
 loop-again : tie.Need-loop-again Inv-loop μ-loop
 loop-again c =
     let l = c .before .before .before in
-    (search needs, all-still (sceneOk (c .before .before .before .before .before .before .args .store .now)) (l .loop .n) (l .loop .inv .1) (c .before .before .loop-test .taken) (passed (c .before .scene-bad .ensures) (c .if1 .left)))
+    (search needs, all-still (placeOk (c .before .before .before .before .before .args .store .now)) (l .loop .n) (l .loop .inv .1) (c .before .before .loop-test .taken) (passed (c .before .place-bad .ensures) (c .if1 .left)))
 
 returns-2 : tie.Need-returns-2 Inv-loop μ-loop
 returns-2 c =
     let l = c .before in
-    sym (ap not (all-end (sceneOk (c .before .before .before .before .args .store .now)) (l .loop .n) (l .loop .inv .1) (c .loop-test .left)))
+    sym (ap not (all-end (placeOk (c .before .before .before .args .store .now)) (l .loop .n) (l .loop .inv .1) (c .loop-test .left)))
 
 pub scenes-bad-spec : {M : Type 1} → statement M
 scenes-bad-spec =
@@ -44,7 +41,6 @@ scenes-bad-spec =
     (tie.spec
     Inv-loop
     μ-loop
-    (λ c κs. search needs)
     loop-holds
     (λ c. search needs)
     (λ c κs. search needs)
