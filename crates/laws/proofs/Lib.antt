@@ -62,6 +62,7 @@ pub mod TreesRead
 pub mod MirrorClaim
 pub mod Filled
 pub mod Filling
+pub mod RefusalNumbers
 pub mod Refusals
 pub mod Running
 pub mod Walks

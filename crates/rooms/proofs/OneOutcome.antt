@@ -5,8 +5,6 @@ use mathlib.Core.Path.{_≡_, refl, sym, ap, _∙_}
 use mathlib.Core.List.{List, [], _∷_}
 use Prim.Native.Nat.{ℕ, zero, suc}
 use lib.ListN.{getD}
-use Rattle.paper.specs.declared.Refusal.{Refusal}
-use Rattle.paper.specs.declared.Refusal.the-variants.{BadSize, DamagedStore, BadVersion, BadLength, BadDepth, BrokenRules, ScenesFull, CellsFull, NoScene, Outside, ScratchShort, OutputShort, BadWish}
 use Rattle.paper.specs.declared.Started.{Started}
 use Rattle.paper.specs.declared.Added.{Added}
 use Rattle.paper.specs.declared.Seen.{Seen}
@@ -20,46 +18,9 @@ use Rattle.paper.specs.declared.Chosen.{Chosen}
 use Rattle.paper.specs.declared.Opening.{Opening}
 use Rattle.paper.specs.declared.Wish.{Wish}
 use Rattle.paper.specs.Rooms.{Point}
-use Rattle.paper.specs.Answers.{Outcome, Told, outcome, numberOf, started, added, seen, occupied, counted, kept, written, checked, found, chosen, opened, holds}
+use Rattle.paper.specs.Answers.{Outcome, Told, outcome, started, added, seen, occupied, counted, kept, written, checked, found, chosen, opened, holds}
 use Rattle.paper.specs.Promises.{NewStorePromise, AddPromise, VoxelPromise, CellPromise, BoxPromise, KeptPromise, OutlinePromise, PackPromise, CheckPromise, PackedVoxelPromise, OpenPromise, AskPromise, DetailPromise}
-
--- ---- a refusal from its number
-
--- number n + 1 of the table
-abbrev refusalAt : ℕ → Refusal
-refusalAt zero = BadSize
-refusalAt (suc zero) = DamagedStore
-refusalAt (suc (suc zero)) = BadVersion
-refusalAt (suc (suc (suc zero))) = BadLength
-refusalAt (suc (suc (suc (suc zero)))) = BadDepth
-refusalAt (suc (suc (suc (suc (suc zero))))) = BrokenRules
-refusalAt (suc (suc (suc (suc (suc (suc zero)))))) = ScenesFull
-refusalAt (suc (suc (suc (suc (suc (suc (suc zero))))))) = CellsFull
-refusalAt (suc (suc (suc (suc (suc (suc (suc (suc zero)))))))) = NoScene
-refusalAt (suc (suc (suc (suc (suc (suc (suc (suc (suc zero))))))))) = Outside
-refusalAt (suc (suc (suc (suc (suc (suc (suc (suc (suc (suc zero)))))))))) = ScratchShort
-refusalAt (suc (suc (suc (suc (suc (suc (suc (suc (suc (suc (suc zero))))))))))) = OutputShort
-refusalAt (suc (suc (suc (suc (suc (suc (suc (suc (suc (suc (suc (suc n)))))))))))) = BadWish
-
--- what an answer is: accepted at number 0, else refused by the number
-abbrev answerOf : {A : Type 0} → A → (Refusal → A) → ℕ → A
-answerOf a f zero = a
-answerOf a f (suc n) = f (refusalAt n)
-
-refused-back : {A : Type 0} (a : A) (f : Refusal → A) (r : Refusal) → answerOf a f (numberOf r) ≡ f r
-refused-back a f BadSize = refl
-refused-back a f DamagedStore = refl
-refused-back a f BadVersion = refl
-refused-back a f BadLength = refl
-refused-back a f BadDepth = refl
-refused-back a f BrokenRules = refl
-refused-back a f ScenesFull = refl
-refused-back a f CellsFull = refl
-refused-back a f NoScene = refl
-refused-back a f Outside = refl
-refused-back a f ScratchShort = refl
-refused-back a f OutputShort = refl
-refused-back a f BadWish = refl
+use Rattle.laws.proofs.RefusalNumbers.{answerOf, refused-back}
 
 -- ---- each answer from its number and values
 
