@@ -1,31 +1,46 @@
 /*
- * rooms.h: the room store, for C.
+ * rooms.h: the room store, for C. Link target/staticlib/librooms_c.a: x86-64 Linux, and no other machine. Of the C library it
+ * needs no more than memset and its kin.
  *
- * A room is a cube of voxels with a depth D, 2 to 16, and edge 2^D. A store keeps up to 64 scenes and each differing cell
- * of theirs once, mirror images included. The thirteen calls below work on memory that the caller lends: they allocate nothing,
- * keep nothing between calls, print nothing and start nothing. Link target/staticlib/librooms_c.a (x86-64 Linux); of the C
- * library it needs no more than memset and its kin.
+ * A room is a cube of voxels; its depth D, from 2 to 16, gives its edge, 2^D voxels. A store keeps up to 64 scenes and each
+ * differing cell of theirs once, mirror images included. The thirteen calls below work on memory that the caller lends: they
+ * allocate nothing, keep nothing between calls, print nothing and start nothing. docs/RULES.md has the rules of rooms, stores
+ * and refusals, docs/FORMATS.md the bytes of the two kinds of file.
  *
  * What a call answers
  *   Each call returns 0 where it is accepted, or the number of its refusal (ROOMS_..., below). The refusals of a call are
- *   judged in the order given at the call: the first that applies is returned. Values go to out parameters, which are
- *   written by every call: on a refusal they are zero.
+ *   judged in the order given at the call: the first that applies is returned. Values go to out parameters; a call writes
+ *   all that it has, whatever it returns: on a refusal they are zero.
  *
  * What it asks of the caller
  *   A slice is a pointer and a length, in this order; the length counts elements, words of 4 bytes or bytes.
- *   - Of a length above 0, the pointer points to so many elements, aligned for their type (4 bytes for a word). Of
- *     length 0, the pointer may be anything, a null pointer too.
- *   - What a call may write (a slice that is not const, an out parameter) overlaps with nothing else lent to that call, and no
- *     other thread reads or writes it meanwhile. What it only reads (const) may be shared and may overlap.
+ *   - Of a length above 0, the pointer points to so many elements of one array, aligned for their type (4 bytes for a word).
+ *     Of length 0, the pointer may be anything, a null pointer too.
  *   - An out parameter is not a null pointer, and is aligned for its type.
- *   That is all. Any words and any bytes may stand in a slice, of any length: noise, a damaged store, half a file. Such input
- *   gets a refusal; it never makes a call fault, loop without end or write outside what it was lent.
+ *   - What a call may write (a slice that is not const, an out parameter) overlaps with nothing else lent to that call, and
+ *     nobody else reads or writes it until the call returns.
+ *   - What a call only reads (const) may be shared and may overlap with other const slices, and nobody writes it until the call
+ *     returns: no other thread, no signal handler, no other process. A call tests a size and reads by it later, so memory that
+ *     changes in between can lead it outside. A file that is mapped into memory is neither written nor shortened by anybody
+ *     meanwhile; where that can't be known, read the file into memory of your own first.
+ *   - The floating-point environment is the default one: floating-point exceptions masked, subnormal numbers as they are
+ *     (neither flush-to-zero nor denormals-are-zero set). Only rooms_detail computes with doubles. It may set status flags.
+ *     With denormals-are-zero the distance -5e-324 would be taken for 0 where refusal 13 is due.
+ *   - The stack suffices: docs/STACK.md has the bytes that each call was measured to take. 128 KiB hold every call with ease.
+ *   Of what stands in the memory nothing is asked: any words and any bytes, of any length, noise, a damaged store, half a
+ *   file. A call answers or refuses; it never faults, loops without end or writes outside what it was lent. Not
+ *   everything is looked at by every call: one that answers has found what it looked at in order, and no more. rooms_kept looks
+ *   at a store's header alone and answers on a store with damaged cells; rooms_packed_voxel looks at a file's header, sizes and
+ *   one path. Whether a packed file is proper as a whole is for rooms_check to say.
  *
  * What happens to lent memory
  *   A call that is refused leaves store and output as they were. Output past the length written, words of a store past
- *   ROOMS_STORE_WORDS and scratch past the size needed are never changed.
+ *   ROOMS_STORE_WORDS and scratch past the size needed are never changed. Scratch and output may hold anything beforehand.
  *
- * Nothing is promised of time or of the stack. A box whose faces lie off the grid can enter each cell that they cut.
+ * 'On a store of these calls' below means: words in which rooms_new was accepted and which since then only rooms_new and
+ * rooms_add have written, as their store, lent with all words of its capacity each time.
+ *
+ * Nothing is promised of time. A box whose faces lie off the grid can enter each cell that they cut.
  */
 #ifndef ROOMS_H
 #define ROOMS_H
@@ -40,19 +55,19 @@ extern "C" {
 /* ---- refusals ---- */
 
 #define ROOMS_OK 0u
-#define ROOMS_BAD_SIZE 1u       /* new store: capacity out of range or too few words */
-#define ROOMS_DAMAGED_STORE 2u  /* damaged store */
-#define ROOMS_BAD_VERSION 3u    /* file empty or wrong version byte */
-#define ROOMS_BAD_LENGTH 4u     /* outline under 6 bytes, packed under 7, or length field not the slice's length */
-#define ROOMS_BAD_DEPTH 5u      /* depth not 2 to 16 */
-#define ROOMS_BROKEN_RULES 6u   /* a record or list breaks its file's rules */
-#define ROOMS_SCENES_FULL 7u    /* 64 scenes held */
-#define ROOMS_CELLS_FULL 8u     /* a height would keep more than the capacity */
-#define ROOMS_NO_SCENE 9u       /* no such scene */
-#define ROOMS_OUTSIDE 10u       /* point, height or box outside, or low above high */
-#define ROOMS_SCRATCH_SHORT 11u /* scratch too short */
-#define ROOMS_OUTPUT_SHORT 12u  /* output too short */
-#define ROOMS_BAD_WISH 13u      /* wish out of range, NaN or infinite */
+#define ROOMS_BAD_SIZE 1u       /* the capacity is not 1 to 65,536, or the words are too few for it */
+#define ROOMS_DAMAGED_STORE 2u  /* the store is damaged where the call looks */
+#define ROOMS_BAD_VERSION 3u    /* the file has no byte, or its first is not 0x11 (outline) or 0x21 (packed) */
+#define ROOMS_BAD_LENGTH 4u     /* the file is shorter than its header, or its bytes 1 to 4 don't say its length */
+#define ROOMS_BAD_DEPTH 5u      /* the depth is not 2 to 16 */
+#define ROOMS_BROKEN_RULES 6u   /* the file breaks a rule of its kind that the call tests */
+#define ROOMS_SCENES_FULL 7u    /* the store holds 64 scenes */
+#define ROOMS_CELLS_FULL 8u     /* some height would have to keep more cells than the capacity */
+#define ROOMS_NO_SCENE 9u       /* the store holds no scene of this number */
+#define ROOMS_OUTSIDE 10u       /* a point, cell, height or box beyond the room, or low above high */
+#define ROOMS_SCRATCH_SHORT 11u /* the scratch is shorter than the call takes */
+#define ROOMS_OUTPUT_SHORT 12u  /* the output is shorter than what would be written */
+#define ROOMS_BAD_WISH 13u      /* the wish is out of its range, infinite or no number */
 
 /* ---- sizes ---- */
 
@@ -75,8 +90,8 @@ extern "C" {
 #define ROOMS_PACKED_MIN_BYTES 7u
 
 /*
- * Bytes that hold any packed scene of a store of this capacity: header, 15 sizes, a root, and at each height below it at most
- * `capacity` records of at most 34 bytes.
+ * Bytes that hold any packed scene of a store of this capacity: header, 15 sizes, a root, at each of 13 heights below it at
+ * most `capacity` records of at most 34 bytes, and as many leaves of 8.
  */
 #define ROOMS_PACKED_MAX_BYTES(capacity) ((size_t)7 + 60 + 34 + (size_t)(8 + 34 * 13) * (size_t)(capacity))
 
@@ -86,15 +101,17 @@ extern "C" {
 /* ---- the store ---- */
 
 /*
- * New store: zeroes the first ROOMS_STORE_WORDS(capacity) words, then sets word 0 to the capacity.
- * Whatever the words held before is lost. Refusals: 1 (the words are as they were).
+ * New store: zeroes the first ROOMS_STORE_WORDS(capacity) words, then sets word 0 to the capacity. What those words held
+ * before is lost. Refusals: 1 (capacity out of range, or fewer words than that). The words are then as they were.
  */
 uint32_t rooms_new(uint32_t *store, size_t store_words, uint32_t capacity);
 
 /*
- * Add the room of an outline file: its cells are merged into those kept. *scene is the scene's number, the count of
- * scenes before; an empty scene, and one added twice, takes a number too.
+ * Add the room of an outline file: its cells are merged into those kept. *scene is the scene's number: how many were held
+ * before it. An empty room, and one added twice, takes a number too.
  * Refusals, in order: 2 (the whole store is tested), 3, 4, 5, 6 (the file), 7, 8. The store is then as it was.
+ * On a store of these calls 2 is never given, and 8, if nothing before it, exactly where at some height the scenes held and
+ * this one have more differing cells, images counted once, than the capacity.
  */
 uint32_t rooms_add(uint32_t *store, size_t store_words, const uint8_t *file, size_t file_bytes, uint32_t *scene);
 
@@ -106,14 +123,16 @@ uint32_t rooms_voxel(const uint32_t *store, size_t store_words, uint32_t scene, 
                      uint32_t *solid);
 
 /*
- * Cell of a height, 0 to D, with x, y and z counted in cells of that height: *full is 1 where it has a solid voxel, else 0.
- * Refusals: as for a voxel.
+ * Cell (x, y, z) among those of a height, 0 to D: *full is 1 for non-empty, 0 for empty. On a store of these calls that
+ * says whether it has a solid voxel. On any other, from height 2 up *full says whether the store
+ * has a pointer to the cell, whatever the cell holds; at heights 0 and 1 the leaf's bits decide.
+ * Refusals: as for a voxel; 10 also where the height is above D. The last 2 is for the cells above the one asked for.
  */
 uint32_t rooms_cell(const uint32_t *store, size_t store_words, uint32_t scene, uint32_t height, uint32_t x, uint32_t y,
                     uint32_t z, uint32_t *full);
 
 /*
- * Box: *count is the number of solid voxels v with low <= v < high on each axis. Where low = high on an axis it is 0.
+ * Box: *count is the number of solid voxels from low up to, and not with, high on each axis; 0 where they agree on an axis.
  * Refusals: as for a voxel; 10 where on any axis low is above high, or high is above the edge 2^D. The last 2 is given
  * only for pointers to children that share a voxel with the box.
  */
@@ -121,7 +140,8 @@ uint32_t rooms_box(const uint32_t *store, size_t store_words, uint32_t scene, ui
                    uint32_t low_z, uint32_t high_x, uint32_t high_y, uint32_t high_z, uint64_t *count);
 
 /*
- * Kept: *count is the number of cells kept at a height, 2 to 16.
+ * Kept: *count is the number of cells kept at a height, 2 to 16, as the store's header has it. On a store of these calls it is
+ * the number of differing non-empty cells of that height in the scenes held, images counted once.
  * Refusals, in order: 2 (the store's header), 10.
  */
 uint32_t rooms_kept(const uint32_t *store, size_t store_words, uint32_t height, uint32_t *count);
@@ -129,14 +149,17 @@ uint32_t rooms_kept(const uint32_t *store, size_t store_words, uint32_t height, 
 /* ---- files written ---- */
 
 /*
- * Outline of a scene, written to out; *length is its length in bytes.
+ * Outline of a scene, written to out; *length is its length in bytes. On a store of these calls it is, byte for byte, the file
+ * that was added, so the length to lend is that file's. On any other store it is the outline of the scene's voxels; where
+ * 12 is given, lend more.
  * Refusals, in order: 2 (the whole store is tested), 9, 12 (also past 4,294,967,295 bytes). out is then as it was.
  */
 uint32_t rooms_outline(const uint32_t *store, size_t store_words, uint32_t scene, uint8_t *out, size_t out_bytes,
                        uint32_t *length);
 
 /*
- * Packed file of a scene, written to out; *length is its length in bytes. scratch may hold anything.
+ * Packed file of a scene, written to out; *length is its length in bytes. On a store of these calls it has at most
+ * ROOMS_PACKED_MAX_BYTES(capacity), and rooms_check accepts it. scratch may hold anything.
  * Refusals, in order: 2 (the whole store is tested), 9, 11 (fewer than ROOMS_PACK_SCRATCH_WORDS(capacity) words), 12.
  * out is then as it was. After 0 and 12 the scratch needed is zero; after 2, 9 and 11 it is as it was.
  */
@@ -146,16 +169,18 @@ uint32_t rooms_pack(const uint32_t *store, size_t store_words, uint32_t scene, u
 /* ---- packed files read: they need no store and no trust ---- */
 
 /*
- * Check of a packed file: accepted exactly where every rule of a proper file holds; *depth is then its depth.
+ * Check of a packed file: accepted exactly where every rule of a proper file holds; *depth is then its depth. scratch may hold
+ * anything.
  * Refusals, in order: 11 (scratch shorter than the file), 3, 4, 5, 6.
  * After 0 and 6 the first file_bytes bytes of scratch are zero; otherwise scratch is as it was.
  */
 uint32_t rooms_check(const uint8_t *file, size_t file_bytes, uint8_t *scratch, size_t scratch_bytes, uint32_t *depth);
 
 /*
- * Voxel (x, y, z) of a packed file: *solid is 1 for solid, 0 for empty; *records is the number of records read on the
- * way, the root's and a leaf's included, 0 for an empty scene. Tested are the header, the sizes and what lies on the path:
- * on a proper file no point inside is refused.
+ * Voxel (x, y, z) of a packed file: *solid is 1 for solid, 0 for empty; *records is how many records that took, the top one
+ * and a leaf among them, none in an empty scene. Tested are the header, the sizes and what lies on the path.
+ * On a proper file no point inside is refused. On one that is not proper it answers where its path shows no fault: a file of
+ * depth 2 with two leaves is answered from the first.
  * Refusals, in order: 3, 4, 5, 10, 6.
  */
 uint32_t rooms_packed_voxel(const uint8_t *file, size_t file_bytes, uint32_t x, uint32_t y, uint32_t z, uint32_t *solid,
@@ -186,8 +211,8 @@ uint32_t rooms_ask(const uint8_t *file, size_t file_bytes, const uint32_t *numbe
  *   ROOMS_EVERY_VOXEL: 0.
  *   ROOMS_WIDEST_EDGE: the greatest h <= depth with 2^h <= a.
  *   ROOMS_DISTANCE: the greatest h <= depth with 2^h times b <= a, or 0 if there is none.
- * Values are compared exactly; -0 counts as 0.
- * Refusals, in order: 5, 13 (also for another kind).
+ * Values are compared exactly. -0 counts as 0: fine as a distance, out of range as an edge or a factor.
+ * Refusals, in order: 5, 13 (out of range, NaN, infinite; also for another kind).
  */
 uint32_t rooms_detail(uint32_t depth, uint32_t kind, double a, double b, uint32_t *height);
 

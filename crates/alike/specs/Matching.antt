@@ -63,7 +63,7 @@ Grouped u m = (x : ℕ) → (markOf u m x ≡ 0 → ⊥) → Group (markOf u m x
 unfoldable pub lowBy : ℕ → ℕ → Bool
 lowBy mask tag = allBelow tag (λ v. not (marked mask (bitXor v tag)))
 
--- a pointer names the start of a record, is short exactly when its place is at most 8,191, and its tag is the lowest
+-- a pointer leads to where a record starts, has the code that its place calls for, and the lowest tag of its meaning
 unfoldable pub linkRules : ℕ → List ℕ → Link → Bool
 linkRules u m r =
     let mask : ℕ = markOf u m (r .place) in

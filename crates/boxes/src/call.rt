@@ -68,7 +68,7 @@ fn box_from(store: &[u32], scene: u32, depth: u32, low: Corner, high: Corner) ->
     answer(scene_box(store, scene, low, high))
 }
 
-// Box: how many solid voxels v have low <= v < high on each axis.
+// Box: how many solid voxels lie from low up to high, which is not in it.
 pub fn box_count(store: &[u32], scene: u32, low: Corner, high: Corner) -> Counted
     ensures { λ r. ⌜ outcome (counted-told r) [] ≡ boxOutcome (now (store .entry)) scene (at low) (at high) ⌝ }
 {

@@ -44,16 +44,35 @@ fn put_words(store: &mut [u32], at: usize, words: &[u32])
 }
 
 // One more cell in list k, of these words.
-pub fn keep(store: &mut [u32], k: u32, cell: &[u32])
+fn keep(store: &mut [u32], k: u32, words: &[u32])
     requires { ⌜ T (headerOk (now store)) ⌝ }
-    requires { ⌜ (k < heights) × (length (now cell) ≡ cellWords k) ⌝ }
+    requires { ⌜ (k < heights) × (length (now words) ≡ cellWords k) ⌝ }
     requires { ⌜ keptCount (now store) k < capacityOf (now store) ⌝ }
-    ensures { λ _. ⌜ now (store .exit) ≡ keepIn k (now (cell .entry)) (now (store .entry)) ⌝ }
+    ensures { λ _. ⌜ now (store .exit) ≡ keepIn k (now (words .entry)) (now (store .entry)) ⌝ }
 {
     let count = kept_count(store, k);
     let at = cell_place(capacity(store), k, count);
     set_count(store, k, count + 1);
-    put_words(store, at, cell);
+    put_words(store, at, words);
+}
+
+// One more leaf, of its two words.
+pub fn keep_leaf(store: &mut [u32], leaf: [u32; 2])
+    requires { ⌜ T (headerOk (now store)) ⌝ }
+    requires { ⌜ keptCount (now store) 0 < capacityOf (now store) ⌝ }
+    ensures { λ _. ⌜ now (store .exit) ≡ keepIn 0 leaf (now (store .entry)) ⌝ }
+{
+    keep(store, 0, &leaf);
+}
+
+// One more cell of eight pointers, in list k, k not 0.
+pub fn keep_cell(store: &mut [u32], k: u32, cell: [u32; 8])
+    requires { ⌜ T (headerOk (now store)) ⌝ }
+    requires { ⌜ (1 ≤ k) × (k < heights) ⌝ }
+    requires { ⌜ keptCount (now store) k < capacityOf (now store) ⌝ }
+    ensures { λ _. ⌜ now (store .exit) ≡ keepIn k cell (now (store .entry)) ⌝ }
+{
+    keep(store, k, &cell);
 }
 
 // The words of a leaf, the high one first.

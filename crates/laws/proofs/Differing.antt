@@ -11,7 +11,7 @@ use native.Mathlib.Omega.{arith}
 use lib.ListN.{length, getD}
 use Rattle.paper.specs.Numbers.{tabulate}
 use Rattle.paper.specs.Rooms.{Room, Image, NonEmpty}
-use Rattle.paper.specs.Outline.{fileDepth, fileRoom}
+use Rattle.paper.specs.Outline.{edge, fileDepth, fileRoom}
 use Rattle.paper.specs.Store.{Cell, Store, cellsAt, cellAt, heights, capacityOf, keptIn, keptOf, storeOf, wordsOf}
 use Rattle.paper.specs.Meaning.{cellVoxel}
 use Rattle.paper.specs.Match.{Adding, full, added}
@@ -59,25 +59,31 @@ differing-distinct {held} {h} cs d i j hi hj m = go (decLt i j) (decLt j i)
     go (no n) (yes l) = absurd (d .apart j i l hi (image-sym (2 ^ h) (getD cs i (λ v. false)) (getD cs j (λ v. false)) m))
     go (no n) (no k) = omega arith
 
+-- where every non-empty cell that occurs is the image of a cell of list k
+module _ {held : Held} (K : List (List Cell)) (k : ℕ)
+    (image : (c : Room) → Occurs held (suc (suc k)) c → NonEmpty (edge k) c → (q : ℕ) × (q < length (cellsAt K k)) × Image (edge k) c (cellVoxel K k (cellAt K k q))) where
+  -- there are no more than those
+  pub images-most : (cs : List Room) → Differing held (suc (suc k)) cs → length cs ≤ length (cellsAt K k)
+  images-most cs d =
+      kept-at-least K k (length cs) (λ i. getD cs i (λ v. false)) (λ i h. image (getD cs i (λ v. false)) (d .occur i h) (d .full i h)) (differing-distinct cs d)
+
+  -- and where as many differing ones occur, those are the number
+  pub images-number : (rooms : ℕ → Room) → ((q : ℕ) → q < length (cellsAt K k) → Occurs held (suc (suc k)) (rooms q)) → ((q : ℕ) → q < length (cellsAt K k) → NonEmpty (edge k) (rooms q))
+      → Distinct (edge k) (length (cellsAt K k)) rooms → Number held (suc (suc k)) (length (cellsAt K k))
+  images-number rooms occur solid one =
+      let n : ℕ = length (cellsAt K k) in
+      record { cells = tabulate 0 n rooms; differing = differing-table held (suc (suc k)) n rooms occur solid one; all = length-tabulate n 0 rooms; most = images-most }
+
 module _ {ws : List ℕ} {held : Held} (s : Holds ws held) where
   -- there are no more than are kept
   pub differing-most : (k : ℕ) (cs : List Room) → Differing held (suc (suc k)) cs → length cs ≤ length (cellsAt (keptOf ws) k)
-  differing-most k cs d =
-      kept-at-least (keptOf ws) k (length cs) (λ i. getD cs i (λ v. false)) (λ i h. occurs-kept s k (getD cs i (λ v. false)) (d .occur i h) (d .full i h))
-      (differing-distinct cs d)
+  differing-most k = images-most (keptOf ws) k (occurs-kept s k)
 
   -- (f) those kept are the number
   pub kept-number : (k : ℕ) → Number held (suc (suc k)) (length (cellsAt (keptOf ws) k))
   kept-number k =
       let K : List (List Cell) = keptOf ws in
-      let n : ℕ = length (cellsAt K k) in
-      let rooms : ℕ → Room = λ q. cellVoxel K k (cellAt K k q) in
-      record {
-        cells = tabulate 0 n rooms;
-        differing = differing-table held (suc (suc k)) n rooms (s .occur k) (s .invs k .solid) (kept-distinct K k (s .invs));
-        all = length-tabulate n 0 rooms;
-        most = differing-most k;
-      }
+      images-number K k (occurs-kept s k) (λ q. cellVoxel K k (cellAt K k q)) (s .occur k) (s .invs k .solid) (kept-distinct K k (s .invs))
 
   lists-kept : length (keptOf ws) ≡ heights
   unfolding keptOf

@@ -93,6 +93,10 @@ filled-holds {C} {S} {K} {held} f l = record {
 pub running-holds : (s : State) → Running s → Holds (s .words) (s .held)
 running-holds s r = subst (λ (ws : List ℕ). Holds ws (s .held)) (sym (r .words)) (filled-holds (r .filled) (r .rest))
 
+-- word 0 is the capacity given
+pub running-capacity : (s : State) → Running s → capacityOf (s .words) ≡ s .capacity
+running-capacity s r = ap capacityOf (r .words) ∙ capacity-read (s .capacity) (r .scenes) (r .lists) (filled-fine (r .filled)) (r .rest)
+
 pub reached-holds : (s : State) → Reached s → Holds (s .words) (s .held)
 reached-holds s r = running-holds s (reached-running s r)
 

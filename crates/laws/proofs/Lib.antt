@@ -43,6 +43,7 @@ pub mod Places
 pub mod UnseenWords
 pub mod UnseenAnswers
 pub mod UnseenWrites
+pub mod Scratch
 pub mod Unseen
 -- a scene's record by its pointers
 pub mod StoreFacts
@@ -61,6 +62,7 @@ pub mod Walks
 pub mod Holding
 pub mod NoDamage
 pub mod Differing
+pub mod Alone
 pub mod CellWalk
 pub mod RoomAnswers
 pub mod RunClaims
@@ -69,13 +71,21 @@ pub mod OpenClaim
 pub mod PackedLists
 pub mod PackedWalk
 pub mod ProperClaim
+pub mod ProperVoxels
+pub mod GraphCounts
 pub mod RecordSizes
 pub mod RecordReading
 pub mod RecordCells
 pub mod Layouts
 pub mod LayoutBytes
+pub mod RecordBytes
+pub mod RoundTrip
+pub mod ProperCounts
 pub mod PackedOrder
 pub mod PackedReached
 pub mod PackedGraph
 pub mod Packing
+pub mod PackedMost
+pub mod SamePack
 pub mod PackClaim
+pub mod PackedClaims

@@ -103,3 +103,23 @@ occurs-up {m} {j} {r} f g i e o =
       is-inside = rw (pow-succ' 2 d) (fromChild-inside (2 ^ d) i (b .place) (b .is-inside));
       is = λ v l. cell-fromChild (suc (suc j)) d (edge m) i f (b .place) (edge-up j d m (b .is-down)) v ∙ b .is v l;
     }
+
+-- a child of a cell that occurs
+axis-child : (c b H E v : ℕ) → E ≡ 2 * H → (2 * c + b) * H + v ≡ c * E + (b * H + v)
+axis-child c b H E v e = rw e (omega arith)
+
+pub occurs-child : {f : Room} {k j : ℕ} (r : Room) (i : ℕ) → Occurs f k (suc j) r → Occurs f k j (childRoom (edge j) i r)
+occurs-child {f} {k} {j} r i o =
+    let d : ℕ = o .down in
+    let c : Point = o .place in
+    let e : edge (suc j) ≡ 2 * edge j = pow-succ' 2 (suc (suc j)) in
+    record {
+      down = suc d;
+      is-down = omega (arith, o .is-down);
+      place = point (2 * c .x + i % 2) (2 * c .y + i / 2 % 2) (2 * c .z + i / 4 % 2);
+      is-inside = rw (pow-succ' 2 d) (record { inX = omega (arith, o .is-inside .inX); inY = omega (arith, o .is-inside .inY); inZ = omega (arith, o .is-inside .inZ) });
+      is = λ v l.
+          ap f (λ y. point (axis-child (c .x) (i % 2) (edge j) (edge (suc j)) (v .x) e y) (axis-child (c .y) (i / 2 % 2) (edge j) (edge (suc j)) (v .y) e y)
+          (axis-child (c .z) (i / 4 % 2) (edge j) (edge (suc j)) (v .z) e y))
+          ∙ o .is (fromChild (edge j) i v) (rw e (fromChild-inside (edge j) i v l));
+    }

@@ -1,5 +1,6 @@
 -- Claim C6, packing, on every store that only the calls wrote: what pack writes for an accepted scene is written whole, is proper, means that scene's
--- room, is accepted by check, and answers the packed voxel as the room does. From what the words hold and the laws of packing. Assumes nothing.
+-- room, is accepted by check, answers the packed voxel as the room does, and has the records and at most the bytes claimed; and the same room packs
+-- to the same bytes. From what the words hold and the laws of packing. Assumes nothing.
 use mathlib.Core.Path.{_≡_, sym, _∙_, subst, ap}
 use mathlib.Core.Bool.{Bool, true}
 use mathlib.Core.List.{List, [], _∷_}
@@ -13,7 +14,7 @@ use Rattle.paper.specs.Rooms.{Room, Inside, Same, depthOk}
 use Rattle.paper.specs.Outline.{fileDepth, fileRoom}
 use Rattle.paper.specs.Store.{Cell, mostCapacity, capacityOf, scenesHeld, keptOf, sceneDepth, sceneRoot, storeOk}
 use Rattle.paper.specs.Packed.{proper, packedRoom, packedPath}
-use Rattle.paper.specs.Pack.{packedFile}
+use Rattle.paper.specs.Pack.{packedFile, packedMost}
 use Rattle.paper.specs.Answers.{told, outcome}
 use Rattle.paper.specs.Order.{firstOf}
 use Rattle.paper.specs.Calls.{over, cleared, scratchFor, packBytes, packShort, packOrder, packOutcome}
@@ -22,10 +23,14 @@ use Rattle.paper.specs.Claims.{Packs, C6}
 use Rattle.laws.proofs.Tests.{T-true, and-right}
 use Rattle.laws.proofs.Undamaged.{undamaged}
 use Rattle.laws.proofs.Refusals.{settled-accepted}
-use Rattle.laws.proofs.Holding.{Means, Holds, HeldAt, root-room, held-at, below-there, reached-holds}
+use Rattle.laws.proofs.Running.{reached-running}
+use Rattle.laws.proofs.Holding.{Means, Holds, HeldAt, root-room, held-at, below-there, running-capacity, reached-holds}
 use Rattle.laws.proofs.ProperClaim.{check-accepts, proper-voxel}
 use Rattle.laws.proofs.PackedReached.{Packable}
+use Rattle.laws.proofs.SamePack.{scenes-same}
 use Rattle.laws.proofs.Packing.{pack-proper, pack-depth, pack-room, pack-bytes}
+use Rattle.laws.proofs.PackedMost.{pack-most}
+use Rattle.laws.proofs.ProperCounts.{means-counts, means-fewest}
 
 module _ (s : State) (h : Holds (s .words) (s .held)) where
   abbrev ws : List ℕ
@@ -85,8 +90,12 @@ module _ (s : State) (h : Holds (s .words) (s .held)) where
           pack-room K packable D p deep (m .okp) v ∙ ap (λ (r : Room). r v) (sym (root-room K D p deep))
           ∙ m .room v (subst (λ (d : ℕ). Inside (2 ^ d) v) (sym (m .depth)) l)
 
-      pub scene-packs : n < scenesHeld ws → Packs s n (sceneOf file) packed
-      scene-packs l = record {
+      packed-most : length packed ≤ packedMost (capacityOf ws)
+      unfolding packBytes
+      packed-most = pack-most K packable (capacityOf ws) (h .sound .few) D p deep (m .okp)
+
+      pub scene-packs : n < scenesHeld ws → capacityOf ws ≡ s .capacity → Packs s n (sceneOf file) packed
+      scene-packs l given = record {
         written = pack-written l;
         isProper = packed-proper;
         depth = packed-depth;
@@ -95,10 +104,18 @@ module _ (s : State) (h : Holds (s .words) (s .held)) where
         voxels = λ v i.
             proper-voxel packed v packed-bytes packed-proper (subst (λ (d : ℕ). Inside (2 ^ d) v) (sym packed-depth) i)
             ∙ ap (λ (b : Bool). outcome (told 0 (bitFor b ∷ packedPath packed v ∷ [])) []) (packed-means v i);
+        counts = means-counts packed packed-bytes packed-proper (fileDepth file) (fileRoom file) packed-depth packed-means;
+        fewest = λ other by e d same.
+            means-fewest packed other packed-bytes by packed-proper e (fileDepth file) (fileRoom file) packed-depth d packed-means same;
+        most = subst (λ (C : ℕ). length packed ≤ packedMost C) given packed-most;
       }
 
 pub claim6 : C6
-claim6 s r n sc e =
+claim6 s r =
     let h : Holds (s .words) (s .held) = reached-holds s r in
-    let a : HeldAt (s .words) n sc (h .file n) = held-at h n sc e in
-    subst (λ (c : Scene). Packs s n c (packBytes (s .words) n)) (sym (a .is)) (scene-packs s h n (h .file n) (a .means) (a .below))
+    record {
+      each = λ n sc e.
+          let a : HeldAt (s .words) n sc (h .file n) = held-at h n sc e in
+          subst (λ (c : Scene). Packs s n c (packBytes (s .words) n)) (sym (a .is)) (scene-packs s h n (h .file n) (a .means) (a .below) (running-capacity s (reached-running s r)));
+      same = scenes-same h;
+    }

@@ -10,7 +10,7 @@ use native.Mathlib.Decide.{ℕ-discrete}
 use native.Mathlib.Omega.{arith}
 use borrow.Author.Tests.{ne-eqb, eqb-true, eqb-false, ltb-true}
 use lib.Dec.{T, eqb, leb, ltb, eqb→eq, ltb→lt, lit<}
-use lib.ListN.{length, getD, drop, length-take, length-drop}
+use lib.ListN.{length, getD, drop, length-map, length-take, length-drop}
 use Rattle.paper.specs.Numbers.{be, num, count, allIn, isIn, indexIn}
 use Rattle.paper.specs.Store.{Cell, pointer, cellsAt, cellAt}
 use Rattle.paper.specs.Packed.{packedHead, topOf, sizeAt, tailAt, startAt, sizesOk, listAt, headerAt, halves, Link, linkOf, noLink, readLinks, linksAt, leafAt, recordOk, farthestShort, codeFor, startsFrom, placesAt, byNumber, cellsOf, graphOf, wholeAt}
@@ -39,7 +39,7 @@ num4-lt (a ∷ b ∷ c ∷ d ∷ l) h = omega (arith, h 0, h 1, h 2, h 3)
 abbrev pub Fits : Link → Type 0
 Fits r = r .code ≡ codeFor (r .place) → (r .tag < 8) × (r .place < 2 ^ 29)
 
-link-fits : (c : ℕ) (l : List ℕ) → Bytes l → Fits (linkOf c (num (2 * c) l))
+pub link-fits : (c : ℕ) (l : List ℕ) → Bytes l → Fits (linkOf c (num (2 * c) l))
 link-fits c l h e = go (leb (linkOf c (num (2 * c) l) .place) farthestShort) e
   where
     go : (b : Bool) → c ≡ cond b 1 2 → (linkOf c (num (2 * c) l) .tag < 8) × (linkOf c (num (2 * c) l) .place < 2 ^ 29)
@@ -171,6 +171,13 @@ module _ (bs : List ℕ) where
   pub graph-cells : (k : ℕ) → k ≤ topOf bs → cellsAt (graphOf bs) k ≡ cellsOf bs k
   unfolding graphOf
   graph-cells k h = getD-tabulate (suc (topOf bs)) 0 k (cellsOf bs) [] (omega arith) ∙ ap (cellsOf bs) (omega arith)
+
+  -- list k has a record for each start
+  pub records-length : (k : ℕ) → k ≤ topOf bs → length (cellsAt (graphOf bs) k) ≡ length (placesAt bs k)
+  unfolding cellsOf
+  records-length zero h = ap length (graph-cells 0 h) ∙ length-map (placesAt bs 0) (leafAt (listAt bs 0))
+  records-length (suc k) h =
+      ap length (graph-cells (suc k) h) ∙ length-map (placesAt bs (suc k)) (λ p. map (byNumber (placesAt bs k)) (linksAt (listAt bs (suc k)) p))
 
   -- the record at a start is the cell of that start's number
   graph-at : (k p : ℕ) (f : ℕ → Cell) → k ≤ topOf bs → cellsOf bs k ≡ map f (placesAt bs k) → T (isIn p (placesAt bs k))

@@ -152,11 +152,11 @@ module _ (K : List (List Cell)) (s : Packable K) (k p : ℕ) (hk : k < heights) 
 -- ---- the file of a scene of depth D with root pointer p
 
 module _ (K : List (List Cell)) (s : Packable K) (D p : ℕ) (deep : T (depthOk D)) where
-  none-pack : p ≡ 0 → packedFile K D p ≡ emptyFile D
+  pub none-pack : p ≡ 0 → packedFile K D p ≡ emptyFile D
   unfolding packedFile
   none-pack e = rw (eq-eqb p 0 e)
 
-  some-pack : (p ≡ 0 → ⊥) → packedFile K D p ≡ layout (D - 2) (tagOf p) (sceneGraph K (D - 2) p)
+  pub some-pack : (p ≡ 0 → ⊥) → packedFile K D p ≡ layout (D - 2) (tagOf p) (sceneGraph K (D - 2) p)
   unfolding packedFile
   some-pack n = rw (ne-eqb p 0 n)
 

@@ -1,4 +1,4 @@
--- Claim C7, proper files: check answers 0 exactly on proper files; on one the packed voxel refuses no point inside, gives the voxel of the file's
+-- Proper files, for claim C7: check answers 0 exactly on proper files; on one the packed voxel refuses no point inside, gives the voxel of the file's
 -- room, and counts the records of its path. By the tests of the two orders, and by the walk on sound lists. Assumes nothing.
 use mathlib.Core.Path.{_≡_, refl, sym, _∙_, subst, ap, ap₂}
 use mathlib.Core.Bool.{Bool, true, false, false≢true, cond, not, _&&_}
@@ -18,7 +18,6 @@ use Rattle.paper.specs.Answers.{told, outcome}
 use Rattle.paper.specs.Order.{when, firstOf}
 use Rattle.paper.specs.Calls.{cleared, checkOrder, checkOutcome, packedOutside, packedBroken, packedVoxelOrder, packedValues, packedVoxelOutcome}
 use Rattle.paper.specs.Runs.{Bytes}
-use Rattle.paper.specs.Claims.{C7}
 use Rattle.laws.proofs.Tests.{T-true, true-T, and-left, and-right}
 use Rattle.laws.proofs.Outlines.{depth-two}
 use Rattle.laws.proofs.Refusals.{settled-accepted, settled-number}
@@ -48,19 +47,19 @@ pass-five false true true true false e f = absurd (false≢true e)
 pass-five false true true true true e f = refl
 
 module _ (file scratch : List ℕ) where
-  check-passed : firstOf (checkOrder file scratch) ≡ 0 → (proper file ≡ true) × (length file ≤ length scratch)
+  pub check-passed : firstOf (checkOrder file scratch) ≡ 0 → (proper file ≡ true) × (length file ≤ length scratch)
   unfolding proper
   check-passed e =
       let p = five-pass (ltb (length scratch) (length file)) (frontOk packedFront file) (lengthOk packedHead file) (depthOk (fileDepth file)) (packedRules file) e in
       (p .0, ltb-false (length scratch) (length file) (p .1))
 
-  passed-check : proper file ≡ true → length file ≤ length scratch → firstOf (checkOrder file scratch) ≡ 0
+  pub passed-check : proper file ≡ true → length file ≤ length scratch → firstOf (checkOrder file scratch) ≡ 0
   unfolding proper
   passed-check e h =
       pass-five (ltb (length scratch) (length file)) (frontOk packedFront file) (lengthOk packedHead file) (depthOk (fileDepth file)) (packedRules file) e
       (le-ltb (length scratch) (length file) h)
 
-  check-number : checkOutcome file scratch .number ≡ firstOf (checkOrder file scratch)
+  pub check-number : checkOutcome file scratch .number ≡ firstOf (checkOrder file scratch)
   unfolding checkOutcome
   check-number = settled-number (firstOf (checkOrder file scratch)) _ _ _
 
@@ -89,7 +88,7 @@ proper-passes bs t = record {
   rules = search (and-left, and-right);
 }
 
-head-sizes : (bs : List ℕ) → T (headOk bs) → T (cond (isEmpty bs) true (sizesOk bs))
+pub head-sizes : (bs : List ℕ) → T (headOk bs) → T (cond (isEmpty bs) true (sizesOk bs))
 unfolding headOk
 head-sizes bs t = and-right (rootOk bs) (cond (isEmpty bs) true (sizesOk bs)) t
 
@@ -134,12 +133,3 @@ proper-voxel bs v by e l =
     ) in
     settled-accepted (firstOf (packedVoxelOrder bs v)) (packedValues bs v) [] [] none
     ∙ ap₂ (λ (b : Bool) (n : ℕ). outcome (told 0 (bitFor b ∷ n ∷ [])) []) (ap solid (w .is)) (ap records (w .is) ∙ w .long)
-
-pub claim7 : C7
-claim7 = record {
-  checked = λ file scratch by. (
-    λ e. check-passed file scratch (sym (check-number file scratch) ∙ e),
-    λ p. check-number file scratch ∙ passed-check file scratch (p .0) (p .1),
-  );
-  asked = proper-voxel;
-}

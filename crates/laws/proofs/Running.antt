@@ -1,6 +1,6 @@
 -- Every state that calls lead to from a new store has the words of a store as calls make it. A new store has, a file added keeps it, no other call
 -- writes the store; so by induction on the list of calls. Assumes nothing.
-use mathlib.Core.Path.{_≡_, refl, sym, _∙_, ap, ap₂, subst}
+use mathlib.Core.Path.{_≡_, refl, sym, _∙_, ap, ap₂, subst, subst₂}
 use mathlib.Core.Bool.{Bool, true, false, false≢true, cond, not, _&&_}
 use mathlib.Core.List.{List, [], _∷_, _++_}
 use Prim.Native.Nat.{ℕ, zero, suc, _+_, _-_, _*_, _<_}
@@ -25,14 +25,13 @@ use Rattle.laws.proofs.Filled.{Filled, filled-fine}
 use Rattle.laws.proofs.Filling.{empty-filled, AddsFile, file-adds, S⁺, held⁺, add-filled}
 use Rattle.laws.proofs.Refusals.{settled-accepted, settled-refused, settled-number, Passed, add-passed}
 
--- the words are those of a store as calls make it, and others behind them
+-- the words are those of a store of the capacity given as calls make it, and others behind them
 pub record Running (s : State) : Type 0 where
-  pub capacity : ℕ
   pub scenes : List Cell
   pub lists : List (List Cell)
   pub rest : List ℕ
-  pub words : s .words ≡ stored capacity scenes lists rest
-  pub filled : Filled capacity scenes lists (s .held)
+  pub words : s .words ≡ stored (s .capacity) scenes lists rest
+  pub filled : Filled (s .capacity) scenes lists (s .held)
 
 -- ---- new store
 
@@ -64,18 +63,17 @@ new-words C ws =
     ap (λ (n : ℕ). set (replicate n 0 ++ r) 0 C) e ∙ ap (λ (l : List ℕ). l ++ r) (sym (empty-words C))
 
 -- the state after an outcome of new store
-abbrev newState : Held → Outcome → State
-newState held o = record { words = getD (o .lent) 0 []; held = cond (accepted o) nothing held }
+abbrev newState : ℕ → Held → ℕ → Outcome → State
+newState C held c o = record { words = getD (o .lent) 0 []; held = cond (accepted o) nothing held; capacity = cond (accepted o) C c }
 
 size-fits : (a b : Bool) → not (a && b) ≡ false → T a
 size-fits a b e = and-left a b (true-T (not-false (a && b) e))
 
-new-accepted : (C : ℕ) (ws : List ℕ) (held : Held) → badSize C ws ≡ false → Running (newState held (newOutcome C ws))
+new-accepted : (C : ℕ) (ws : List ℕ) (held : Held) (c : ℕ) → badSize C ws ≡ false → Running (newState C held c (newOutcome C ws))
 unfolding newOutcome firstOf
-new-accepted C ws held e =
-    subst (λ (o : Outcome). Running (newState held o)) (sym (settled-accepted (firstOf (newOrder C ws)) [] (newWords C ws ∷ []) (ws ∷ []) (ap (λ (b : Bool). cond b 1 0) e)))
+new-accepted C ws held c e =
+    subst (λ (o : Outcome). Running (newState C held c o)) (sym (settled-accepted (firstOf (newOrder C ws)) [] (newWords C ws ∷ []) (ws ∷ []) (ap (λ (b : Bool). cond b 1 0) e)))
     (record {
-      capacity = C;
       scenes = [];
       lists = emptyStore C .kept;
       rest = drop (used C) ws;
@@ -83,33 +81,33 @@ new-accepted C ws held e =
       filled = empty-filled C (unfold badSize in size-fits (capacityOk C) (leb (used C) (length ws)) e);
     })
 
-new-refused : (C : ℕ) (s : State) → Running s → badSize C (s .words) ≡ true → Running (newState (s .held) (newOutcome C (s .words)))
+new-refused : (C : ℕ) (s : State) → Running s → badSize C (s .words) ≡ true → Running (newState C (s .held) (s .capacity) (newOutcome C (s .words)))
 unfolding newOutcome firstOf
 new-refused C s r e =
     let n : firstOf (newOrder C (s .words)) ≡ 1 = ap (λ (b : Bool). cond b 1 0) e in
-    subst (λ (o : Outcome). Running (newState (s .held) o))
+    subst (λ (o : Outcome). Running (newState C (s .held) (s .capacity) o))
     (sym (settled-refused (firstOf (newOrder C (s .words))) [] (newWords C (s .words) ∷ []) (s .words ∷ []) (λ z. suc-ne-zero 0 (sym n ∙ z)) ∙ ap (λ (m : ℕ). outcome (told m []) (s .words ∷ [])) n)) r
 
 new-running : (C : ℕ) (s : State) → Running s → Running (step s (new C))
 new-running C s r = go (badSize C (s .words)) refl
   where
-    go : (b : Bool) → badSize C (s .words) ≡ b → Running (newState (s .held) (newOutcome C (s .words)))
+    go : (b : Bool) → badSize C (s .words) ≡ b → Running (newState C (s .held) (s .capacity) (newOutcome C (s .words)))
     go true e = new-refused C s r e
-    go false e = new-accepted C (s .words) (s .held) e
+    go false e = new-accepted C (s .words) (s .held) (s .capacity) e
 
 no-size : (b : Bool) → _≡_ {A = ℕ} (cond b 1 0) 0 → b ≡ false
 no-size true e = absurd (suc-ne-zero 0 e)
 no-size false e = refl
 
-nothing-either : (b : Bool) → cond b nothing nothing ≡ nothing
-nothing-either true = refl
-nothing-either false = refl
+either : {A : Type 0} (b : Bool) (x : A) → cond b x x ≡ x
+either true x = refl
+either false x = refl
 
 pub start-running : (C : ℕ) (ws : List ℕ) → newOutcome C ws .number ≡ 0 → Running (start C ws)
 unfolding newOutcome firstOf
 start-running C ws e =
-    subst (λ (h : Held). Running (record { words = getD (newOutcome C ws .lent) 0 []; held = h })) (nothing-either (accepted (newOutcome C ws)))
-    (new-accepted C ws nothing (no-size (badSize C ws) (sym (settled-number (firstOf (newOrder C ws)) [] (newWords C ws ∷ []) (ws ∷ [])) ∙ e)))
+    subst₂ (λ (h : Held) (c : ℕ). Running (record { words = getD (newOutcome C ws .lent) 0 []; held = h; capacity = c })) (either (accepted (newOutcome C ws)) nothing) (either (accepted (newOutcome C ws)) C)
+    (new-accepted C ws nothing C (no-size (badSize C ws) (sym (settled-number (firstOf (newOrder C ws)) [] (newWords C ws ∷ []) (ws ∷ [])) ∙ e)))
 
 -- ---- add
 
@@ -131,7 +129,7 @@ module _ {C : ℕ} {S : List Cell} {K : List (List Cell)} {held : Held} (f : Fil
 
   -- the file is held under the number of scenes before
   add-held : (file : List ℕ) → Bytes file → Passed (stored C S K l) file
-      → Running (record { words = addWords (stored C S K l) file; held = holding (nextScene (stored C S K l)) (sceneOf file) held })
+      → Running (record { words = addWords (stored C S K l) file; held = holding (nextScene (stored C S K l)) (sceneOf file) held; capacity = C })
   unfolding cellsFull
   add-held file b p = go (addTree C (outlineTree file) (fileDepth file - 2) K) refl (file-adds C K (f .capacity) (f .lists) (f .sound) (f .invs) file b (p .accepted))
     where
@@ -139,12 +137,11 @@ module _ {C : ℕ} {S : List Cell} {K : List (List Cell)} {held : Held} (f : Fil
       few = subst (λ (n : ℕ). n < mostScenes) (scenes-read C S K (filled-fine f) l) (leb-false mostScenes (scenesHeld (stored C S K l)) (p .scenes))
 
       go : (x : Adding ℕ) → addTree C (outlineTree file) (fileDepth file - 2) K ≡ x → AddsFile C K file x
-          → Running (record { words = addWords (stored C S K l) file; held = holding (nextScene (stored C S K l)) (sceneOf file) held })
+          → Running (record { words = addWords (stored C S K l) file; held = holding (nextScene (stored C S K l)) (sceneOf file) held; capacity = C })
       go full e d = absurd (false≢true (sym (p .cells) ∙ ap isFull (adding-is file ∙ e)))
       go (added q K′) e d =
           let filled : Filled C (S⁺ f file b (p .accepted) q K′ d few) K′ (held⁺ f file b (p .accepted) q K′ d few) = add-filled f file b (p .accepted) q K′ d few in
           record {
-            capacity = C;
             scenes = S ++ ((fileDepth file ∷ q ∷ []) ∷ []);
             lists = K′;
             rest = l;
@@ -153,14 +150,14 @@ module _ {C : ℕ} {S : List Cell} {K : List (List Cell)} {held : Held} (f : Fil
           }
 
 -- the state after an outcome of add
-abbrev addState : Held → List ℕ → Outcome → State
-addState held file o = record { words = getD (o .lent) 0 []; held = cond (accepted o) (holding (getD (o .values) 0 0) (sceneOf file) held) held }
+abbrev addState : State → List ℕ → Outcome → State
+addState s file o = record { words = getD (o .lent) 0 []; held = cond (accepted o) (holding (getD (o .values) 0 0) (sceneOf file) (s .held)) (s .held); capacity = s .capacity }
 
 -- an accepted file
 pub add-accepted : (s : State) (file : List ℕ) → Running s → Bytes file → Passed (s .words) file
-    → Running (record { words = addWords (s .words) file; held = holding (nextScene (s .words)) (sceneOf file) (s .held) })
+    → Running (record { words = addWords (s .words) file; held = holding (nextScene (s .words)) (sceneOf file) (s .held); capacity = s .capacity })
 add-accepted s file r b p =
-    subst (λ (ws : List ℕ). Running (record { words = addWords ws file; held = holding (nextScene ws) (sceneOf file) (s .held) })) (sym (r .words))
+    subst (λ (ws : List ℕ). Running (record { words = addWords ws file; held = holding (nextScene ws) (sceneOf file) (s .held); capacity = s .capacity })) (sym (r .words))
     (add-held (r .filled) (r .rest) file b (subst (λ (ws : List ℕ). Passed ws file) (r .words) p))
 
 add-running : (s : State) (file : List ℕ) → Running s → Bytes file → Running (step s (add file))
@@ -170,12 +167,12 @@ add-running s file r b = go (ℕ-discrete n 0)
     n : ℕ
     n = firstOf (addOrder (s .words) file)
 
-    go : Dec (n ≡ 0) → Running (addState (s .held) file (addOutcome (s .words) file))
+    go : Dec (n ≡ 0) → Running (addState s file (addOutcome (s .words) file))
     go (yes e) =
-        subst (λ (o : Outcome). Running (addState (s .held) file o)) (sym (settled-accepted n (nextScene (s .words) ∷ []) (addWords (s .words) file ∷ []) (s .words ∷ []) e))
+        subst (λ (o : Outcome). Running (addState s file o)) (sym (settled-accepted n (nextScene (s .words) ∷ []) (addWords (s .words) file ∷ []) (s .words ∷ []) e))
         (add-accepted s file r b (add-passed (s .words) file e))
     go (no ne) =
-        subst (λ (o : Outcome). Running (addState (s .held) file o)) (sym (settled-refused n (nextScene (s .words) ∷ []) (addWords (s .words) file ∷ []) (s .words ∷ []) ne))
+        subst (λ (o : Outcome). Running (addState s file o)) (sym (settled-refused n (nextScene (s .words) ∷ []) (addWords (s .words) file ∷ []) (s .words ∷ []) ne))
         (rw (ne-eqb n 0 ne) r)
 
 -- ---- every call, and every list of calls

@@ -20,6 +20,7 @@ use Rattle.paper.specs.Runs.{Call, new, add, voxel, cell, box, kept, outline, p
 use Rattle.paper.specs.Claims.{SameAnswer, SameBut, lengthIn, C11}
 use Rattle.laws.proofs.UnseenAnswers.{voxel-unseen, cell-unseen, box-unseen, kept-answer-unseen, outline-unseen, pack-unseen}
 use Rattle.laws.proofs.Orders.{told-number, told-values}
+use Rattle.laws.proofs.Scratch.{pack-scratch, check-scratch}
 use Rattle.laws.proofs.UnseenWrites.{Written, new-written, new-short, add-written, add-short}
 
 -- ---- the words after a call, of a store f with words r behind it
@@ -226,4 +227,4 @@ checks-alike file scratch scratch′ e =
     )
 
 pub claim11 : C11
-claim11 = record { stores = stores-alike; outlines = outlines-alike; packs = packs-alike; checks = checks-alike }
+claim11 = record { stores = stores-alike; outlines = outlines-alike; packs = packs-alike; checks = checks-alike; pack-scratch = pack-scratch; check-scratch = check-scratch }

@@ -11,7 +11,7 @@ use native.Mathlib.Omega.{arith}
 use native.Mathlib.Decide.{decLt}
 use lib.Dec.{T, eqb, leb, ltb, leb→le}
 use lib.ListN.{getD, set, drop, replicate}
-use borrow.Author.Tests.{eq-eqb, ne-eqb, lt-ltb, le-ltb, le-leb, lt-leb, ltb-true, ltb-false, not-true, not-false}
+use borrow.Author.Tests.{eq-eqb, ne-eqb, lt-ltb, le-ltb, le-leb, lt-leb, ltb-true, not-true, not-false}
 use Rattle.paper.specs.Numbers.{num}
 use Rattle.paper.specs.Leaf.{mirrorLeaf}
 use Rattle.paper.specs.Store.{Cell, cellsAt, pointer, mostCapacity, heights, capacityOf, keptCount, keptOf, headerOk}
@@ -35,21 +35,20 @@ room-test n C = go (decLt n C)
     go (yes h) = rw (lt-ltb n C h, lt-leb C n h)
     go (no g) = rw (le-ltb n C (omega arith), le-leb C n (omega arith))
 
-pub no-room : (n C : ℕ) (b : Bool) → b ≡ not (ltb n C) → b ≡ true → C ≤ n
-no-room n C b e t = ltb-false n C (not-true (ltb n C) (sym e ∙ t))
-
 pub some-room : (n C : ℕ) (b : Bool) → b ≡ not (ltb n C) → b ≡ false → n < C
 some-room n C b e t = ltb-true n C (not-false (ltb n C) (sym e ∙ t))
 
+-- a cell or a leaf that is nowhere, by the test of room
+module _ (mask k : ℕ) (c : Cell) (ws : List ℕ) (b : Bool) (e : b ≡ not (ltb (keptCount ws k) (capacityOf ws))) where
+  pub place-full : b ≡ true → placing placed.Full ws ≡ keptWith mask k c ws
+  unfolding keptWith
+  place-full t = rw (not-true (ltb (keptCount ws k) (capacityOf ws)) (sym e ∙ t)) refl
+
+  pub place-next : b ≡ false → {p : ℕ} {l : List ℕ} → p ≡ pointer 0 (keptCount ws k) → l ≡ keepIn k c ws → placing (placed.At p mask) l ≡ keptWith mask k c ws
+  unfolding keptWith
+  place-next t f g = rw (not-false (ltb (keptCount ws k) (capacityOf ws)) (sym e ∙ t)) (ap₂ (λ (q : ℕ) (m : List ℕ). placing (placed.At q mask) m) f g)
+
 module _ (mask k : ℕ) (c : Cell) (ws : List ℕ) where
-  pub kept-full : capacityOf ws ≤ keptCount ws k → keptWith mask k c ws ≡ placing placed.Full ws
-  unfolding keptWith
-  kept-full h = rw (le-ltb (keptCount ws k) (capacityOf ws) h)
-
-  pub kept-next : keptCount ws k < capacityOf ws → keptWith mask k c ws ≡ placing (placed.At (pointer 0 (keptCount ws k)) mask) (keepIn k c ws)
-  unfolding keptWith
-  kept-next h = rw (lt-ltb (keptCount ws k) (capacityOf ws) h)
-
   -- found, as the search says
   pub found-at : (o : Option ℕ) (p : ℕ) → o ≡ some p → foundOr o mask k c ws ≡ placing (placed.At p mask) ws
   unfolding foundOr

@@ -3,10 +3,10 @@ ghost use mathlib.Core.Path.{_≡_};
 ghost use mathlib.Core.Bool.{not};
 ghost use Prim.Native.Nat.{_≤_, _<_};
 ghost use lib.Dec.{T, ltb};
-ghost use lib.ListN.{length};
-ghost use Rattle.paper.specs.Store.{heights, capacityOf, keptCount, cellWords, headerOk, pointer as paperPointer};
+ghost use Rattle.paper.specs.Store.{heights, capacityOf, keptCount, headerOk, pointer as paperPointer};
 ghost use Rattle.merge.specs.Seeking.{placing, keptWith, seekLeaf, seekCell};
-use keeping::keep;
+use keeping::keep_cell;
+use keeping::keep_leaf;
 use keeping::leaf_words;
 use leaf::leaf_mask;
 use seek::Sought;
@@ -41,17 +41,30 @@ fn next_pointer(store: &[u32], k: u32) -> u32
     pointer(0, kept_count(store, k))
 }
 
-// A cell of list k, of these words, that is nowhere is kept, if there is room.
-fn place(store: &mut [u32], k: u32, cell: &[u32], mask: u8) -> Placed
+// A leaf that is nowhere is kept, of its two words, if there is room.
+fn place_leaf(store: &mut [u32], leaf: [u32; 2], mask: u8) -> Placed
     requires { ⌜ T (headerOk (now store)) ⌝ }
-    requires { ⌜ (k < heights) × (length (now cell) ≡ cellWords k) ⌝ }
-    ensures { λ r. ⌜ placing r (now (store .exit)) ≡ keptWith mask k (now (cell .entry)) (now (store .entry)) ⌝ }
+    ensures { λ r. ⌜ placing r (now (store .exit)) ≡ keptWith mask 0 leaf (now (store .entry)) ⌝ }
+{
+    if no_room(store, 0) {
+        return Placed::Full;
+    }
+    let p = next_pointer(store, 0);
+    keep_leaf(store, leaf);
+    Placed::At(p, mask)
+}
+
+// A cell of list k, k not 0, that is nowhere is kept, if there is room.
+fn place_cell(store: &mut [u32], k: u32, cell: [u32; 8], mask: u8) -> Placed
+    requires { ⌜ T (headerOk (now store)) ⌝ }
+    requires { ⌜ (1 ≤ k) × (k < heights) ⌝ }
+    ensures { λ r. ⌜ placing r (now (store .exit)) ≡ keptWith mask k cell (now (store .entry)) ⌝ }
 {
     if no_room(store, k) {
         return Placed::Full;
     }
     let p = next_pointer(store, k);
-    keep(store, k, cell);
+    keep_cell(store, k, cell);
     Placed::At(p, mask)
 }
 
@@ -63,10 +76,7 @@ pub fn seek_leaf(store: &mut [u32], leaf: u64) -> Placed
     let mask = leaf_mask(leaf);
     match find_leaf(store, leaf) {
         Sought::At(p) => Placed::At(p, mask),
-        Sought::Nowhere => {
-            let words = leaf_words(leaf);
-            place(store, 0, &words, mask)
-        }
+        Sought::Nowhere => place_leaf(store, leaf_words(leaf), mask),
     }
 }
 
@@ -79,6 +89,6 @@ pub fn seek_cell(store: &mut [u32], k: u32, cell: [u32; 8], masks: [u8; 8]) -> P
     let mask = cell_mask(cell, masks);
     match find_cell(store, k, cell, masks) {
         Sought::At(p) => Placed::At(p, mask),
-        Sought::Nowhere => place(store, k, &cell, mask),
+        Sought::Nowhere => place_cell(store, k, cell, mask),
     }
 }

@@ -1,4 +1,4 @@
-// 'All numbers are big-endian': the numbers that a file's bytes write, and numbers laid over an output, and the head that
+// 'big-endian': the numbers that a file's bytes write, and numbers laid over an output, and the head that
 // every file begins with.
 ghost use mathlib.Core.Path.{_≡_};
 ghost use Prim.Native.Nat.{_+_, _^_, _≤_, _<_};

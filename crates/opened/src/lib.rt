@@ -2,12 +2,13 @@
 // over plain slices and numbers; `open` and `ask`, over the structs that hold a slice, are straight lines above them.
 ghost use mathlib.Core.Path.{_≡_};
 ghost use mathlib.Core.Bool.{not};
-ghost use mathlib.Core.List.{[], _∷_};
+ghost use mathlib.Core.List.{[]};
 ghost use Rattle.paper.specs.Numbers.{sameList};
 ghost use Rattle.paper.specs.Rooms.{point};
 ghost use Rattle.paper.specs.Order.{firstOf};
-ghost use Rattle.paper.specs.Answers.{outcome, found, opened, holds};
-ghost use Rattle.paper.specs.Calls.{openOrder, openOutcome, opensTo, askOutcome};
+ghost use Rattle.paper.specs.Answers.{outcome, found};
+ghost use Rattle.paper.specs.Calls.{openOrder, openOutcome, opensTo};
+ghost use Rattle.paper.specs.Promises.{OpenPromise, AskPromise};
 ghost use Rattle.opened.specs.Opens.{toldBy, openTold, partOf, askedOf};
 use limits::PACKED_FRONT;
 use limits::PACKED_HEAD;
@@ -103,7 +104,7 @@ pub fn opens_bad(bytes: &[u8], depth: u32, starts: [u32; 15]) -> bool
 
 // A question on bytes held beside numbers: 6 where they don't open to them, then as packed voxel.
 pub fn ask_bytes(bytes: &[u8], depth: u32, starts: [u32; 15], x: u32, y: u32, z: u32) -> Found
-    ensures { λ r. ⌜ outcome (found r) [] ≡ askOutcome (now (bytes .entry)) depth starts (point x y z) ⌝ }
+    ensures { λ r. ⌜ AskPromise (now (bytes .entry)) depth starts (point x y z) r ⌝ }
 {
     if opens_bad(bytes, depth, starts) {
         return Found::Refused(Refusal::BrokenRules);
@@ -115,7 +116,7 @@ pub fn ask_bytes(bytes: &[u8], depth: u32, starts: [u32; 15], x: u32, y: u32, z:
 
 // Opening: the number, and the scene, which holds an empty part where it is refused; by 3, 4, 5, 6.
 pub fn open<'a>(file: &'a [u8]) -> Opening<'a>
-    ensures { λ r. ⌜ outcome (opened r) (holds r ∷ []) ≡ openOutcome (now (file .entry)) ⌝ }
+    ensures { λ r. ⌜ OpenPromise (now (file .entry)) r ⌝ }
 {
     let header = read_header(file);
     let bytes = part(file, header.number);
@@ -131,7 +132,7 @@ pub fn open<'a>(file: &'a [u8]) -> Opening<'a>
 
 // A question on an opened scene: whether a point is solid, with the number of records read; refused by 6, then as packed voxel.
 pub fn ask<'a>(scene: Opened<'a>, x: u32, y: u32, z: u32) -> Found
-    ensures { λ r. ⌜ outcome (found r) [] ≡ askOutcome (now (scene .entry .bytes)) (scene .entry .depth) (scene .entry .starts) (point x y z) ⌝ }
+    ensures { λ r. ⌜ AskPromise (now (scene .entry .bytes)) (scene .entry .depth) (scene .entry .starts) (point x y z) r ⌝ }
 {
     ask_bytes(scene.bytes, scene.depth, scene.starts, x, y, z)
 }

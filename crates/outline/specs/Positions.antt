@@ -16,11 +16,11 @@ unfoldable pub andThen : Reading → (ℕ → Reading) → Reading
 andThen Broken f = Broken
 andThen (EndsAt p) f = f p
 
--- 'a leaf's record is its 8 bytes, big-endian, not zero'
+-- a leaf ('A leaf's record'): eight bytes that are there and not all zero
 unfoldable pub leafAt : List ℕ → ℕ → Reading
 leafAt file at = cond (ltb (length file) (at + 8)) Broken (cond (eqb (num 8 (drop at file)) 0) Broken (EndsAt (at + 8)))
 
--- n children to go, mask m, each present one by the reader f: 'followed by those children's records, i rising'
+-- n children to go, with the bits of m for them, lowest first; each that is present is read by f, the next from where that one ends
 unfoldable pub childrenAt : (ℕ → Reading) → ℕ → ℕ → ℕ → Reading
 childrenAt f zero m at = EndsAt at
 childrenAt f (suc n) m at =
@@ -28,7 +28,7 @@ childrenAt f (suc n) m at =
     let skip = childrenAt f n (m / 2) at in
     cond (eqb (m % 2) 1) here skip
 
--- the record of a cell of height k + 2: 'any other record is a mask byte, not zero', then the children's records
+-- the record of a cell of height k + 2; above the leaves a mask of zero is broken ('Any other record')
 unfoldable pub recordAt : List ℕ → ℕ → ℕ → Reading
 recordAt file zero at = leafAt file at
 recordAt file (suc k) at =

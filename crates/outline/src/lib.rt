@@ -1,5 +1,5 @@
-// Document 01, 'The outline file': a file's first bytes, the records by position, and the refusals of a file by itself. A cell's record calls
-// for its children's records, and each child's again for a cell's: height and children left fall.
+// Document 01, 'The outline file': a file's first bytes, the records by position, and the refusals of a file by itself. The readers
+// of a record and of its children call each other: height and children left fall.
 ghost use mathlib.Core.Path.{_≡_};
 ghost use mathlib.Core.Bool.{not};
 ghost use Prim.Native.Nat.{_-_, _≤_};

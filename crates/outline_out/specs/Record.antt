@@ -17,7 +17,7 @@ use Rattle.numbers.specs.Laid.{headOf}
 abbrev pub pointerAt : Cell → ℕ → ℕ → ℕ
 pointerAt c m i = getD c (bitXor i m) 0
 
--- 'a mask byte, bit i for a non-empty child i'
+-- which children a cell has, a bit for each ('a mask byte')
 unfoldable pub maskAt : Cell → ℕ → ℕ
 maskAt c m = gather 0 8 (λ i. bitFor (not (eqb (pointerAt c m i) 0)))
 

@@ -1,5 +1,5 @@
-// A record written: a leaf's eight bytes, or a mask byte and the children's records. A cell's record calls for its
-// children's records, and each child's again for a cell's.
+// A record written: a leaf's eight bytes, or a mask byte and the children's records. The writers of a
+// record and of its children call each other.
 ghost use mathlib.Core.Path.{_≡_};
 ghost use mathlib.Core.Bool.{false, not};
 ghost use Prim.Native.Nat.{_+_, _≤_, _<_};

@@ -278,7 +278,7 @@ pub fn leaf(leaves: &[u8], place: u32) -> u64
 
 // ---- the walk
 
-// How the walk ends in a leaf, after `read` records.
+// How the walk ends in a leaf, after `read` records; the leaf is one more.
 fn in_leaf(leaves: &[u8], place: u32, mirror: u32, x: u32, y: u32, z: u32, read: u32) -> Reached
     requires { ⌜ length (now leaves) % 8 ≡ 0 ⌝ }
     requires { ⌜ read < 16 ⌝ }
@@ -294,7 +294,8 @@ fn in_leaf(leaves: &[u8], place: u32, mirror: u32, x: u32, y: u32, z: u32, read:
     Reached::Empty(read + 1)
 }
 
-// The walk from the root, list by list: each list starts where the one above it ends. Each size is read once.
+// The walk from the root, list by list, counting the records read: each list starts where the one above it ends. Each size is
+// read once.
 fn walk(file: &[u8], x: u32, y: u32, z: u32) -> Reached
     requires { ⌜ Opens (now file) ⌝ }
     requires { ⌜ (rootTag (now file) ≡ emptyMark → ⊥) ⌝ }
@@ -306,15 +307,17 @@ fn walk(file: &[u8], x: u32, y: u32, z: u32) -> Reached
     let mut here = size(file, top);
     let mut place = 0u32;
     let mut mirror = wide(file[MIRROR_PLACE]);
+    let mut records = 0u32;
     while 0 < k {
         let end = start + HALF_BYTES * (here as usize);
         let list = &file[start..end];
         if record_bad(list, place) {
             return Reached::Broken;
         }
+        records += 1;
         let taken = pointer_at(list, place, octant(k - 1, x, y, z) ^ mirror);
         if taken.code == 0 {
-            return Reached::Empty(top - k + 1);
+            return Reached::Empty(records);
         }
         here = size(file, k - 1);
         if taken_bad(here, taken) {
@@ -326,7 +329,7 @@ fn walk(file: &[u8], x: u32, y: u32, z: u32) -> Reached
         k -= 1;
     }
     let leaves = &file[start..];
-    in_leaf(leaves, place, mirror, x, y, z, top)
+    in_leaf(leaves, place, mirror, x, y, z, records)
 }
 
 // The walk to a point inside; an empty scene reads nothing.

@@ -1,5 +1,5 @@
--- The answers of the calls, read as document 01's number and values: 'for any answer that is an enum, a definition gives this paper's number
--- and values for each case'. An accepted call has number 0; 'a refusal returns its number and zeros'. Definitions only.
+-- The answers of the calls, read as document 01's number and values ('any answer that is an enum'). An accepted call has number 0; a refusal has its
+-- own in the table, and zeros for values. Definitions only.
 use mathlib.Core.List.{List, [], _∷_}
 use Prim.Native.Nat.{ℕ}
 use denote.Ref.{now}
@@ -46,7 +46,7 @@ abbrev pub started : Started → Told
 started Started.Ready = told 0 []
 started (Started.Refused r) = told (numberOf r) []
 
--- add: 'answers that number', the scene's
+-- add: the scene's number
 abbrev pub added : Added → Told
 added (Added.Scene n) = told 0 (n ∷ [])
 added (Added.Refused r) = told (numberOf r) (0 ∷ [])
@@ -73,12 +73,12 @@ abbrev pub kept : Kept → Told
 kept (Kept.Cells n) = told 0 (n ∷ [])
 kept (Kept.Refused r) = told (numberOf r) (0 ∷ [])
 
--- 'outline and pack answer the length written'
+-- outline out and pack: the length written
 abbrev pub written : Written → Told
 written (Written.Length n) = told 0 (n ∷ [])
 written (Written.Refused r) = told (numberOf r) (0 ∷ [])
 
--- 'check the depth'
+-- packed check: the depth
 abbrev pub checked : Checked → Told
 checked (Checked.Depth d) = told 0 (d ∷ [])
 checked (Checked.Refused r) = told (numberOf r) (0 ∷ [])

@@ -18,21 +18,21 @@ use Rattle.paper.specs.Pack.{packedFile}
 use Rattle.paper.specs.Answers.{Outcome}
 use Rattle.paper.specs.Order.{Test, when, firstOf, settled}
 
--- 'output past the written length never changes': the bytes, then what was there beyond them
+-- the bytes written, then what was there beyond them ('past the written length')
 abbrev pub over : List ℕ → List ℕ → List ℕ
 over new old = new ++ drop (length new) old
 
--- the first n are zero, 'past that size never change'
+-- the first n are zero, the rest is as it was ('past that size')
 abbrev pub cleared : ℕ → List ℕ → List ℕ
 cleared n l = replicate n 0 ++ drop n l
 
--- ---- new store: 'zeroes its words, then sets word 0'
+-- ---- new store: nothing in it but its capacity ('A new store')
 
--- 'C out of range or too few words'
+-- the capacity is out of range, or the slice has not all words for it
 unfoldable pub badSize : ℕ → List ℕ → Bool
 badSize C ws = not (capacityOk C && leb (used C) (length ws))
 
--- 'New store: 1'
+-- the order ('New store:')
 abbrev pub newOrder : ℕ → List ℕ → List Test
 newOrder C ws = when (badSize C ws) 1 ∷ []
 
@@ -44,15 +44,15 @@ newOutcome C ws = settled (firstOf (newOrder C ws)) [] (newWords C ws ∷ []) (w
 
 -- ---- which scenes are held, and the next number
 
--- 'the scene number is the count of scenes before'
+-- the number of the next scene ('count of scenes before')
 abbrev pub nextScene : List ℕ → ℕ
 nextScene ws = scenesHeld ws
 
--- '64 scenes held'
+-- no scene more can be held: refusal 7
 abbrev pub scenesFull : List ℕ → Bool
 scenesFull ws = leb mostScenes (scenesHeld ws)
 
--- 'no such scene'
+-- n is no scene's number: refusal 9
 abbrev pub noScene : List ℕ → ℕ → Bool
 noScene ws n = leb (scenesHeld ws) n
 
@@ -62,7 +62,7 @@ noScene ws n = leb (scenesHeld ws) n
 unfoldable pub adding : List ℕ → List ℕ → Adding ℕ
 adding ws file = addTree (capacityOf ws) (outlineTree file) (fileDepth file - 2) (keptOf ws)
 
--- 'a height would keep more than C cells'
+-- the cells don't fit at some height: refusal 8
 abbrev pub isFull : Adding ℕ → Bool
 isFull full = true
 isFull (added p K) = false
@@ -76,7 +76,7 @@ outlineOrder file =
     when (not (frontOk outlineFront file)) 3 ∷ when (not (lengthOk outlineHead file)) 4
     ∷ when (not (depthOk (fileDepth file))) 5 ∷ when (not (outlineRules file)) 6 ∷ []
 
--- 'Add: 2,3,4,5,6,7,8'
+-- the order ('Add:')
 abbrev pub addOrder : List ℕ → List ℕ → List Test
 addOrder ws file =
     when (not (storeOk ws)) 2 ∷ outlineOrder file ++ (when (scenesFull ws) 7 ∷ when (cellsFull ws file) 8 ∷ [])
@@ -86,7 +86,7 @@ abbrev pub withScene : Store → ℕ → Adding ℕ → Store
 withScene s D full = s
 withScene s D (added p K) = record { capacity = s .capacity; scenes = s .scenes ++ ((D ∷ p ∷ []) ∷ []); kept = K }
 
--- 'words beyond are neither read nor written'
+-- the store with the scene in it; what lies beyond its words stays ('Words beyond')
 unfoldable pub addWords : List ℕ → List ℕ → List ℕ
 addWords ws file = over (wordsOf (withScene (storeOf ws) (fileDepth file) (adding ws file))) ws
 
@@ -95,7 +95,7 @@ addOutcome ws file = settled (firstOf (addOrder ws file)) (nextScene ws ∷ []) 
 
 -- ---- voxel, cell, box
 
--- 'Voxel, cell, box: 2 (header), 9, 2 (the scene's two words), 10, 2 (walk)'
+-- the order ('Voxel, cell, box:'): damage is judged three times, in the header, in the scene's two words, on the walk
 abbrev pub questionOrder : List ℕ → ℕ → Bool → Bool → List Test
 questionOrder ws n outside walk =
     when (not (headerOk ws)) 2 ∷ when (noScene ws n) 9 ∷ when (not (sceneOk ws n)) 2 ∷ when outside 10 ∷ when walk 2 ∷ []
@@ -119,7 +119,7 @@ voxelOutcome ws n v =
     let value : ℕ = bitFor (ofScene voxelSolid ws n v) in
     settled (firstOf (questionOrder ws n (voxelOutside ws n v) (voxelDamaged ws n v))) (value ∷ []) [] []
 
--- 'h from 0 to D, x, y and z counted in cells of that height'
+-- the height is above the room's, or no cell of that height has these coordinates
 unfoldable pub cellOutside : List ℕ → ℕ → ℕ → Point → Bool
 cellOutside ws n h c = not (leb h (sceneDepth ws n)) || not (inside (2 ^ (sceneDepth ws n - h)) c)
 
@@ -131,7 +131,7 @@ cellOutcome ws n h c =
     let value : ℕ = bitFor (ofScene cellFull ws n h c) in
     settled (firstOf (questionOrder ws n (cellOutside ws n h c) (cellDamaged ws n h c))) (value ∷ []) [] []
 
--- 'box outside, or low > high', on an axis
+-- on one axis: low is above high, or high past the edge
 abbrev pub axisOutside : ℕ → ℕ → ℕ → Bool
 axisOutside S low high = ltb high low || ltb S high
 
@@ -150,7 +150,7 @@ boxOutcome ws n low high =
 
 -- ---- kept
 
--- 'Kept: 2 (header), 10'
+-- the order ('Kept:'); a height that keeps cells is a depth that a scene can have
 abbrev pub keptOrder : List ℕ → ℕ → List Test
 keptOrder ws h = when (not (headerOk ws)) 2 ∷ when (not (depthOk h)) 10 ∷ []
 
@@ -163,15 +163,15 @@ keptOutcome ws h = settled (firstOf (keptOrder ws h)) (keptCount ws (h - 2) ∷ 
 unfoldable pub outlineBytes : List ℕ → ℕ → List ℕ
 outlineBytes ws n = outlineOf (sceneDepth ws n) (ofScene rootRoom ws n)
 
--- 'output too short'
+-- the output doesn't hold what is to be written
 abbrev pub outShort : List ℕ → List ℕ → Bool
 outShort new out = ltb (length out) (length new)
 
--- '12 (also past 4,294,967,295 bytes)'
+-- nor does the length field a length past the longest ('also past')
 unfoldable pub outlineShort : List ℕ → ℕ → List ℕ → Bool
 outlineShort ws n out = outShort (outlineBytes ws n) out || ltb longest (length (outlineBytes ws n))
 
--- 'Outline out: 2, 9, 12'
+-- the order ('Outline out:')
 abbrev pub outlineOutOrder : List ℕ → ℕ → List ℕ → List Test
 outlineOutOrder ws n out = when (not (storeOk ws)) 2 ∷ when (noScene ws n) 9 ∷ when (outlineShort ws n out) 12 ∷ []
 
@@ -181,7 +181,7 @@ outlineOutcome ws n out =
 
 -- ---- pack
 
--- 'Scratch: pack takes 60C words'
+-- the words of scratch that pack takes ('Scratch:')
 abbrev pub packScratch : ℕ → ℕ
 packScratch C = 60 * C
 
@@ -194,13 +194,13 @@ packBytes ws n = ofScene packedFile ws n
 unfoldable pub packShort : List ℕ → ℕ → List ℕ → Bool
 packShort ws n out = outShort (packBytes ws n) out
 
--- 'Pack: 2,9,11,12'
+-- the order ('Pack:')
 abbrev pub packOrder : List ℕ → ℕ → List ℕ → List ℕ → List Test
 packOrder ws n scratch out =
     when (not (storeOk ws)) 2 ∷ when (noScene ws n) 9 ∷ when (ltb (length scratch) (scratchFor ws)) 11
     ∷ when (packShort ws n out) 12 ∷ []
 
--- 'that much is zero after any answer of pack except 2, 9 and 11': of the refusals, after 12
+-- the scratch after a refusal ('That much is zero'): cleared after 12, as it was after the others
 abbrev pub packScratchAfter : ℕ → List ℕ → List ℕ → List ℕ
 packScratchAfter number ws scratch = cond (eqb number 12) (cleared (scratchFor ws) scratch) scratch
 
@@ -217,12 +217,12 @@ abbrev pub packedOrder : List ℕ → List Test → List Test
 packedOrder file rest =
     when (not (frontOk packedFront file)) 3 ∷ when (not (lengthOk packedHead file)) 4 ∷ when (not (depthOk (fileDepth file))) 5 ∷ rest
 
--- 'Packed check: 11,3,4,5,6'; 'check takes as many bytes as the file'
+-- the order ('Packed check:'); the scratch is too short where it is shorter than the file
 abbrev pub checkOrder : List ℕ → List ℕ → List Test
 checkOrder file scratch =
     when (ltb (length scratch) (length file)) 11 ∷ packedOrder file (when (not (packedRules file)) 6 ∷ [])
 
--- 'and after answers 0 and 6 of check; otherwise untouched': of the refusals, after 6
+-- the scratch after a refusal ('answers 0 and 6'): cleared after 6, as it was after the others
 abbrev pub checkScratchAfter : ℕ → List ℕ → List ℕ → List ℕ
 checkScratchAfter number file scratch = cond (eqb number 6) (cleared (length file) scratch) scratch
 
@@ -239,7 +239,7 @@ packedOutside file v = not (inside (2 ^ fileDepth file) v)
 unfoldable pub packedBroken : List ℕ → Point → Bool
 packedBroken file v = isBroken (wayIn file v)
 
--- 'Packed voxel: 3,4,5,10,6'
+-- the order ('Packed voxel:')
 abbrev pub packedVoxelOrder : List ℕ → Point → List Test
 packedVoxelOrder file v = packedOrder file (when (packedOutside file v) 10 ∷ when (packedBroken file v) 6 ∷ [])
 
@@ -251,11 +251,11 @@ packedVoxelOutcome file v = settled (firstOf (packedVoxelOrder file v)) (packedV
 
 -- ---- opening, and a question on an opened scene
 
--- 'Opening: 3,4,5,6 (byte 6 and the sizes)'
+-- the order ('Opening:'); of the rules, byte 6 and the sizes are judged
 abbrev pub openOrder : List ℕ → List Test
 openOrder file = packedOrder file (when (not (headOk file)) 6 ∷ [])
 
--- depth and list starts. Nothing is lent for writing; in that place stands the part that the scene holds: the file, 'a refusal holding an empty part'
+-- depth and list starts. Nothing is lent for writing; in that place stands the part that the scene holds: the file, or nothing after a refusal
 unfoldable pub openOutcome : List ℕ → Outcome
 openOutcome file = settled (firstOf (openOrder file)) (fileDepth file ∷ startsOf file) (file ∷ []) ([] ∷ [])
 
@@ -263,7 +263,7 @@ openOutcome file = settled (firstOf (openOrder file)) (fileDepth file ∷ starts
 unfoldable pub opensTo : List ℕ → ℕ → List ℕ → Bool
 opensTo file D starts = eqb (openOutcome file .number) 0 && sameList (openOutcome file .values) (D ∷ starts)
 
--- 'A question on an opened scene: 6 (its bytes don't open to its numbers), then as packed voxel'
+-- the order ('A question on an opened'): 6 where the scene is not what opening its bytes gives, then the packed voxel's
 abbrev pub askOrder : List ℕ → ℕ → List ℕ → Point → List Test
 askOrder file D starts v = when (not (opensTo file D starts)) 6 ∷ packedVoxelOrder file v
 

@@ -1,28 +1,30 @@
 -- The claims C1 to C11, document 01's demands, as types. This file states all and proves none; docs/READING.md says where each is proved.
 -- A claim that speaks of a call speaks of its outcome function (Calls, Detail); the promise of the call ties the code to that function.
-use mathlib.Core.Bool.{true, false}
+use mathlib.Core.Bool.{true, false, cond}
 use mathlib.Core.List.{List, [], _∷_}
 use mathlib.Core.Option.{some}
 use mathlib.Core.Logic.{_↔_}
 use mathlib.Core.Path.{_≡_}
-use Prim.Native.Nat.{ℕ, suc, _-_, _*_, _<_, _≤_, _^_}
+use Prim.Native.Nat.{ℕ, zero, suc, _-_, _*_, _<_, _≤_, _^_}
 use lib.Bits.{bitXor}
 use lib.Dec.{T}
 use lib.Ieee.{Float, binary64, fits, le}
 use lib.Ieee.Exact.{HasValue}
 use lib.Ieee.Positive.{num, den}
 use lib.ListN.{length, take, drop, getD}
-use Rattle.paper.specs.Numbers.{allIn, bitFor}
-use Rattle.paper.specs.Rooms.{Point, Room, deepest, depthOk, Inside, cellOf, childRoom, mirror, mirrored, Same, Image, boxCount, nonEmpty}
+use Rattle.paper.specs.Numbers.{allIn, bitFor, isIn}
+use Rattle.paper.specs.Rooms.{Point, Room, deepest, depthOk, Inside, cellOf, childRoom, mirror, mirrored, Same, Image, NonEmpty, boxCount, nonEmpty}
 use Rattle.paper.specs.Outline.{edge, IsOutline, outlineOf, fileDepth, fileRoom}
-use Rattle.paper.specs.Store.{capacityOf, scenesHeld, keptOf, cellsAt, cellAt}
+use Rattle.paper.specs.Store.{Cell, leafNo, tagOf, cellNo, anyBad, capacityOf, scenesHeld, keptOf, cellsAt, cellAt}
+use Rattle.paper.specs.Meaning.{cellVoxel}
 use Rattle.paper.specs.Match.{matches}
-use Rattle.paper.specs.Packed.{proper, packedRoom, packedPath}
+use Rattle.paper.specs.Packed.{rootTag, isEmpty, topOf, graphOf, proper, packedRoom, packedPath, startsOf}
+use Rattle.paper.specs.Pack.{layout, emptyFile, packedMost}
 use Rattle.paper.specs.Answers.{Outcome, told, outcome}
 use Rattle.paper.specs.Order.{firstOf}
 use Rattle.paper.specs.Detail.{factorOk, distanceOk, reaches, doubled}
 use Rattle.paper.specs.Calls.{over, cleared, nextScene, scenesFull, outlineOrder, addOutcome, voxelOutcome, cellOutcome, boxOutcome, keptOutcome, outlineOutcome, scratchFor, packBytes, packOutcome, checkOutcome, packedVoxelOutcome, openOutcome, askOutcome}
-use Rattle.paper.specs.Runs.{Call, Bytes, Given, outcomeOf, wordsAfter, besides, Scene, sceneOf, holding, State, Reached, Occurs, Outnumbered, Number, keptRoom, usedBy}
+use Rattle.paper.specs.Runs.{Call, Bytes, Given, outcomeOf, wordsAfter, besides, Scene, sceneOf, holding, alone, State, Reached, Occurs, Outnumbered, Number, keptRoom, usedBy}
 use Rattle.paper.specs.Samples.{samples, holds}
 
 -- ---- C1, mirror laws, once over the edge
@@ -55,10 +57,18 @@ pub record C2 : Type 0 where
 
 -- ---- C3, the match rule agrees with the voxels, on every store that only the calls wrote
 
+-- a cell that may be sought in list k: a leaf of 64 bits, or eight pointers none of which is bad
+abbrev pub Sought : List (List Cell) → ℕ → Cell → Type 0
+Sought K zero c = leafNo c < 2 ^ 64
+Sought K (suc k) c = anyBad (length (cellsAt K k)) c ≡ false
+
 pub record MatchesVoxels (s : State) : Type 0 where
-  pub agree : (k a b t : ℕ) → a < length (cellsAt (keptOf (s .words)) k) → b < length (cellsAt (keptOf (s .words)) k) → t < 8
-      → (matches (keptOf (s .words)) k (cellAt (keptOf (s .words)) k a) (cellAt (keptOf (s .words)) k b) t ≡ true)
-      ↔ Same (edge k) (keptRoom (s .words) k a) (mirrored t (edge k) (keptRoom (s .words) k b))
+  -- any two cells that may be sought, kept or not
+  pub agree : (k : ℕ) (a b : Cell) (t : ℕ) → Sought (keptOf (s .words)) k a → Sought (keptOf (s .words)) k b → t < 8
+      → (matches (keptOf (s .words)) k a b t ≡ true)
+      ↔ Same (edge k) (cellVoxel (keptOf (s .words)) k a) (mirrored t (edge k) (cellVoxel (keptOf (s .words)) k b))
+  -- kept cells are such
+  pub kept : (k q : ℕ) → q < length (cellsAt (keptOf (s .words)) k) → Sought (keptOf (s .words)) k (cellAt (keptOf (s .words)) k q)
 
 abbrev pub C3 : Type 0
 C3 = (s : State) → Reached s → MatchesVoxels s
@@ -77,9 +87,11 @@ pub record Demand3 (s : State) : Type 0 where
       → voxelOutcome (s .words) n v ≡ outcome (told 0 (bitFor (sc .room v) ∷ [])) []
   -- (e) an outline that meets no earlier refusal is refused by 8 exactly when the cells of the accepted scenes and its own outnumber C
   pub capacity : (file : List ℕ) → Bytes file → outlineRefusal file ≡ 0 → scenesFull (s .words) ≡ false
-      → (addOutcome (s .words) file .number ≡ 8) ↔ Outnumbered (holding (nextScene (s .words)) (sceneOf file) (s .held)) (capacityOf (s .words))
+      → (addOutcome (s .words) file .number ≡ 8) ↔ Outnumbered (holding (nextScene (s .words)) (sceneOf file) (s .held)) (s .capacity)
   -- (f) kept at h answers the number of differing non-empty cells of height h in the accepted scenes, images counted once
   pub kept : (h : ℕ) → T (depthOk h) → (n : ℕ) × (keptOutcome (s .words) h ≡ outcome (told 0 (n ∷ [])) []) × Number (s .held) h n
+  -- word 0 is the capacity given to the last accepted new store
+  pub given : capacityOf (s .words) ≡ s .capacity
   -- the scenes held are those below the count, so that a number is never given twice
   pub numbers : (n : ℕ) → (n < scenesHeld (s .words)) ↔ ((sc : Scene) × (s .held n ≡ some sc))
 
@@ -105,6 +117,10 @@ C5 = (s : State) → Reached s → AnswersAreTheRooms s
 
 -- ---- C6, packing, on such a store: of every accepted scene, with `file` what pack writes for it
 
+-- the records of list k of a packed file
+abbrev pub recordsAt : List ℕ → ℕ → ℕ
+recordsAt file k = length (cellsAt (graphOf file) k)
+
 pub record Packs (s : State) (n : ℕ) (sc : Scene) (file : List ℕ) : Type 0 where
   -- it is written, into scratch and output that hold it
   pub written : (scratch out : List ℕ) → scratchFor (s .words) ≤ length scratch → length file ≤ length out
@@ -119,11 +135,46 @@ pub record Packs (s : State) (n : ℕ) (sc : Scene) (file : List ℕ) : Type 0 w
   -- packed voxel on it gives the room's voxel
   pub voxels : (v : Point) → Inside (2 ^ sc .depth) v
       → packedVoxelOutcome file v ≡ outcome (told 0 (bitFor (sc .room v) ∷ packedPath file v ∷ [])) []
+  -- its records of each height are as many as the scene's differing non-empty cells there, images counted once
+  pub counts : (k : ℕ) → suc (suc k) ≤ sc .depth → Number (alone (sc .depth) (sc .room)) (suc (suc k)) (recordsAt file k)
+  -- and every proper file that means the room has just as many
+  pub fewest : (other : List ℕ) → Bytes other → proper other ≡ true → fileDepth other ≡ sc .depth → Same (2 ^ sc .depth) (packedRoom other) (sc .room)
+      → (k : ℕ) → suc (suc k) ≤ sc .depth → recordsAt other k ≡ recordsAt file k
+  -- what a caller has to lend at most
+  pub most : length file ≤ packedMost (s .capacity)
+
+pub record Packing (s : State) : Type 0 where
+  -- each scene held packs
+  pub each : (n : ℕ) (sc : Scene) → s .held n ≡ some sc → Packs s n sc (packBytes (s .words) n)
+  -- two scenes held with the same depth and voxels pack to the same bytes
+  pub same : (n n′ : ℕ) (sc sc′ : Scene) → s .held n ≡ some sc → s .held n′ ≡ some sc′ → sc .depth ≡ sc′ .depth → Same (2 ^ sc .depth) (sc .room) (sc′ .room)
+      → packBytes (s .words) n ≡ packBytes (s .words) n′
 
 abbrev pub C6 : Type 0
-C6 = (s : State) → Reached s → (n : ℕ) (sc : Scene) → s .held n ≡ some sc → Packs s n sc (packBytes (s .words) n)
+C6 = (s : State) → Reached s → Packing s
 
 -- ---- C7, proper files
+
+-- the voxels of record q of list k of a packed file
+abbrev pub recordRoom : List ℕ → ℕ → ℕ → Room
+recordRoom file k q = cellVoxel (graphOf file) k (cellAt (graphOf file) k q)
+
+-- pointer i of record n of list k + 1, by number
+abbrev pub pointerAt : List ℕ → ℕ → ℕ → ℕ → ℕ
+pointerAt file k n i = getD (cellAt (graphOf file) (suc k) n) i 0
+
+-- a proper file that isn't empty, by voxels
+pub record RecordsDiffer (file : List ℕ) : Type 0 where
+  -- each record has a solid voxel
+  pub full : (k q : ℕ) → q < recordsAt file k → NonEmpty (edge k) (recordRoom file k q)
+  -- no two of one height are images
+  pub apart : (k q r : ℕ) → r < q → q < recordsAt file k → ¬ Image (edge k) (recordRoom file k q) (recordRoom file k r)
+  -- a lower tag gives other voxels
+  pub tags : (k n i u : ℕ) → n < recordsAt file (suc k) → i < 8 → ¬ (pointerAt file k n i ≡ 0) → u < tagOf (pointerAt file k n i)
+      → ¬ Same (edge k) (mirrored (tagOf (pointerAt file k n i)) (edge k) (recordRoom file k (cellNo (pointerAt file k n i))))
+      (mirrored u (edge k) (recordRoom file k (cellNo (pointerAt file k n i))))
+  -- the root's too
+  pub root : (u : ℕ) → u < rootTag file → ¬ Same (2 ^ fileDepth file) (packedRoom file) (mirrored u (2 ^ fileDepth file) (recordRoom file (topOf file) 0))
 
 pub record C7 : Type 0 where
   -- check answers 0 exactly on proper files (with scratch enough to look)
@@ -132,6 +183,22 @@ pub record C7 : Type 0 where
   -- is the length of the path in the definition
   pub asked : (file : List ℕ) (v : Point) → Bytes file → proper file ≡ true → Inside (2 ^ fileDepth file) v
       → packedVoxelOutcome file v ≡ outcome (told 0 (bitFor (packedRoom file v) ∷ packedPath file v ∷ [])) []
+  -- its records differ by voxels
+  pub differ : (file : List ℕ) → Bytes file → proper file ≡ true → isEmpty file ≡ false → RecordsDiffer file
+  -- its records of each height are as many as the differing non-empty cells of the room that it means, images counted once
+  pub counts : (file : List ℕ) → Bytes file → proper file ≡ true → (k : ℕ) → k ≤ topOf file → Number (alone (fileDepth file) (packedRoom file)) (suc (suc k)) (recordsAt file k)
+  -- it is what is laid out for its depth, root's tag and graph (lists in order)
+  pub laid : (file : List ℕ) → Bytes file → proper file ≡ true → isEmpty file ≡ false → file ≡ layout (topOf file) (rootTag file) (graphOf file)
+  -- or, where it is empty, the 7 bytes of its depth
+  pub laid-empty : (file : List ℕ) → Bytes file → proper file ≡ true → isEmpty file ≡ true → file ≡ emptyFile (fileDepth file)
+  -- so two proper files with the same depth, root's tag and graph are the same bytes
+  pub same : (file file′ : List ℕ) → Bytes file → Bytes file′ → proper file ≡ true → proper file′ ≡ true → fileDepth file ≡ fileDepth file′ → rootTag file ≡ rootTag file′
+      → graphOf file ≡ graphOf file′ → file ≡ file′
+  -- it opens
+  pub opened : (file : List ℕ) → proper file ≡ true → openOutcome file ≡ outcome (told 0 (fileDepth file ∷ startsOf file)) (file ∷ [])
+  -- and a question on the opened scene gives its room's voxel
+  pub questioned : (file : List ℕ) (v : Point) → Bytes file → proper file ≡ true → Inside (2 ^ fileDepth file) v
+      → askOutcome file (fileDepth file) (startsOf file) v ≡ outcome (told 0 (bitFor (packedRoom file v) ∷ packedPath file v ∷ [])) []
 
 -- ---- C8, opened scenes
 
@@ -189,3 +256,9 @@ pub record C11 : Type 0 where
       → SameBut (lengthIn (packOutcome ws n scratch out)) (packOutcome ws n scratch out) (packOutcome ws n scratch′ out′) out out′ 1
   pub checks : (file scratch scratch′ : List ℕ) → length scratch ≡ length scratch′
       → (checkOutcome file scratch .number ≡ checkOutcome file scratch′ .number) × (checkOutcome file scratch .values ≡ checkOutcome file scratch′ .values)
+  -- pack's scratch is zero afterwards as far as it was needed, but as it was after 2, 9 and 11
+  pub pack-scratch : (ws : List ℕ) (n : ℕ) (scratch out : List ℕ)
+      → getD (packOutcome ws n scratch out .lent) 0 [] ≡ cond (isIn (packOutcome ws n scratch out .number) (2 ∷ 9 ∷ 11 ∷ [])) scratch (cleared (scratchFor ws) scratch)
+  -- check's after 0 and 6, else as it was
+  pub check-scratch : (file scratch : List ℕ)
+      → getD (checkOutcome file scratch .lent) 0 [] ≡ cond (isIn (checkOutcome file scratch .number) (0 ∷ 6 ∷ [])) (cleared (length file) scratch) scratch

@@ -1,5 +1,5 @@
--- Document 01, 'Questions', Detail: over whole numbers. A finite float is, in size, the fraction `num x` / `den x` of two whole numbers
--- (`lib.Ieee.Positive`); two fractions are compared by multiplying across. 'These compare exact values.' Definitions only.
+-- Document 01, 'Questions', Detail: over whole numbers ('exact values'). A finite float is, in size, the fraction `num x` / `den x` of two whole
+-- numbers (`lib.Ieee.Positive`); two fractions are compared by multiplying across. Definitions only.
 use Prim.Native.Nat.{ℕ, zero, suc, _*_, _^_}
 use mathlib.Core.Bool.{Bool, true, false, not, _&&_, _||_, cond}
 use mathlib.Core.List.{List, [], _∷_}
@@ -12,7 +12,7 @@ use Rattle.paper.specs.Order.{Test, when, firstOf, settled}
 use Rattle.paper.specs.declared.Wish.{Wish}
 use Rattle.paper.specs.declared.Wish.the-variants.{EveryVoxel, WidestEdge, Distance}
 
--- a number that is not below zero: no NaN, no infinity; '-0 counts as 0'
+-- a number that is not below zero: no NaN, no infinity; -0 is not below zero
 abbrev pub plain : Float → Bool
 plain nan = false
 plain (inf s) = false
@@ -29,7 +29,7 @@ farthest = 2 ^ 40
 abbrev pub greatestFactor : ℕ
 greatestFactor = 2 ^ 30
 
--- 'a widest edge (1 to 2^40)'; a distance (0 to 2^40); a factor (2^-30 to 2^30)
+-- the ranges of a widest edge, of a distance and of a factor
 abbrev pub edgeOk : Float → Bool
 edgeOk e = within 1 1 farthest e
 
@@ -43,7 +43,7 @@ factorOk f = within 1 greatestFactor greatestFactor f
 abbrev pub reaches : ℕ → ℕ → Float → ℕ → Bool
 reaches a b x h = leb (2 ^ h * a * den x) (num x * b)
 
--- the greatest h from 1 to D that passes the test, 'or 0 if none'
+-- the greatest h from 1 to D that passes the test, 0 where none does
 unfoldable pub greatest : (ℕ → Bool) → ℕ → ℕ
 greatest p zero = 0
 greatest p (suc d) = let r = greatest p d in cond (p (suc d)) (suc d) r
@@ -54,21 +54,21 @@ wishOk EveryVoxel = true
 wishOk (WidestEdge e) = edgeOk e
 wishOk (Distance s) = distanceOk (s .distance) && factorOk (s .factor)
 
--- 'every voxel gives height 0. A widest edge e gives the greatest h <= D with 2^h <= e. For the third, the greatest h <= D with 2^h times
--- factor <= distance, or 0 if none'
+-- the height for a wish in its range ('Every voxel gives'): the highest at which a cell's edge reaches no further than the widest edge, or, taken
+-- factor times, no further than the distance
 abbrev pub heightFor : ℕ → Wish → ℕ
 heightFor D EveryVoxel = 0
 heightFor D (WidestEdge e) = greatest (reaches 1 1 e) D
 heightFor D (Distance s) = greatest (reaches (num (s .factor)) (den (s .factor)) (s .distance)) D
 
--- 'Detail: 5,13'
+-- the order ('Detail:')
 abbrev pub detailOrder : ℕ → Wish → List Test
 detailOrder D w = when (not (depthOk D)) 5 ∷ when (not (wishOk w)) 13 ∷ []
 
 unfoldable pub detailOutcome : ℕ → Wish → Outcome
 detailOutcome D w = settled (firstOf (detailOrder D w)) (heightFor D w ∷ []) [] []
 
--- ---- on floats, as code does it: what 'doubling the factor' gives after h times
+-- ---- on floats, as code does it: what doubling h times gives ('loses nothing')
 
 unfoldable pub doubled : ℕ → Float → Float
 doubled zero x = x

@@ -1,4 +1,5 @@
--- Document 01: 'A cell of height 2 is a leaf: a 64-bit number, voxel (x, y, z) in bit x + 4y + 16z.' Definitions only.
+-- Document 01, 'Rooms and mirrors', 'is a leaf': a cell of edge 4 as a number of 64 bits, one for each voxel, counted along x, then y, then z.
+-- Definitions only.
 use Prim.Native.Nat.{ℕ, _+_, _*_, _/_, _%_}
 use lib.Dec.{eqb}
 use Rattle.paper.specs.Numbers.{bit, bitFor, gather}

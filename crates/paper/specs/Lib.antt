@@ -13,6 +13,7 @@ pub mod Answers
 pub mod Order
 pub mod Detail
 pub mod Calls
+pub mod Promises
 pub mod Samples
 pub mod Runs
 pub mod Claims

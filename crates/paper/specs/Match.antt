@@ -13,18 +13,18 @@ use Rattle.paper.specs.Leaf.{mirrorLeaf}
 use Rattle.paper.specs.Outline.{Tree, none, leaf, node}
 use Rattle.paper.specs.Store.{Cell, cellsAt, cellAt, leafNo, tagOf, cellNo, pointer}
 
--- pointers p of a and q of b, under t: 'both none, or name the same cell q with (tag xor tag xor t) a mirror under which q matches itself';
--- `self q u`: cell q matches itself under u
+-- pointers p of a and q of b, under t ('both none'): neither names a cell; or both name one cell, and it matches itself under the exclusive or of
+-- both tags and t. `self q u`: cell q matches itself under u
 unfoldable pub pointerMatch : (ℕ → ℕ → Bool) → ℕ → ℕ → ℕ → Bool
 pointerMatch self t p q =
     let r = self (cellNo p) (bitXor (bitXor (tagOf p) (tagOf q)) t) in
     cond (eqb p 0) (eqb q 0) (cond (eqb q 0) false (cond (eqb (cellNo p) (cellNo q)) r false))
 
--- 'for each i, a's pointer i and b's pointer (i xor t)'
+-- each pointer of a against the one of b that stands in the place mirrored by t ('for each i')
 unfoldable pub cellMatch : (ℕ → ℕ → Bool) → Cell → Cell → ℕ → Bool
 cellMatch self a b t = allBelow 8 (λ i. pointerMatch self t (getD a i 0) (getD b (bitXor i t) 0))
 
--- does cell a match cell b under t, both of list k: 'leaf a matches leaf b under t if a is b mirrored by t'
+-- does cell a match cell b under t, both of list k ('Match rule'): leaves by their voxels, any other cells by their pointers
 unfoldable pub matches : List (List Cell) → ℕ → Cell → Cell → ℕ → Bool
 matches K zero a b t = eqb (leafNo a) (mirrorLeaf t (leafNo b))
 matches K (suc k) a b t = cellMatch (λ q u. matches K k (cellAt K k q) (cellAt K k q) u) a b t
@@ -40,7 +40,7 @@ abbrev pub orFound : Option ℕ → ℕ → Option ℕ → Option ℕ
 orFound O.none n r = r
 orFound (some t) n r = some (pointer t n)
 
--- 'sought among those kept at its height, lowest number first; the pointer gets the lowest mirror that matches': the cells are counted from n
+-- a pointer to the first cell that passes under some mirror, with the lowest such mirror ('lowest number first'); the cells are counted from n
 unfoldable pub find : (Cell → ℕ → Bool) → List Cell → ℕ → Option ℕ
 find p [] n = O.none
 find p (c ∷ cs) n = let r = find p cs (suc n) in orFound (lowest 8 0 (p c)) n r
@@ -60,7 +60,7 @@ abbrev pub orKeep : Option ℕ → List (List Cell) → Adding ℕ → Adding �
 orKeep O.none K r = r
 orKeep (some p) K r = added p K
 
--- 'kept as it stands under the next number, mirror 0'; full where 'a height would keep more than C cells'
+-- one cell more at the end of list k, and the pointer to it, unmirrored ('as it stands'); full where the list has C cells already
 unfoldable pub keep : ℕ → ℕ → Cell → List (List Cell) → Adding ℕ
 keep C k c K =
     let r = added (pointer 0 (length (cellsAt K k))) (set K k (cellsAt K k ++ (c ∷ []))) in
@@ -81,7 +81,7 @@ inTurn (f ∷ fs) K = then (f K) (λ a K′. then (inTurn fs K′) (λ rs K″. 
 abbrev pub leafCell : ℕ → Cell
 leafCell n = n / 2 ^ 32 ∷ n % 2 ^ 32 ∷ []
 
--- 'adding works from the leaves up in outline order': a tree of height k + 2
+-- a tree of height k + 2 ('from the leaves up'): its children in turn, each added to what those before it left, then the cell of their pointers
 unfoldable pub addTree : ℕ → Tree → ℕ → List (List Cell) → Adding ℕ
 addTree C none k K = added 0 K
 addTree C (leaf n) k K = addCell C 0 (leafCell n) K

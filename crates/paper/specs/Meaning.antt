@@ -1,6 +1,6 @@
 -- What a pointer stands for, by coordinates: cells of a store and records of a packed file alike. Definitions only.
--- 'It means that cell so mirrored': voxel v of a pointer is voxel v' of its cell, v' by the mirror formula; voxel v of a cell is voxel (v minus
--- corner) of the child whose half holds v.
+-- Document 01, 'so mirrored': voxel v of a pointer is voxel v' of its cell, v' by the mirror formula; voxel v of a cell is voxel (v minus corner)
+-- of the child whose half holds v.
 use mathlib.Core.Bool.{false, cond}
 use mathlib.Core.List.{List, []}
 use Prim.Native.Nat.{ℕ, zero, suc, _-_, _^_}

@@ -39,7 +39,7 @@ unfoldable pub gather : ℕ → ℕ → (ℕ → ℕ) → ℕ
 gather k zero f = 0
 gather k (suc n) f = f k + 2 * gather (suc k) n f
 
--- n bytes of a number, high first: 'all numbers are big-endian'
+-- n bytes of a number, high first ('big-endian')
 unfoldable pub bytes : ℕ → ℕ → List ℕ
 bytes zero v = []
 bytes (suc n) v = v / 256 ^ n % 256 ∷ bytes n v

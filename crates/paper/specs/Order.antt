@@ -14,7 +14,8 @@ unfoldable pub firstOf : List Test → ℕ
 firstOf [] = 0
 firstOf (when b n ∷ ts) = let r = firstOf ts in cond b n r
 
--- 'a refusal returns its number and zeros': accepted, the values and what was lent as it is then; refused, zeros and what was lent as it is then
+-- a call's outcome by its refusal n, 0 for none ('number and zeros'): accepted, the values vs, and what was lent as `after` has it; refused, as many
+-- zeros, and what was lent as `else` has it
 unfoldable pub settled : ℕ → List ℕ → List (List ℕ) → List (List ℕ) → Outcome
 settled n vs after else =
     let yes : Outcome = outcome (told 0 vs) after in

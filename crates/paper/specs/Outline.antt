@@ -15,7 +15,7 @@ use Rattle.paper.specs.Leaf.{leafVoxel, leafOf}
 abbrev pub edge : ℕ → ℕ
 edge k = 2 ^ suc (suc k)
 
--- 'byte 0 is 0x11'
+-- the version byte ('Byte 0')
 abbrev pub outlineFront : ℕ
 outlineFront = 0x11
 
@@ -37,17 +37,17 @@ childOf k r i = childRoom (edge k) i r
 abbrev pub childFull : ℕ → Room → ℕ → Bool
 childFull k r i = nonEmpty (edge k) (childOf k r i)
 
--- 'a mask byte, bit i for a non-empty child i'
+-- which children are non-empty, a bit for each, child 0 lowest ('a mask byte')
 abbrev pub maskOf : ℕ → Room → ℕ
 maskOf k r = gather 0 8 (λ i. bitFor (childFull k r i))
 
--- the record of a non-empty cell of height k + 2: 'a leaf's record is its 8 bytes, big-endian'; any other 'a mask byte followed by those
--- children's records, i rising'
+-- the record of a non-empty cell of height k + 2: a leaf's number ('A leaf's record'); of any other the mask, then the records of the non-empty
+-- children in turn ('Any other record')
 unfoldable pub recordOf : ℕ → Room → List ℕ
 recordOf zero r = bytes 8 (leafOf r)
 recordOf (suc k) r = maskOf k r ∷ flatten (tabulate 0 8 (λ i. let b = recordOf k (childOf k r i) in cond (childFull k r i) b []))
 
--- 'then, unless the scene is empty, the root's record'
+-- the root's record; an empty room has none
 unfoldable pub rootRecord : ℕ → Room → List ℕ
 rootRecord D r = let b = recordOf (D - 2) r in cond (nonEmpty (2 ^ D) r) b []
 
@@ -78,7 +78,7 @@ abbrev pub bind : {A B : Type 0} → Read A → (A → List ℕ → Read B) → 
 bind bad f = bad
 bind (ok a bs) f = f a bs
 
--- 'a leaf's record is its 8 bytes, big-endian, not zero'
+-- a leaf: eight bytes that are there and not all zero
 unfoldable pub readLeaf : List ℕ → Read Tree
 readLeaf bs =
     let n : ℕ = num 8 bs in
@@ -89,7 +89,7 @@ readLeaf bs =
 abbrev pub before : Tree → Read (List Tree) → Read (List Tree)
 before t r = bind r (λ ts bs. ok (t ∷ ts) bs)
 
--- n children to go, mask m, each present one by the reader r: 'followed by those children's records, i rising'
+-- n children to go, with the bits of m for them, lowest first; each that is present is read by r, the next from where that one ends
 unfoldable pub readChildren : (List ℕ → Read Tree) → ℕ → ℕ → List ℕ → Read (List Tree)
 readChildren r zero m bs = ok [] bs
 readChildren r (suc n) m bs =
@@ -100,7 +100,7 @@ readChildren r (suc n) m bs =
 abbrev pub nodeOf : List Tree → Tree
 nodeOf ts = node (getD ts 0 none) (getD ts 1 none) (getD ts 2 none) (getD ts 3 none) (getD ts 4 none) (getD ts 5 none) (getD ts 6 none) (getD ts 7 none)
 
--- the record of a cell of height k + 2: 'any other record is a mask byte, not zero'
+-- the record of a cell of height k + 2; above the leaves a mask of zero is broken, as is no mask
 unfoldable pub readRecord : ℕ → List ℕ → Read Tree
 readRecord zero bs = readLeaf bs
 readRecord (suc k) [] = bad
@@ -125,11 +125,11 @@ treeRead (ok t bs) = t
 
 -- ---- a file's parts and tests; both kinds of file begin alike
 
--- refusal 3: 'file empty or wrong version byte'
+-- refusal 3 is given where this fails: there is a first byte and it is v
 abbrev pub frontOk : ℕ → List ℕ → Bool
 frontOk v bs = ltb 0 (length bs) && eqb (getD bs 0 0) v
 
--- refusal 4: under so many bytes, or 'length field not the slice's length'
+-- refusal 4 is given where this fails: at least n bytes, and the length that the file states ('length field') is its own
 abbrev pub lengthOk : ℕ → List ℕ → Bool
 lengthOk n bs = leb n (length bs) && eqb (num 4 (drop 1 bs)) (length bs)
 
@@ -140,7 +140,7 @@ fileDepth bs = getD bs 5 0
 abbrev pub outlineRead : List ℕ → Read Tree
 outlineRead bs = readRoot (fileDepth bs - 2) (drop outlineHead bs)
 
--- refusal 6: 'a record breaks its file's rules'
+-- refusal 6 is given where this fails: the records can be read, and nothing follows them
 unfoldable pub outlineRules : List ℕ → Bool
 outlineRules bs = readWhole (outlineRead bs)
 

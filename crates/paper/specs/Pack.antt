@@ -1,12 +1,12 @@
--- Document 01, 'Packing writes the cells reachable from the root as the store holds them, each list by that number falling, equal ones by cell
--- number': the graph of a scene, and a graph laid out as bytes. Definitions only.
+-- Document 01, 'The packed file', 'Packing writes': the graph of a scene, its cells as the store has them, each list the most popular first and
+-- equally popular ones by their numbers in the store; and a graph laid out as bytes. Definitions only.
 use mathlib.Core.Bool.{cond}
 use mathlib.Core.List.{List, [], _∷_, _++_, map}
 use Prim.Native.Nat.{ℕ, zero, suc, _+_, _-_, _*_, _^_}
 use lib.Dec.{eqb}
 use lib.ListN.{length, getD}
 use Rattle.paper.specs.Numbers.{bytes, flatten, count, tabulate, indexIn}
-use Rattle.paper.specs.Store.{Cell, cellsAt, cellAt, tagOf, cellNo, pointer}
+use Rattle.paper.specs.Store.{Cell, heights, cellsAt, cellAt, tagOf, cellNo, pointer}
 use Rattle.paper.specs.Packed.{packedFront, packedHead, emptyMark, codeFor, popularity}
 
 -- ---- a graph's bytes
@@ -81,6 +81,14 @@ layout k m K =
 unfoldable pub emptyFile : ℕ → List ℕ
 emptyFile D = packedFront ∷ bytes 4 packedHead ++ (D ∷ emptyMark ∷ [])
 
+-- the most bytes of a record: header and eight long pointers
+abbrev pub mostRecord : ℕ
+mostRecord = 34
+
+-- the most bytes of a packed scene of a store of capacity C: head, sizes, one record on top, C records in each list between, C leaves
+abbrev pub packedMost : ℕ → ℕ
+packedMost C = packedHead + 4 * heights + mostRecord + (8 + (heights - 2) * mostRecord) * C
+
 -- ---- the graph of a scene
 
 -- those of q, q + 1 .. q + m - 1 to which f gives c
@@ -97,7 +105,7 @@ ordered f (suc c) m = withCount f (suc c) m 0 ++ ordered f c m
 unfoldable pub next : List (List Cell) → ℕ → List ℕ → List ℕ
 next K k ns = ordered (popularity (map (cellAt K (suc k)) ns)) (length ns) (length (cellsAt K k))
 
--- 'the cells reachable from the root': the numbers of list j, if those of list k are ns
+-- the cells under those numbered ns of list k ('reachable'): the numbers in list j
 unfoldable pub reached : List (List Cell) → ℕ → List ℕ → ℕ → List ℕ
 reached K zero ns j = ns
 reached K (suc k) ns j = let r = reached K k (next K k ns) j in cond (eqb j (suc k)) ns r

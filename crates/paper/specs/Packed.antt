@@ -20,7 +20,7 @@ use Rattle.paper.specs.Questions.{entered}
 
 -- ---- the header
 
--- 'byte 0 is 0x21'
+-- the version byte ('Byte 0')
 abbrev pub packedFront : ℕ
 packedFront = 0x21
 
@@ -28,7 +28,7 @@ packedFront = 0x21
 abbrev pub packedHead : ℕ
 packedHead = 7
 
--- byte 6: 'the root's mirror, or 8 for an empty scene'
+-- byte 6 ('the root's mirror'): the tag under which the scene sees its top record, or the mark of an empty scene
 abbrev pub emptyMark : ℕ
 emptyMark = 8
 
@@ -42,11 +42,11 @@ isEmpty bs = eqb (rootTag bs) emptyMark
 abbrev pub topOf : List ℕ → ℕ
 topOf bs = fileDepth bs - 2
 
--- 'then for heights D down to 3 that list's size in half-words, then the number of leaves, 4 bytes each': the size of list k
+-- the size of list k ('size in half-words'), four bytes, the top list's first; that of the leaves is how many there are
 unfoldable pub sizeAt : List ℕ → ℕ → ℕ
 sizeAt bs k = num 4 (drop (packedHead + 4 * (topOf bs - k)) bs)
 
--- 'then the lists in that order, leaves of 8 bytes last': the bytes of list k and of all that follow it
+-- how many bytes list k and all after it take ('in that order'): the lists follow as their sizes do, a half-word two bytes, a leaf eight
 unfoldable pub tailAt : List ℕ → ℕ → ℕ
 tailAt bs zero = 8 * sizeAt bs 0
 tailAt bs (suc k) = 2 * sizeAt bs (suc k) + tailAt bs k
@@ -62,7 +62,7 @@ listAt bs (suc k) = take (2 * sizeAt bs (suc k)) (drop (startAt bs (suc k)) bs)
 
 -- ---- a record at place p of the bytes l of a list
 
--- 'a two-byte header, two bits for each child (child i in bits 2i and 2i+1): 0 none, 1 a 2-byte pointer, 2 a 4-byte pointer'
+-- its header ('two-byte header'): a code of two bits for each child, child 0 lowest, which counts the half-words of the child's pointer
 abbrev pub headerAt : List ℕ → ℕ → ℕ
 headerAt l p = num 2 (drop (2 * p) l)
 
@@ -76,7 +76,7 @@ unfoldable pub codesOk : ℕ → ℕ → Bool
 codesOk zero h = true
 codesOk (suc n) h = let r = codesOk n (h / 4) in cond (eqb (h % 4) 3) false r
 
--- 'a pointer is three mirror bits, then the child's place': with its code
+-- a pointer with its code ('three mirror bits'): the tag on top, the place in the bits below it
 pub record Link : Type 0 where
   pub code : ℕ
   pub tag : ℕ
@@ -89,7 +89,7 @@ linkOf c v = record { code = c; tag = v / 2 ^ (16 * c - 3); place = v % 2 ^ (16 
 abbrev pub noLink : Link
 noLink = record { code = 0; tag = 0; place = 0 }
 
--- 'then the pointers, i rising': n of them, with the codes of h
+-- the pointers of n children in turn ('then the pointers'), with the codes of h
 unfoldable pub readLinks : ℕ → ℕ → List ℕ → List Link
 readLinks zero h bs = []
 readLinks (suc n) h bs = linkOf (h % 4) (num (2 * (h % 4)) bs) ∷ readLinks n (h / 4) (drop (2 * (h % 4)) bs)
@@ -109,7 +109,7 @@ recordOk l p = ltb 0 (headerAt l p) && codesOk 8 (headerAt l p) && leb (2 * (p +
 unfoldable pub leafOk : List ℕ → ℕ → Bool
 leafOk l p = ltb 0 (leafNo (leafAt l p))
 
--- 'short exactly when its place is at most 8,191'
+-- the code that a place calls for ('short exactly when'): 13 bits of a short pointer reach to 8,191
 abbrev pub farthestShort : ℕ
 farthestShort = 8191
 
@@ -143,20 +143,21 @@ graphOf bs = tabulate 0 (suc (topOf bs)) (cellsOf bs)
 
 -- ---- the rules of a proper file, in document 01's order
 
--- 1. 'the sizes add up to the length'
+-- 1 ('add up'): head, sizes and lists are together as long as the file
 unfoldable pub sizesOk : List ℕ → Bool
 sizesOk bs = eqb (packedHead + 4 * suc (topOf bs) + tailAt bs (topOf bs)) (length bs)
 
--- 2. 'the top list has exactly one record'
+-- 2 ('exactly one record'): of the top list
 unfoldable pub topOk : List ℕ → Bool
 topOk bs = eqb (length (placesAt bs (topOf bs))) 1
 
--- 3. 'every list divides into whole records, no header zero or with code 3, no leaf zero': of list k
+-- 3 ('whole records'): each leaf of list 0 has a voxel; each record of any other list has a header without fault and ends within the list
 unfoldable pub wholeAt : List ℕ → ℕ → Bool
 wholeAt bs zero = allIn (leafOk (listAt bs 0)) (placesAt bs 0)
 wholeAt bs (suc k) = allIn (recordOk (listAt bs (suc k))) (placesAt bs (suc k))
 
--- 4. 'every pointer names the start of a record and is short exactly when its place is at most 8,191': ps are the starts; of list k + 1
+-- 4 ('names the start'): each pointer of list k + 1 leads to one of the places ps, where the records of list k start, and has the code that its
+-- place calls for
 unfoldable pub linkOk : List ℕ → Link → Bool
 linkOk ps l = cond (eqb (l .code) 0) true (isIn (l .place) ps && eqb (l .code) (codeFor (l .place)))
 
@@ -168,21 +169,21 @@ unfoldable pub names : ℕ → Cell → Bool
 names q [] = false
 names q (p ∷ ps) = let r = names q ps in cond (eqb p 0) r (cond (eqb (cellNo p) q) true r)
 
--- 'the number of records one height up that name it': each once, however often it does
+-- how popular number q is ('one height up'): how many of these records name it, each counted once, however many pointers to it it has
 unfoldable pub popularity : List Cell → ℕ → ℕ
 popularity [] q = 0
 popularity (c ∷ cs) q = cond (names q c) 1 0 + popularity cs q
 
--- 5. 'every record below the top is named': of list k, by those of list k + 1
+-- 5 ('below the top'): each record of list k is named by one of list k + 1
 unfoldable pub namedOk : List (List Cell) → ℕ → Bool
 namedOk K k = allBelow (length (cellsAt K k)) (λ q. ltb 0 (popularity (cellsAt K (suc k)) q))
 
--- 6. 'no two of one height match under any mirror': of list k
+-- 6 ('no two of one height'): of list k, by the match rule
 unfoldable pub apartOk : List (List Cell) → ℕ → Bool
 apartOk K k =
     allBelow (length (cellsAt K k)) (λ q. allBelow q (λ r. allBelow 8 (λ t. not (matches K k (cellAt K k q) (cellAt K k r) t))))
 
--- 7. 'every tag, the root's too, is the lowest with the same meaning': no lower one differs from it by a mirror under which the cell matches itself
+-- 7 ('with the same meaning'): no lower tag differs from this one by a mirror under which the cell matches itself; of pointers and of the root
 abbrev pub tagLow : List (List Cell) → ℕ → ℕ → ℕ → Bool
 tagLow K k tag q = allBelow tag (λ u. not (matches K k (cellAt K k q) (cellAt K k q) (bitXor u tag)))
 
@@ -193,7 +194,7 @@ pointerLow K k p = let r = tagLow K k (tagOf p) (cellNo p) in cond (eqb p 0) tru
 unfoldable pub tagsOk : List (List Cell) → ℕ → Bool
 tagsOk K k = allBelow (length (cellsAt K (suc k))) (λ n. allBelow 8 (λ i. pointerLow K k (getD (cellAt K (suc k) n) i 0)))
 
--- 8. 'along each list the number of records one height up that name it never rises': of list k
+-- 8 ('never rises'): in list k, no record is more popular than the one before it
 unfoldable pub fallingOk : List (List Cell) → ℕ → Bool
 fallingOk K k =
     allBelow (length (cellsAt K k) - 1) (λ q. leb (popularity (cellsAt K (suc k)) (suc q)) (popularity (cellsAt K (suc k)) q))
@@ -206,7 +207,7 @@ listsOk bs = topOk bs && allBelow (suc (topOf bs)) (wholeAt bs) && allBelow (top
 unfoldable pub graphOk : ℕ → ℕ → List (List Cell) → Bool
 graphOk k m K = allBelow k (namedOk K) && allBelow (suc k) (apartOk K) && allBelow k (tagsOk K) && tagLow K k m 0 && allBelow k (fallingOk K)
 
--- byte 6: 'at most 8; 8 only at 7 bytes'
+-- byte 6 ('8 only at'): a mirror, or the mark of an empty scene in a file that ends with it
 abbrev pub rootOk : List ℕ → Bool
 rootOk bs = leb (rootTag bs) emptyMark && cond (isEmpty bs) (eqb (length bs) packedHead) true
 
@@ -220,7 +221,7 @@ packedRules bs =
     let r : Bool = listsOk bs && graphOk (topOf bs) (rootTag bs) (graphOf bs) in
     headOk bs && cond (isEmpty bs) true r
 
--- 'a file is proper when'. 'An empty scene's 7 bytes are proper.'
+-- a proper file ('is proper when'): nothing in it that refusals 3 to 6 speak of. An empty scene's file, which has no list, is proper
 unfoldable pub proper : List ℕ → Bool
 proper bs = frontOk packedFront bs && lengthOk packedHead bs && depthOk (fileDepth bs) && packedRules bs
 
@@ -236,7 +237,7 @@ packedRoom bs v =
     let r : Bool = cellVoxel (graphOf bs) k (cellAt (graphOf bs) k 0) (inTop bs v) in
     cond (isEmpty bs) false r
 
--- 'the number of records read on the way, the root's and a leaf's included (0 for an empty scene)'
+-- how many records are on the path to v ('records read'): the top one, then each that a pointer taken names, to a leaf or an absent child
 unfoldable pub packedPath : List ℕ → Point → ℕ
 packedPath bs v =
     let k : ℕ = topOf bs in
@@ -279,8 +280,8 @@ abbrev pub unless : Bool → Way → Way
 unless true w = w
 unless false w = broken
 
--- from the record at place p of list k, seen under tag t: 'it tests on its path each record (header, room in its list, leaf not zero) and the
--- pointer taken (place inside the next list, width)'
+-- from the record at place p of list k, seen under tag t ('on its path'): broken where a record entered is, or where the pointer taken leads past the
+-- next list or hasn't the code that its place calls for; nothing off the path is looked at
 unfoldable pub packedWay : List ℕ → ℕ → ℕ → ℕ → Point → Way
 packedWay bs zero p t v =
     unless (leafOk (listAt bs 0) p) (ended (leafVoxel (leafNo (leafAt (listAt bs 0) p)) (mirror t (edge 0) v)) (record { list = 0; place = p; tag = t } ∷ []))

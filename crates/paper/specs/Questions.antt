@@ -31,8 +31,8 @@ entered K (suc k) c v =
 
 -- ---- damage on a walk
 
--- voxel and cell: 'a bad pointer among the eight of a cell entered'. Cells above list `stop` are entered: a voxel question stops at the leaf,
--- 'a cell question stops above the cell asked for'
+-- voxel and cell ('of a cell entered'): one of the cells entered has a bad pointer. Cells above list `stop` are entered: all above the leaf for a
+-- voxel, and for a cell those above the one asked for ('stops above')
 unfoldable pub wayDamaged : List (List Cell) → ℕ → ℕ → Cell → Point → Bool
 wayDamaged K stop zero c v = false
 wayDamaged K stop (suc k) c v =
@@ -41,8 +41,8 @@ wayDamaged K stop (suc k) c v =
     let here : Bool = cond (anyBad (length (cellsAt K k)) c) true (cond (eqb p 0) false r) in
     cond (leb (suc k) stop) false here
 
--- box: 'among children whose cubes share a voxel with it'. Those children are the ones that hold a voxel of the box, so a box is damaged where
--- a pointer taken on the way to one of its voxels is bad
+-- box ('share a voxel'): only children that hold a voxel of the box count, so a box is damaged where a pointer taken on the way to one of its voxels
+-- is bad
 unfoldable pub takenBad : List (List Cell) → ℕ → Cell → Point → Bool
 takenBad K zero c v = false
 takenBad K (suc k) c v =
@@ -68,14 +68,14 @@ pointerTo K stop (suc k) p v =
 abbrev pub corner : ℕ → Point → Point
 corner h c = point (c .x * 2 ^ h) (c .y * 2 ^ h) (c .z * 2 ^ h)
 
--- voxel: 'solid or empty'
+-- voxel: is it solid
 abbrev pub voxelSolid : List (List Cell) → ℕ → ℕ → Room
 voxelSolid K D p = rootRoom K D p
 
 abbrev pub voxelWay : List (List Cell) → ℕ → ℕ → Point → Bool
 voxelWay K D p v = fromRoot (wayDamaged K 0) K D p v
 
--- cell: 'non-empty or empty', 'whose pointer or bits decide': the pointer from height 2 up, below that the leaf's bits
+-- cell ('pointer or bits'): from height 2 up it is non-empty where there is a pointer to it, below that where the leaf has a solid voxel in it
 unfoldable pub cellFull : List (List Cell) → ℕ → ℕ → ℕ → Point → Bool
 cellFull K D p h c =
     let bits : Bool = nonEmpty (2 ^ h) (cellOf (rootRoom K D p) h c) in
@@ -85,7 +85,7 @@ cellFull K D p h c =
 abbrev pub cellWay : List (List Cell) → ℕ → ℕ → ℕ → Point → Bool
 cellWay K D p h c = fromRoot (wayDamaged K (h - 2)) K D p (corner h c)
 
--- box: 'how many solid voxels v have low <= v < high on each axis'
+-- box: how many of its voxels are solid
 abbrev pub boxSolid : List (List Cell) → ℕ → ℕ → Point → Point → ℕ
 boxSolid K D p low high = boxCount (2 ^ D) (rootRoom K D p) low high
 

@@ -19,7 +19,7 @@ point a b c = record { x = a; y = b; z = c }
 abbrev pub Room : Type 0
 Room = Point → Bool
 
--- 'a scene has a depth D, 2 to 16'
+-- the least and the greatest depth of a scene ('has a depth'); cells are kept at the heights between them
 abbrev pub least : ℕ
 least = 2
 
@@ -38,14 +38,15 @@ pub record Inside (S : ℕ) (v : Point) : Type 0 where
   pub inY : v .y < S
   pub inZ : v .z < S
 
--- ---- cells: 'a cell of height h is an aligned cube of edge 2^h'
+-- ---- cells ('A cell of height h'): cubes of edge 2 ^ h, their corners at multiples of that edge
 
 -- the cell of height h at c, c counted in cells of that height
 abbrev pub cellOf : Room → ℕ → Point → Room
 cellOf r h c v = r (point (c .x * 2 ^ h + v .x) (c .y * 2 ^ h + v .y) (c .z * 2 ^ h + v .z))
 
--- 'eight children, number i = x + 2y + 4z, each bit saying which half': the number of the child that holds v, S the children's edge;
--- where v lies in it; and child i of a cell
+-- ---- children ('eight children'), numbered by three bits, the lowest for x: a bit is 1 in the upper half of its axis
+
+-- the number of the child that holds v, S being the children's edge; where v lies in it; and child i of a cell
 abbrev pub childNo : ℕ → Point → ℕ
 childNo S v = v .x / S + 2 * (v .y / S) + 4 * (v .z / S)
 
@@ -55,7 +56,7 @@ inChild S v = point (v .x % S) (v .y % S) (v .z % S)
 abbrev pub childRoom : ℕ → ℕ → Room → Room
 childRoom S i r v = r (point (i % 2 * S + v .x) (i / 2 % 2 * S + v .y) (i / 4 % 2 * S + v .z))
 
--- ---- mirrors: 'bit 0 for x, bit 1 for y, bit 2 for z. On a marked axis, coordinate c in a cube of edge S becomes S - 1 - c'
+-- ---- mirrors ('A mirror t'): each bit of t marks an axis, the lowest x; along a marked axis a cube's coordinates run backwards
 
 abbrev pub flip : Bool → ℕ → ℕ → ℕ
 flip true S c = S - 1 - c
@@ -91,7 +92,7 @@ Image S a b = (t : ℕ) × (t < 8) × Same S a (mirrored t S b)
 abbrev pub NonEmpty : ℕ → Room → Type 0
 NonEmpty S r = (v : Point) × Inside S v × (r v ≡ true)
 
--- ---- boxes: 'how many solid voxels v have low <= v < high on each axis'
+-- ---- boxes ('Box:'): on each axis low belongs to the box and high does not
 
 abbrev pub inBox : Point → Point → Point → Bool
 inBox low high v =

@@ -114,11 +114,17 @@ nothing n = O.none
 abbrev pub holding : ℕ → Scene → Held → Held
 holding n s held m = cond (eqb m n) (some s) (held m)
 
+-- a room alone, under number 0
+abbrev pub alone : ℕ → Room → Held
+alone D r = holding 0 (record { file = []; depth = D; room = r }) nothing
+
 -- ---- a run
 
 pub record State : Type 0 where
   pub words : List ℕ
   pub held : Held
+  -- the C of the last accepted new store
+  pub capacity : ℕ
 
 abbrev pub accepted : Outcome → Bool
 accepted o = eqb (o .number) 0
@@ -140,8 +146,24 @@ heldAfter s (opening file) = s .held
 heldAfter s (ask file D starts v) = s .held
 heldAfter s (detail D w) = s .held
 
+-- an accepted new store has the capacity given; nothing else changes it
+abbrev pub capacityAfter : State → Call → ℕ
+capacityAfter s (new C) = cond (accepted (newOutcome C (s .words))) C (s .capacity)
+capacityAfter s (add file) = s .capacity
+capacityAfter s (voxel n v) = s .capacity
+capacityAfter s (cell n h c) = s .capacity
+capacityAfter s (box n low high) = s .capacity
+capacityAfter s (kept h) = s .capacity
+capacityAfter s (outline n out) = s .capacity
+capacityAfter s (pack n scratch out) = s .capacity
+capacityAfter s (check file scratch) = s .capacity
+capacityAfter s (packedVoxel file v) = s .capacity
+capacityAfter s (opening file) = s .capacity
+capacityAfter s (ask file D starts v) = s .capacity
+capacityAfter s (detail D w) = s .capacity
+
 abbrev pub step : State → Call → State
-step s c = record { words = wordsAfter (s .words) c; held = heldAfter s c }
+step s c = record { words = wordsAfter (s .words) c; held = heldAfter s c; capacity = capacityAfter s c }
 
 unfoldable pub run : State → List Call → State
 run s [] = s
@@ -149,7 +171,7 @@ run s (c ∷ cs) = run (step s c) cs
 
 -- a new store of capacity C in these words
 abbrev pub start : ℕ → List ℕ → State
-start C ws = record { words = wordsAfter ws (new C); held = nothing }
+start C ws = record { words = wordsAfter ws (new C); held = nothing; capacity = C }
 
 abbrev pub AllGiven : List Call → Type 0
 AllGiven [] = Unit {0}

@@ -28,7 +28,7 @@ cellAt K k q = getD (cellsAt K k) q []
 abbrev pub leafNo : Cell → ℕ
 leafNo c = getD c 0 0 * 2 ^ 32 + getD c 1 0
 
--- ---- pointers: '0 for none; otherwise its top three bits are a mirror and its low 29 bits the kept cell's number plus 1'
+-- ---- pointers ('A pointer is 0'): 0 names nothing; any other has a mirror, its tag, above 29 bits that hold the cell's number, counted from 1
 
 -- the unit of the three mirror bits: 29 bits lie below them
 abbrev pub tagUnit : ℕ
@@ -46,17 +46,17 @@ cellNo p = lowOf p - 1
 abbrev pub pointer : ℕ → ℕ → ℕ
 pointer tag n = tag * tagUnit + (n + 1)
 
--- 'bad: not 0 and its number is not kept', n cells being kept at the height pointed to. A tag with no number is bad.
+-- a pointer that claims to name a cell and does not ('Bad:'), n cells being kept at the height pointed to. A tag with no number is bad.
 abbrev pub badPointer : ℕ → ℕ → Bool
 badPointer n p = not (eqb p 0) && not (leb 1 (lowOf p) && leb (lowOf p) n)
 
--- 'a bad pointer among the eight of a cell', n cells being kept one height down
+-- some pointer of a cell is bad ('among the eight'), n cells being kept one height down
 abbrev pub anyBad : ℕ → Cell → Bool
 anyBad n c = anyBelow 8 (λ i. badPointer n (getD c i 0))
 
 -- ---- the words, by named places
 
--- 'C (1 to 65,536)', 'scenes held, at most 64', heights 2 to 16
+-- the greatest capacity, the most scenes, and at how many heights cells are kept
 abbrev pub mostCapacity : ℕ
 mostCapacity = 65536
 
@@ -73,11 +73,11 @@ firstScene = 32
 abbrev pub firstList : ℕ
 firstList = 160
 
--- 'for capacity C it uses the first 160 + 114C words'
+-- how many words a store of capacity C has ('uses the first'): for each of C cells two at height 2 and eight at each of 14 heights
 abbrev pub used : ℕ → ℕ
 used C = firstList + 114 * C
 
--- 'word 0: C. Word 1: scenes held. Words 2 to 16: cells kept at heights 2 to 16. Words 17 to 31: zero'
+-- the header ('Word 0'): the capacity, the number of scenes held, how many cells each height keeps, and from `zerosPlace` on nothing
 abbrev pub capacityOf : List ℕ → ℕ
 capacityOf ws = getD ws 0 0
 
@@ -90,11 +90,12 @@ keptCount ws k = getD ws (2 + k) 0
 abbrev pub zerosPlace : ℕ
 zerosPlace = 17
 
--- 'words 32 to 159: 64 scenes of two words, depth and root pointer'
+-- where the two words of scene n are ('64 scenes of two'), its depth first, then its root pointer
 abbrev pub scenePlace : ℕ → ℕ
 scenePlace n = firstScene + 2 * n
 
--- 'then C leaves of two words, then for heights 3 to 16 in turn C cells of 8 pointers': the words of a cell of list k, where list k starts
+-- the lists ('Then C leaves'), lowest height first, each with room for C cells: the words of a cell of list k, where the list starts, where its
+-- cell n does
 abbrev pub cellWords : ℕ → ℕ
 cellWords zero = 2
 cellWords (suc k) = 8
@@ -131,7 +132,7 @@ sceneRoot ws n = getD ws (scenePlace n + 1) 0
 
 -- ---- from cells to words
 
--- these cells' words, and zeros up to n words: 'unused words are zero'
+-- these cells' words, and zeros up to n words ('Unused words')
 unfoldable pub padded : ℕ → List Cell → List ℕ
 padded n cs = flatten cs ++ replicate (n - length (flatten cs)) 0
 
@@ -159,17 +160,17 @@ blank ws a n = allIn (eqb 0) (take n (drop a ws))
 abbrev pub capacityOk : ℕ → Bool
 capacityOk C = leb 1 C && leb C mostCapacity
 
--- 'damaged, header: words 0 to 31 out of range, or slice too short'
+-- the header is not damaged ('Damaged, header'): the slice has all words of its capacity, and each of the first 32 is in its range
 unfoldable pub headerOk : List ℕ → Bool
 headerOk ws =
     leb (used (capacityOf ws)) (length ws) && capacityOk (capacityOf ws) && leb (scenesHeld ws) mostScenes
     && allBelow heights (λ k. leb (keptCount ws k) (capacityOf ws)) && blank ws zerosPlace (firstScene - zerosPlace)
 
--- 'scene: depth not 2 to 16, or a bad root pointer'
+-- the two words of scene n are not damaged ('Scene:')
 unfoldable pub sceneOk : List ℕ → ℕ → Bool
 sceneOk ws n = depthOk (sceneDepth ws n) && not (badPointer (keptCount ws (sceneDepth ws n - 2)) (sceneRoot ws n))
 
--- 'used cells not empty': a leaf with a voxel; a cell with a child and no bad pointer
+-- a kept cell that may stand in a store ('used cells'): a leaf with a voxel; any other with a child and no bad pointer
 unfoldable pub leafUsable : Cell → Bool
 leafUsable c = ltb 0 (leafNo c)
 
@@ -180,7 +181,7 @@ unfoldable pub listUsable : List (List Cell) → ℕ → Bool
 listUsable K zero = allIn leafUsable (cellsAt K 0)
 listUsable K (suc k) = allIn (cellUsable (length (cellsAt K k))) (cellsAt K (suc k))
 
--- 'unused words zero': of the scenes, and of list k
+-- nothing stands past the scenes held, nor past the cells kept in list k
 abbrev pub scenesBlank : List ℕ → Bool
 scenesBlank ws = blank ws (scenePlace (scenesHeld ws)) (2 * (mostScenes - scenesHeld ws))
 
@@ -188,7 +189,7 @@ abbrev pub listBlank : List ℕ → ℕ → Bool
 listBlank ws k =
     blank ws (cellPlace (capacityOf ws) k (keptCount ws k)) (cellWords k * (capacityOf ws - keptCount ws k))
 
--- 'add, outline and pack test all of that for the whole store, with used cells not empty and unused words zero'
+-- the whole store is not damaged ('for the whole store'): its header, every scene held, every kept cell, and nothing where nothing is held or kept
 unfoldable pub storeOk : List ℕ → Bool
 storeOk ws =
     headerOk ws && allBelow (scenesHeld ws) (sceneOk ws) && scenesBlank ws

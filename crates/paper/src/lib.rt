@@ -307,13 +307,13 @@ impl Found {
     }
 }
 
-// Distance and factor, kept together.
+// A distance with the factor that goes with it.
 pub struct Sight {
     pub distance: f64,
     pub factor: f64,
 }
 
-// What is wished for: every voxel, a widest edge, or a distance with its factor.
+// What is wished for, in one of three ways.
 pub enum Wish {
     EveryVoxel,
     WidestEdge(f64),
@@ -348,8 +348,8 @@ impl Chosen {
     }
 }
 
-// A packed scene opened for many questions: its bytes beside the numbers of its header, the depth and where each list
-// starts. starts[k] is the position in the bytes at which the list of height k + 2 begins, 0 above the depth.
+// A packed scene opened for many questions: the file itself, its depth, and where its lists begin. starts[k] is the
+// position in the bytes at which the list of height k + 2 begins, 0 above the depth.
 pub struct Opened<'a> {
     pub bytes: &'a [u8],
     pub depth: u32,

@@ -5,7 +5,7 @@ use Rattle.laws.proofs.MirrorClaim as MirrorClaim
 use Rattle.laws.proofs.OutlineClaim as OutlineClaim
 use Rattle.laws.proofs.RunClaims as RunClaims
 use Rattle.laws.proofs.PackClaim as PackClaim
-use Rattle.laws.proofs.ProperClaim as ProperClaim
+use Rattle.laws.proofs.PackedClaims as PackedClaims
 use Rattle.laws.proofs.OpenClaim as OpenClaim
 use Rattle.laws.proofs.Unseen as Unseen
 use Rattle.detail.proofs.Claims as DetailClaim
@@ -36,7 +36,7 @@ claim6 = PackClaim.claim6
 
 -- proper files
 pub claim7 : C7
-claim7 = ProperClaim.claim7
+claim7 = PackedClaims.claim7
 
 -- opened scenes
 pub claim8 : C8

@@ -1,6 +1,6 @@
--- One outcome: for each public call, two outcomes that meet its promise on the same input are equal, the answer and every slice lent for writing.
--- An answer can be read back from its number and values, so that equal outcomes come from equal answers; the thirteen theorems follow in the order of
--- the calls. Assumes nothing.
+-- One outcome: for each public call, two results that meet its promise on the same input are equal, the answer and every slice lent for writing.
+-- The promise is the one that the call's `ensures` cites. An answer can be read back from its number and values, so that equal outcomes come from
+-- equal answers; the thirteen theorems follow in the order of the calls. Assumes nothing.
 use mathlib.Core.Path.{_≡_, refl, sym, ap, _∙_}
 use mathlib.Core.List.{List, [], _∷_}
 use Prim.Native.Nat.{ℕ, zero, suc}
@@ -21,8 +21,7 @@ use Rattle.paper.specs.declared.Opening.{Opening}
 use Rattle.paper.specs.declared.Wish.{Wish}
 use Rattle.paper.specs.Rooms.{Point}
 use Rattle.paper.specs.Answers.{Outcome, Told, outcome, numberOf, started, added, seen, occupied, counted, kept, written, checked, found, chosen, opened, holds}
-use Rattle.paper.specs.Calls.{newOutcome, addOutcome, voxelOutcome, cellOutcome, boxOutcome, keptOutcome, outlineOutcome, packOutcome, checkOutcome, packedVoxelOutcome, openOutcome, askOutcome}
-use Rattle.paper.specs.Detail.{detailOutcome}
+use Rattle.paper.specs.Promises.{NewStorePromise, AddPromise, VoxelPromise, CellPromise, BoxPromise, KeptPromise, OutlinePromise, PackPromise, CheckPromise, PackedVoxelPromise, OpenPromise, AskPromise, DetailPromise}
 
 -- ---- a refusal from its number
 
@@ -159,57 +158,43 @@ lent-at i ls = getD ls i []
 
 -- ---- the thirteen calls
 
-pub new-store : (C : ℕ) (ws : List ℕ) {r s : Started} {xs ys : List ℕ}
-    → outcome (started r) (xs ∷ []) ≡ newOutcome C ws → outcome (started s) (ys ∷ []) ≡ newOutcome C ws → (r ≡ s) × (xs ≡ ys)
+pub new-store : (C : ℕ) (ws : List ℕ) {r s : Started} {xs ys : List ℕ} → NewStorePromise C ws r xs → NewStorePromise C ws s ys → (r ≡ s) × (xs ≡ ys)
 new-store C ws a b = (same-answer started startedOf started-back a b, ap (lent-at 0) (same-lent a b))
 
-pub add : (ws file : List ℕ) {r s : Added} {xs ys : List ℕ}
-    → outcome (added r) (xs ∷ []) ≡ addOutcome ws file → outcome (added s) (ys ∷ []) ≡ addOutcome ws file → (r ≡ s) × (xs ≡ ys)
+pub add : (ws file : List ℕ) {r s : Added} {xs ys : List ℕ} → AddPromise ws file r xs → AddPromise ws file s ys → (r ≡ s) × (xs ≡ ys)
 add ws file a b = (same-answer added addedOf added-back a b, ap (lent-at 0) (same-lent a b))
 
-pub voxel : (ws : List ℕ) (n : ℕ) (v : Point) {r s : Seen}
-    → outcome (seen r) [] ≡ voxelOutcome ws n v → outcome (seen s) [] ≡ voxelOutcome ws n v → r ≡ s
+pub voxel : (ws : List ℕ) (n : ℕ) (v : Point) {r s : Seen} → VoxelPromise ws n v r → VoxelPromise ws n v s → r ≡ s
 voxel ws n v a b = same-answer seen seenOf seen-back a b
 
-pub cell : (ws : List ℕ) (n h : ℕ) (c : Point) {r s : Occupied}
-    → outcome (occupied r) [] ≡ cellOutcome ws n h c → outcome (occupied s) [] ≡ cellOutcome ws n h c → r ≡ s
+pub cell : (ws : List ℕ) (n h : ℕ) (c : Point) {r s : Occupied} → CellPromise ws n h c r → CellPromise ws n h c s → r ≡ s
 cell ws n h c a b = same-answer occupied occupiedOf occupied-back a b
 
-pub box-count : (ws : List ℕ) (n : ℕ) (low high : Point) {r s : Counted}
-    → outcome (counted r) [] ≡ boxOutcome ws n low high → outcome (counted s) [] ≡ boxOutcome ws n low high → r ≡ s
+pub box-count : (ws : List ℕ) (n : ℕ) (low high : Point) {r s : Counted} → BoxPromise ws n low high r → BoxPromise ws n low high s → r ≡ s
 box-count ws n low high a b = same-answer counted countedOf counted-back a b
 
-pub kept-cells : (ws : List ℕ) (h : ℕ) {r s : Kept}
-    → outcome (kept r) [] ≡ keptOutcome ws h → outcome (kept s) [] ≡ keptOutcome ws h → r ≡ s
+pub kept-cells : (ws : List ℕ) (h : ℕ) {r s : Kept} → KeptPromise ws h r → KeptPromise ws h s → r ≡ s
 kept-cells ws h a b = same-answer kept keptOf kept-back a b
 
-pub outline-out : (ws : List ℕ) (n : ℕ) (out : List ℕ) {r s : Written} {xs ys : List ℕ}
-    → outcome (written r) (xs ∷ []) ≡ outlineOutcome ws n out → outcome (written s) (ys ∷ []) ≡ outlineOutcome ws n out → (r ≡ s) × (xs ≡ ys)
+pub outline-out : (ws : List ℕ) (n : ℕ) (out : List ℕ) {r s : Written} {xs ys : List ℕ} → OutlinePromise ws n out r xs → OutlinePromise ws n out s ys → (r ≡ s) × (xs ≡ ys)
 outline-out ws n out a b = (same-answer written writtenOf written-back a b, ap (lent-at 0) (same-lent a b))
 
 pub pack : (ws : List ℕ) (n : ℕ) (scratch out : List ℕ) {r s : Written} {xs ys us vs : List ℕ}
-    → outcome (written r) (xs ∷ us ∷ []) ≡ packOutcome ws n scratch out → outcome (written s) (ys ∷ vs ∷ []) ≡ packOutcome ws n scratch out
-    → (r ≡ s) × (xs ≡ ys) × (us ≡ vs)
+    → PackPromise ws n scratch out r xs us → PackPromise ws n scratch out s ys vs → (r ≡ s) × (xs ≡ ys) × (us ≡ vs)
 pack ws n scratch out a b = (same-answer written writtenOf written-back a b, ap (lent-at 0) (same-lent a b), ap (lent-at 1) (same-lent a b))
 
-pub check : (file scratch : List ℕ) {r s : Checked} {xs ys : List ℕ}
-    → outcome (checked r) (xs ∷ []) ≡ checkOutcome file scratch → outcome (checked s) (ys ∷ []) ≡ checkOutcome file scratch → (r ≡ s) × (xs ≡ ys)
+pub check : (file scratch : List ℕ) {r s : Checked} {xs ys : List ℕ} → CheckPromise file scratch r xs → CheckPromise file scratch s ys → (r ≡ s) × (xs ≡ ys)
 check file scratch a b = (same-answer checked checkedOf checked-back a b, ap (lent-at 0) (same-lent a b))
 
-pub packed-voxel : (file : List ℕ) (v : Point) {r s : Found}
-    → outcome (found r) [] ≡ packedVoxelOutcome file v → outcome (found s) [] ≡ packedVoxelOutcome file v → r ≡ s
+pub packed-voxel : (file : List ℕ) (v : Point) {r s : Found} → PackedVoxelPromise file v r → PackedVoxelPromise file v s → r ≡ s
 packed-voxel file v a b = same-answer found foundOf found-back a b
 
 -- an opening is a struct: its number, depth, list starts and the bytes that it holds
-pub opening : (file : List ℕ) (r s : Opening)
-    → outcome (opened r) (holds r ∷ []) ≡ openOutcome file → outcome (opened s) (holds s ∷ []) ≡ openOutcome file
-    → (opened r ≡ opened s) × (holds r ≡ holds s)
+pub opening : (file : List ℕ) (r s : Opening) → OpenPromise file r → OpenPromise file s → (opened r ≡ opened s) × (holds r ≡ holds s)
 opening file r s a b = (ap (λ (o : Outcome). record { number = o .number; values = o .values }) (a ∙ sym b), ap (lent-at 0) (same-lent a b))
 
-pub ask : (file : List ℕ) (D : ℕ) (starts : List ℕ) (v : Point) {r s : Found}
-    → outcome (found r) [] ≡ askOutcome file D starts v → outcome (found s) [] ≡ askOutcome file D starts v → r ≡ s
+pub ask : (file : List ℕ) (D : ℕ) (starts : List ℕ) (v : Point) {r s : Found} → AskPromise file D starts v r → AskPromise file D starts v s → r ≡ s
 ask file D starts v a b = same-answer found foundOf found-back a b
 
-pub detail : (depth : ℕ) (wish : Wish) {r s : Chosen}
-    → outcome (chosen r) [] ≡ detailOutcome depth wish → outcome (chosen s) [] ≡ detailOutcome depth wish → r ≡ s
+pub detail : (depth : ℕ) (wish : Wish) {r s : Chosen} → DetailPromise depth wish r → DetailPromise depth wish s → r ≡ s
 detail depth wish a b = same-answer chosen chosenOf chosen-back a b

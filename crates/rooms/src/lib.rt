@@ -1,11 +1,7 @@
-// The public calls of the room store. Each promise is one equation: the outcome read from the answer is document 01's,
-// as `paper` defines it. No call asks anything of its caller.
-ghost use mathlib.Core.Path.{_≡_};
-ghost use mathlib.Core.List.{[], _∷_};
-ghost use Rattle.paper.specs.Answers.{outcome, started, added, seen, occupied, counted, kept as kept-told, written, checked, found, chosen};
-ghost use Rattle.paper.specs.Calls.{newOutcome, addOutcome, voxelOutcome, cellOutcome, boxOutcome, keptOutcome, outlineOutcome, packOutcome, checkOutcome, packedVoxelOutcome};
-ghost use Rattle.paper.specs.Detail.{detailOutcome};
+// The public calls of the room store. Each promise stands in `paper`, by name, as one equation: the outcome read from the answer
+// is document 01's. No call asks anything of its caller.
 ghost use Rattle.paper.specs.Rooms.{point};
+ghost use Rattle.paper.specs.Promises.{NewStorePromise, AddPromise, VoxelPromise, CellPromise, BoxPromise, KeptPromise, OutlinePromise, PackPromise, CheckPromise, PackedVoxelPromise, DetailPromise};
 use boxes::Corner;
 use paper::Added;
 use paper::Checked;
@@ -26,33 +22,33 @@ pub use opened::open;
 
 // New store: the words of this capacity zeroed, then word 0 set; refused by 1.
 pub fn new_store(store: &mut [u32], capacity: u32) -> Started
-    ensures { λ r. ⌜ outcome (started r) (now (store .exit) ∷ []) ≡ newOutcome capacity (now (store .entry)) ⌝ }
+    ensures { λ r. ⌜ NewStorePromise capacity (now (store .entry)) r (now (store .exit)) ⌝ }
 {
     store::new_store(store, capacity)
 }
 
 // Add: the scene of an outline, its cells merged into those kept; answers its number. Refused by 2, 3, 4, 5, 6, 7, 8.
 pub fn add(store: &mut [u32], file: &[u8]) -> Added
-    ensures { λ r. ⌜ outcome (added r) (now (store .exit) ∷ []) ≡ addOutcome (now (store .entry)) (now (file .entry)) ⌝ }
+    ensures { λ r. ⌜ AddPromise (now (store .entry)) (now (file .entry)) r (now (store .exit)) ⌝ }
 {
     merge::add(store, file)
 }
 
 // Voxel: solid or empty; refused by 2 (header), 9, 2 (the scene's two words), 10, 2 (walk).
 pub fn voxel(store: &[u32], scene: u32, x: u32, y: u32, z: u32) -> Seen
-    ensures { λ r. ⌜ outcome (seen r) [] ≡ voxelOutcome (now (store .entry)) scene (point x y z) ⌝ }
+    ensures { λ r. ⌜ VoxelPromise (now (store .entry)) scene (point x y z) r ⌝ }
 {
     walk::voxel(store, scene, x, y, z)
 }
 
 // Cell: non-empty or empty, x, y and z counted in cells of its height; refused as voxel.
 pub fn cell(store: &[u32], scene: u32, height: u32, x: u32, y: u32, z: u32) -> Occupied
-    ensures { λ r. ⌜ outcome (occupied r) [] ≡ cellOutcome (now (store .entry)) scene height (point x y z) ⌝ }
+    ensures { λ r. ⌜ CellPromise (now (store .entry)) scene height (point x y z) r ⌝ }
 {
     walk::cell(store, scene, height, x, y, z)
 }
 
-// Box: how many solid voxels v have low <= v < high on each axis; refused as voxel.
+// Box: the number of solid voxels from the low corner up to the high one, which is outside; refused as voxel.
 pub fn box_count(
     store: &[u32],
     scene: u32,
@@ -63,7 +59,7 @@ pub fn box_count(
     highy: u32,
     highz: u32,
 ) -> Counted
-    ensures { λ r. ⌜ outcome (counted r) [] ≡ boxOutcome (now (store .entry)) scene (point lowx lowy lowz) (point highx highy highz) ⌝ }
+    ensures { λ r. ⌜ BoxPromise (now (store .entry)) scene (point lowx lowy lowz) (point highx highy highz) r ⌝ }
 {
     let low = Corner {
         x: lowx,
@@ -80,42 +76,42 @@ pub fn box_count(
 
 // Kept: how many cells are kept at a height; refused by 2 (header), 10.
 pub fn kept(store: &[u32], height: u32) -> Kept
-    ensures { λ r. ⌜ outcome (kept-told r) [] ≡ keptOutcome (now (store .entry)) height ⌝ }
+    ensures { λ r. ⌜ KeptPromise (now (store .entry)) height r ⌝ }
 {
     store::kept(store, height)
 }
 
 // Outline out: the outline of a scene; answers its length. Refused by 2, 9, 12.
 pub fn outline_out(store: &[u32], scene: u32, out: &mut [u8]) -> Written
-    ensures { λ r. ⌜ outcome (written r) (now (out .exit) ∷ []) ≡ outlineOutcome (now (store .entry)) scene (now (out .entry)) ⌝ }
+    ensures { λ r. ⌜ OutlinePromise (now (store .entry)) scene (now (out .entry)) r (now (out .exit)) ⌝ }
 {
     outline_out::outline_out(store, scene, out)
 }
 
 // Pack: a scene as a packed file; answers its length. Refused by 2, 9, 11, 12.
 pub fn pack(store: &[u32], scene: u32, scratch: &mut [u32], out: &mut [u8]) -> Written
-    ensures { λ r. ⌜ outcome (written r) (now (scratch .exit) ∷ now (out .exit) ∷ []) ≡ packOutcome (now (store .entry)) scene (now (scratch .entry)) (now (out .entry)) ⌝ }
+    ensures { λ r. ⌜ PackPromise (now (store .entry)) scene (now (scratch .entry)) (now (out .entry)) r (now (scratch .exit)) (now (out .exit)) ⌝ }
 {
     pack::pack(store, scene, scratch, out)
 }
 
 // Packed check: the depth of a proper file; refused by 11, 3, 4, 5, 6.
 pub fn check(file: &[u8], scratch: &mut [u8]) -> Checked
-    ensures { λ r. ⌜ outcome (checked r) (now (scratch .exit) ∷ []) ≡ checkOutcome (now (file .entry)) (now (scratch .entry)) ⌝ }
+    ensures { λ r. ⌜ CheckPromise (now (file .entry)) (now (scratch .entry)) r (now (scratch .exit)) ⌝ }
 {
     proper::check(file, scratch)
 }
 
 // Packed voxel: solid or empty, with the number of records read on the way; refused by 3, 4, 5, 10, 6.
 pub fn packed_voxel(file: &[u8], x: u32, y: u32, z: u32) -> Found
-    ensures { λ r. ⌜ outcome (found r) [] ≡ packedVoxelOutcome (now (file .entry)) (point x y z) ⌝ }
+    ensures { λ r. ⌜ PackedVoxelPromise (now (file .entry)) (point x y z) r ⌝ }
 {
     packed::packed_voxel(file, x, y, z)
 }
 
 // Detail: the height at which to draw a scene of this depth; refused by 5, 13.
 pub fn detail(depth: u32, wish: Wish) -> Chosen
-    ensures { λ r. ⌜ outcome (chosen r) [] ≡ detailOutcome depth wish ⌝ }
+    ensures { λ r. ⌜ DetailPromise depth wish r ⌝ }
 {
     detail::detail(depth, wish)
 }

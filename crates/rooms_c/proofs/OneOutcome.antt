@@ -1,5 +1,5 @@
 -- One outcome: for each of the thirteen exports, two results that meet its promise on the same input are equal: the number, every value written and
--- every slice lent for writing. They are parts of an outcome, and both outcomes are the one that the promise names. Assumes nothing.
+-- every slice lent for writing. The promise is the one that the export's `ensures` cites. They are parts of an outcome, and both outcomes are the one that the promise names. Assumes nothing.
 use mathlib.Core.Path.{_≡_, sym, ap, _∙_}
 use mathlib.Core.List.{List, [], _∷_}
 use Prim.Native.Nat.{ℕ}
@@ -7,8 +7,7 @@ use lib.Ieee.{Float}
 use lib.ListN.{getD}
 use Rattle.paper.specs.Rooms.{Point}
 use Rattle.paper.specs.Answers.{Outcome, told, outcome}
-use Rattle.paper.specs.Calls.{newOutcome, addOutcome, voxelOutcome, cellOutcome, boxOutcome, keptOutcome, outlineOutcome, packOutcome, checkOutcome, packedVoxelOutcome}
-use Rattle.rooms_c.specs.Exports.{openCOutcome, askCOutcome, detailCOutcome}
+use Rattle.rooms_c.specs.Exports.{RoomsNewPromise, RoomsAddPromise, RoomsVoxelPromise, RoomsCellPromise, RoomsBoxPromise, RoomsKeptPromise, RoomsOutlinePromise, RoomsPackPromise, RoomsCheckPromise, RoomsPackedVoxelPromise, RoomsOpenPromise, RoomsAskPromise, RoomsDetailPromise}
 
 -- ---- the parts of equal outcomes
 
@@ -41,62 +40,51 @@ two-values a b = (same-number a b, same-value a b 0, same-value a b 1)
 
 -- ---- the thirteen exports
 
-pub rooms-new : (C : ℕ) (ws : List ℕ) {n m : ℕ} {xs ys : List ℕ}
-    → outcome (told n []) (xs ∷ []) ≡ newOutcome C ws → outcome (told m []) (ys ∷ []) ≡ newOutcome C ws → (n ≡ m) × (xs ≡ ys)
+pub rooms-new : (C : ℕ) (ws : List ℕ) {n m : ℕ} {xs ys : List ℕ} → RoomsNewPromise C ws n xs → RoomsNewPromise C ws m ys → (n ≡ m) × (xs ≡ ys)
 rooms-new C ws a b = slice-only a b
 
-pub rooms-add : (ws file : List ℕ) {n m scene scene′ : ℕ} {xs ys : List ℕ}
-    → outcome (told n (scene ∷ [])) (xs ∷ []) ≡ addOutcome ws file → outcome (told m (scene′ ∷ [])) (ys ∷ []) ≡ addOutcome ws file
+pub rooms-add : (ws file : List ℕ) {n m scene scene′ : ℕ} {xs ys : List ℕ} → RoomsAddPromise ws file n scene xs → RoomsAddPromise ws file m scene′ ys
     → (n ≡ m) × (scene ≡ scene′) × (xs ≡ ys)
 rooms-add ws file a b = one-slice a b
 
-pub rooms-voxel : (ws : List ℕ) (scene : ℕ) (v : Point) {n m solid solid′ : ℕ}
-    → outcome (told n (solid ∷ [])) [] ≡ voxelOutcome ws scene v → outcome (told m (solid′ ∷ [])) [] ≡ voxelOutcome ws scene v → (n ≡ m) × (solid ≡ solid′)
+pub rooms-voxel : (ws : List ℕ) (scene : ℕ) (v : Point) {n m solid solid′ : ℕ} → RoomsVoxelPromise ws scene v n solid → RoomsVoxelPromise ws scene v m solid′
+    → (n ≡ m) × (solid ≡ solid′)
 rooms-voxel ws scene v a b = one-value a b
 
-pub rooms-cell : (ws : List ℕ) (scene h : ℕ) (c : Point) {n m full full′ : ℕ}
-    → outcome (told n (full ∷ [])) [] ≡ cellOutcome ws scene h c → outcome (told m (full′ ∷ [])) [] ≡ cellOutcome ws scene h c → (n ≡ m) × (full ≡ full′)
+pub rooms-cell : (ws : List ℕ) (scene h : ℕ) (c : Point) {n m full full′ : ℕ} → RoomsCellPromise ws scene h c n full → RoomsCellPromise ws scene h c m full′
+    → (n ≡ m) × (full ≡ full′)
 rooms-cell ws scene h c a b = one-value a b
 
-pub rooms-box : (ws : List ℕ) (scene : ℕ) (low high : Point) {n m count count′ : ℕ}
-    → outcome (told n (count ∷ [])) [] ≡ boxOutcome ws scene low high → outcome (told m (count′ ∷ [])) [] ≡ boxOutcome ws scene low high
-    → (n ≡ m) × (count ≡ count′)
+pub rooms-box : (ws : List ℕ) (scene : ℕ) (low high : Point) {n m count count′ : ℕ} → RoomsBoxPromise ws scene low high n count
+    → RoomsBoxPromise ws scene low high m count′ → (n ≡ m) × (count ≡ count′)
 rooms-box ws scene low high a b = one-value a b
 
-pub rooms-kept : (ws : List ℕ) (h : ℕ) {n m count count′ : ℕ}
-    → outcome (told n (count ∷ [])) [] ≡ keptOutcome ws h → outcome (told m (count′ ∷ [])) [] ≡ keptOutcome ws h → (n ≡ m) × (count ≡ count′)
+pub rooms-kept : (ws : List ℕ) (h : ℕ) {n m count count′ : ℕ} → RoomsKeptPromise ws h n count → RoomsKeptPromise ws h m count′ → (n ≡ m) × (count ≡ count′)
 rooms-kept ws h a b = one-value a b
 
-pub rooms-outline : (ws : List ℕ) (scene : ℕ) (out : List ℕ) {n m len len′ : ℕ} {xs ys : List ℕ}
-    → outcome (told n (len ∷ [])) (xs ∷ []) ≡ outlineOutcome ws scene out → outcome (told m (len′ ∷ [])) (ys ∷ []) ≡ outlineOutcome ws scene out
-    → (n ≡ m) × (len ≡ len′) × (xs ≡ ys)
+pub rooms-outline : (ws : List ℕ) (scene : ℕ) (out : List ℕ) {n m len len′ : ℕ} {xs ys : List ℕ} → RoomsOutlinePromise ws scene out n len xs
+    → RoomsOutlinePromise ws scene out m len′ ys → (n ≡ m) × (len ≡ len′) × (xs ≡ ys)
 rooms-outline ws scene out a b = one-slice a b
 
-pub rooms-pack : (ws : List ℕ) (scene : ℕ) (scratch out : List ℕ) {n m len len′ : ℕ} {xs ys us vs : List ℕ}
-    → outcome (told n (len ∷ [])) (xs ∷ us ∷ []) ≡ packOutcome ws scene scratch out → outcome (told m (len′ ∷ [])) (ys ∷ vs ∷ []) ≡ packOutcome ws scene scratch out
-    → (n ≡ m) × (len ≡ len′) × (xs ≡ ys) × (us ≡ vs)
+pub rooms-pack : (ws : List ℕ) (scene : ℕ) (scratch out : List ℕ) {n m len len′ : ℕ} {xs ys us vs : List ℕ} → RoomsPackPromise ws scene scratch out n len xs us
+    → RoomsPackPromise ws scene scratch out m len′ ys vs → (n ≡ m) × (len ≡ len′) × (xs ≡ ys) × (us ≡ vs)
 rooms-pack ws scene scratch out a b = (same-number a b, same-value a b 0, same-lent a b 0, same-lent a b 1)
 
-pub rooms-check : (file scratch : List ℕ) {n m depth depth′ : ℕ} {xs ys : List ℕ}
-    → outcome (told n (depth ∷ [])) (xs ∷ []) ≡ checkOutcome file scratch → outcome (told m (depth′ ∷ [])) (ys ∷ []) ≡ checkOutcome file scratch
-    → (n ≡ m) × (depth ≡ depth′) × (xs ≡ ys)
+pub rooms-check : (file scratch : List ℕ) {n m depth depth′ : ℕ} {xs ys : List ℕ} → RoomsCheckPromise file scratch n depth xs
+    → RoomsCheckPromise file scratch m depth′ ys → (n ≡ m) × (depth ≡ depth′) × (xs ≡ ys)
 rooms-check file scratch a b = one-slice a b
 
-pub rooms-packed-voxel : (file : List ℕ) (v : Point) {n m solid solid′ records records′ : ℕ}
-    → outcome (told n (solid ∷ records ∷ [])) [] ≡ packedVoxelOutcome file v → outcome (told m (solid′ ∷ records′ ∷ [])) [] ≡ packedVoxelOutcome file v
-    → (n ≡ m) × (solid ≡ solid′) × (records ≡ records′)
+pub rooms-packed-voxel : (file : List ℕ) (v : Point) {n m solid solid′ records records′ : ℕ} → RoomsPackedVoxelPromise file v n solid records
+    → RoomsPackedVoxelPromise file v m solid′ records′ → (n ≡ m) × (solid ≡ solid′) × (records ≡ records′)
 rooms-packed-voxel file v a b = two-values a b
 
-pub rooms-open : (file ns : List ℕ) {n m : ℕ} {xs ys : List ℕ}
-    → outcome (told n []) (xs ∷ []) ≡ openCOutcome file ns → outcome (told m []) (ys ∷ []) ≡ openCOutcome file ns → (n ≡ m) × (xs ≡ ys)
+pub rooms-open : (file ns : List ℕ) {n m : ℕ} {xs ys : List ℕ} → RoomsOpenPromise file ns n xs → RoomsOpenPromise file ns m ys → (n ≡ m) × (xs ≡ ys)
 rooms-open file ns a b = slice-only a b
 
-pub rooms-ask : (file ns : List ℕ) (v : Point) {n m solid solid′ records records′ : ℕ}
-    → outcome (told n (solid ∷ records ∷ [])) [] ≡ askCOutcome file ns v → outcome (told m (solid′ ∷ records′ ∷ [])) [] ≡ askCOutcome file ns v
-    → (n ≡ m) × (solid ≡ solid′) × (records ≡ records′)
+pub rooms-ask : (file ns : List ℕ) (v : Point) {n m solid solid′ records records′ : ℕ} → RoomsAskPromise file ns v n solid records
+    → RoomsAskPromise file ns v m solid′ records′ → (n ≡ m) × (solid ≡ solid′) × (records ≡ records′)
 rooms-ask file ns v a b = two-values a b
 
-pub rooms-detail : (depth kind : ℕ) (a b : Float) {n m height height′ : ℕ}
-    → outcome (told n (height ∷ [])) [] ≡ detailCOutcome depth kind a b → outcome (told m (height′ ∷ [])) [] ≡ detailCOutcome depth kind a b
-    → (n ≡ m) × (height ≡ height′)
+pub rooms-detail : (depth kind : ℕ) (a b : Float) {n m height height′ : ℕ} → RoomsDetailPromise depth kind a b n height
+    → RoomsDetailPromise depth kind a b m height′ → (n ≡ m) × (height ≡ height′)
 rooms-detail depth kind a b e f = one-value e f

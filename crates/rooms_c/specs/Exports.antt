@@ -1,5 +1,6 @@
 -- The outcomes of the three calls that C makes with numbers in the place of a struct or of a wish: opening, a question on an opened scene,
--- and detail. Each is built from the paper's outcome of the same call. Definitions only.
+-- and detail. Each is built from the paper's outcome of the same call. Then the promise of each export. Definitions only.
+use mathlib.Core.Path.{_≡_}
 use mathlib.Core.Bool.{Bool, true, not, cond}
 use mathlib.Core.List.{List, [], _∷_}
 use Prim.Native.Nat.{ℕ, _+_}
@@ -10,7 +11,7 @@ use Rattle.paper.specs.Rooms.{Point, depthOk}
 use Rattle.paper.specs.Store.{heights}
 use Rattle.paper.specs.Answers.{Outcome, told, outcome}
 use Rattle.paper.specs.Order.{Test, when, firstOf, settled}
-use Rattle.paper.specs.Calls.{over, openOutcome, askOutcome}
+use Rattle.paper.specs.Calls.{over, newOutcome, addOutcome, voxelOutcome, cellOutcome, boxOutcome, keptOutcome, outlineOutcome, packOutcome, checkOutcome, packedVoxelOutcome, openOutcome, askOutcome}
 use Rattle.paper.specs.Detail.{detailOutcome}
 use Rattle.paper.specs.declared.Wish.{Wish}
 use Rattle.paper.specs.declared.Wish.the-variants.{EveryVoxel, WidestEdge, Distance}
@@ -74,3 +75,47 @@ wishGiven kind a b =
     let known : Wish = wishOf kind a b in
     let none : Wish = WidestEdge (ofBits binary64 0) in
     cond (leb kind lastKind) known none
+
+-- ---- the promise of each export: what it is given as in the promise of the call of `rooms`, then the number answered, each value written, and each
+-- slice lent for writing as the export leaves it. Its `ensures` and the theorem of one outcome both cite it
+
+abbrev pub RoomsNewPromise : ℕ → List ℕ → ℕ → List ℕ → Type 0
+RoomsNewPromise C ws r ws′ = outcome (told r []) (ws′ ∷ []) ≡ newOutcome C ws
+
+abbrev pub RoomsAddPromise : List ℕ → List ℕ → ℕ → ℕ → List ℕ → Type 0
+RoomsAddPromise ws file r scene ws′ = outcome (told r (scene ∷ [])) (ws′ ∷ []) ≡ addOutcome ws file
+
+abbrev pub RoomsVoxelPromise : List ℕ → ℕ → Point → ℕ → ℕ → Type 0
+RoomsVoxelPromise ws n v r solid = outcome (told r (solid ∷ [])) [] ≡ voxelOutcome ws n v
+
+abbrev pub RoomsCellPromise : List ℕ → ℕ → ℕ → Point → ℕ → ℕ → Type 0
+RoomsCellPromise ws n h c r full = outcome (told r (full ∷ [])) [] ≡ cellOutcome ws n h c
+
+abbrev pub RoomsBoxPromise : List ℕ → ℕ → Point → Point → ℕ → ℕ → Type 0
+RoomsBoxPromise ws n low high r count = outcome (told r (count ∷ [])) [] ≡ boxOutcome ws n low high
+
+abbrev pub RoomsKeptPromise : List ℕ → ℕ → ℕ → ℕ → Type 0
+RoomsKeptPromise ws h r count = outcome (told r (count ∷ [])) [] ≡ keptOutcome ws h
+
+abbrev pub RoomsOutlinePromise : List ℕ → ℕ → List ℕ → ℕ → ℕ → List ℕ → Type 0
+RoomsOutlinePromise ws n out r len out′ = outcome (told r (len ∷ [])) (out′ ∷ []) ≡ outlineOutcome ws n out
+
+abbrev pub RoomsPackPromise : List ℕ → ℕ → List ℕ → List ℕ → ℕ → ℕ → List ℕ → List ℕ → Type 0
+RoomsPackPromise ws n scratch out r len scratch′ out′ = outcome (told r (len ∷ [])) (scratch′ ∷ out′ ∷ []) ≡ packOutcome ws n scratch out
+
+abbrev pub RoomsCheckPromise : List ℕ → List ℕ → ℕ → ℕ → List ℕ → Type 0
+RoomsCheckPromise file scratch r depth scratch′ = outcome (told r (depth ∷ [])) (scratch′ ∷ []) ≡ checkOutcome file scratch
+
+abbrev pub RoomsPackedVoxelPromise : List ℕ → Point → ℕ → ℕ → ℕ → Type 0
+RoomsPackedVoxelPromise file v r solid records = outcome (told r (solid ∷ records ∷ [])) [] ≡ packedVoxelOutcome file v
+
+-- the numbers, and the numbers afterwards
+abbrev pub RoomsOpenPromise : List ℕ → List ℕ → ℕ → List ℕ → Type 0
+RoomsOpenPromise file ns r ns′ = outcome (told r []) (ns′ ∷ []) ≡ openCOutcome file ns
+
+abbrev pub RoomsAskPromise : List ℕ → List ℕ → Point → ℕ → ℕ → ℕ → Type 0
+RoomsAskPromise file ns v r solid records = outcome (told r (solid ∷ records ∷ [])) [] ≡ askCOutcome file ns v
+
+-- the depth, the wish's kind and its two numbers
+abbrev pub RoomsDetailPromise : ℕ → ℕ → Float → Float → ℕ → ℕ → Type 0
+RoomsDetailPromise D kind a b r height = outcome (told r (height ∷ [])) [] ≡ detailCOutcome D kind a b

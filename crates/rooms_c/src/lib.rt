@@ -1,14 +1,14 @@
 // The public calls for C. A slice is a pointer and a length, the answer is document 01's number, 0 where the call is accepted, and the
-// values are written through the last parameters, zeros on a refusal. Each promise is one equation, on the same outcome as the call of
-// `rooms`; where C passes numbers in the place of a struct or of a wish, specs/Exports.antt says which. No call asks anything of its caller.
+// values are written through the last parameters, zeros on a refusal. Each promise stands in specs/Exports.antt, by name, as one equation,
+// on the same outcome as the call of `rooms`; where C passes numbers in the place of a struct or of a wish, that file says which. No
+// call asks anything of the values it is given; what it asks of pointers and memory is in the header.
 ghost use mathlib.Core.Path.{_≡_};
-ghost use mathlib.Core.List.{[], _∷_};
+ghost use mathlib.Core.List.{_∷_};
 ghost use Prim.Native.Nat.{_≤_};
 ghost use lib.ListN.{length};
 ghost use Rattle.paper.specs.Rooms.{point};
-ghost use Rattle.paper.specs.Answers.{outcome, told};
-ghost use Rattle.paper.specs.Calls.{over, newOutcome, addOutcome, voxelOutcome, cellOutcome, boxOutcome, keptOutcome, outlineOutcome, packOutcome, checkOutcome, packedVoxelOutcome};
-ghost use Rattle.rooms_c.specs.Exports.{openedNumbers, startsHeld, openCOutcome, askCOutcome, detailCOutcome, wishGiven};
+ghost use Rattle.paper.specs.Calls.{over};
+ghost use Rattle.rooms_c.specs.Exports.{openedNumbers, startsHeld, wishGiven, RoomsNewPromise, RoomsAddPromise, RoomsVoxelPromise, RoomsCellPromise, RoomsBoxPromise, RoomsKeptPromise, RoomsOutlinePromise, RoomsPackPromise, RoomsCheckPromise, RoomsPackedVoxelPromise, RoomsOpenPromise, RoomsAskPromise, RoomsDetailPromise};
 use paper::Sight;
 use paper::Wish;
 
@@ -20,7 +20,7 @@ const STARTS: usize = 15;
 // New store.
 #[no_mangle]
 pub extern "C" fn rooms_new(store: &mut [u32], capacity: u32) -> u32
-    ensures { λ r. ⌜ outcome (told r []) (now (store .exit) ∷ []) ≡ newOutcome capacity (now (store .entry)) ⌝ }
+    ensures { λ r. ⌜ RoomsNewPromise capacity (now (store .entry)) r (now (store .exit)) ⌝ }
 {
     let answer = rooms::new_store(store, capacity);
     answer.number()
@@ -29,7 +29,7 @@ pub extern "C" fn rooms_new(store: &mut [u32], capacity: u32) -> u32
 // Add: the scene's number.
 #[no_mangle]
 pub extern "C" fn rooms_add(store: &mut [u32], file: &[u8], scene: &mut u32) -> u32
-    ensures { λ r. ⌜ outcome (told r (now (scene .exit) ∷ [])) (now (store .exit) ∷ []) ≡ addOutcome (now (store .entry)) (now (file .entry)) ⌝ }
+    ensures { λ r. ⌜ RoomsAddPromise (now (store .entry)) (now (file .entry)) r (now (scene .exit)) (now (store .exit)) ⌝ }
 {
     let answer = rooms::add(store, file);
     *scene = answer.value();
@@ -46,7 +46,7 @@ pub extern "C" fn rooms_voxel(
     z: u32,
     solid: &mut u32,
 ) -> u32
-    ensures { λ r. ⌜ outcome (told r (now (solid .exit) ∷ [])) [] ≡ voxelOutcome (now (store .entry)) scene (point x y z) ⌝ }
+    ensures { λ r. ⌜ RoomsVoxelPromise (now (store .entry)) scene (point x y z) r (now (solid .exit)) ⌝ }
 {
     let answer = rooms::voxel(store, scene, x, y, z);
     *solid = answer.value();
@@ -64,14 +64,14 @@ pub extern "C" fn rooms_cell(
     z: u32,
     full: &mut u32,
 ) -> u32
-    ensures { λ r. ⌜ outcome (told r (now (full .exit) ∷ [])) [] ≡ cellOutcome (now (store .entry)) scene height (point x y z) ⌝ }
+    ensures { λ r. ⌜ RoomsCellPromise (now (store .entry)) scene height (point x y z) r (now (full .exit)) ⌝ }
 {
     let answer = rooms::cell(store, scene, height, x, y, z);
     *full = answer.value();
     answer.number()
 }
 
-// Box: how many solid voxels v have low <= v < high on each axis.
+// Box: the number of solid voxels from the low corner up to the high one, which is outside.
 #[no_mangle]
 pub extern "C" fn rooms_box(
     store: &[u32],
@@ -84,7 +84,7 @@ pub extern "C" fn rooms_box(
     highz: u32,
     count: &mut u64,
 ) -> u32
-    ensures { λ r. ⌜ outcome (told r (now (count .exit) ∷ [])) [] ≡ boxOutcome (now (store .entry)) scene (point lowx lowy lowz) (point highx highy highz) ⌝ }
+    ensures { λ r. ⌜ RoomsBoxPromise (now (store .entry)) scene (point lowx lowy lowz) (point highx highy highz) r (now (count .exit)) ⌝ }
 {
     let answer = rooms::box_count(store, scene, lowx, lowy, lowz, highx, highy, highz);
     *count = answer.value();
@@ -94,7 +94,7 @@ pub extern "C" fn rooms_box(
 // Kept: the cells kept at a height.
 #[no_mangle]
 pub extern "C" fn rooms_kept(store: &[u32], height: u32, count: &mut u32) -> u32
-    ensures { λ r. ⌜ outcome (told r (now (count .exit) ∷ [])) [] ≡ keptOutcome (now (store .entry)) height ⌝ }
+    ensures { λ r. ⌜ RoomsKeptPromise (now (store .entry)) height r (now (count .exit)) ⌝ }
 {
     let answer = rooms::kept(store, height);
     *count = answer.value();
@@ -104,7 +104,7 @@ pub extern "C" fn rooms_kept(store: &[u32], height: u32, count: &mut u32) -> u32
 // Outline out: the outline of a scene, and its length.
 #[no_mangle]
 pub extern "C" fn rooms_outline(store: &[u32], scene: u32, out: &mut [u8], length: &mut u32) -> u32
-    ensures { λ r. ⌜ outcome (told r (now (length .exit) ∷ [])) (now (out .exit) ∷ []) ≡ outlineOutcome (now (store .entry)) scene (now (out .entry)) ⌝ }
+    ensures { λ r. ⌜ RoomsOutlinePromise (now (store .entry)) scene (now (out .entry)) r (now (length .exit)) (now (out .exit)) ⌝ }
 {
     let answer = rooms::outline_out(store, scene, out);
     *length = answer.value();
@@ -120,7 +120,7 @@ pub extern "C" fn rooms_pack(
     out: &mut [u8],
     length: &mut u32,
 ) -> u32
-    ensures { λ r. ⌜ outcome (told r (now (length .exit) ∷ [])) (now (scratch .exit) ∷ now (out .exit) ∷ []) ≡ packOutcome (now (store .entry)) scene (now (scratch .entry)) (now (out .entry)) ⌝ }
+    ensures { λ r. ⌜ RoomsPackPromise (now (store .entry)) scene (now (scratch .entry)) (now (out .entry)) r (now (length .exit)) (now (scratch .exit)) (now (out .exit)) ⌝ }
 {
     let answer = rooms::pack(store, scene, scratch, out);
     *length = answer.value();
@@ -130,7 +130,7 @@ pub extern "C" fn rooms_pack(
 // Packed check: the depth of a proper file.
 #[no_mangle]
 pub extern "C" fn rooms_check(file: &[u8], scratch: &mut [u8], depth: &mut u32) -> u32
-    ensures { λ r. ⌜ outcome (told r (now (depth .exit) ∷ [])) (now (scratch .exit) ∷ []) ≡ checkOutcome (now (file .entry)) (now (scratch .entry)) ⌝ }
+    ensures { λ r. ⌜ RoomsCheckPromise (now (file .entry)) (now (scratch .entry)) r (now (depth .exit)) (now (scratch .exit)) ⌝ }
 {
     let answer = rooms::check(file, scratch);
     *depth = answer.value();
@@ -147,7 +147,7 @@ pub extern "C" fn rooms_packed_voxel(
     solid: &mut u32,
     records: &mut u32,
 ) -> u32
-    ensures { λ r. ⌜ outcome (told r (now (solid .exit) ∷ now (records .exit) ∷ [])) [] ≡ packedVoxelOutcome (now (file .entry)) (point x y z) ⌝ }
+    ensures { λ r. ⌜ RoomsPackedVoxelPromise (now (file .entry)) (point x y z) r (now (solid .exit)) (now (records .exit)) ⌝ }
 {
     let answer = rooms::packed_voxel(file, x, y, z);
     *solid = answer.value();
@@ -159,7 +159,7 @@ pub extern "C" fn rooms_packed_voxel(
 // where there are fewer.
 #[no_mangle]
 pub extern "C" fn rooms_open(file: &[u8], numbers: &mut [u32]) -> u32
-    ensures { λ r. ⌜ outcome (told r []) (now (numbers .exit) ∷ []) ≡ openCOutcome (now (file .entry)) (now (numbers .entry)) ⌝ }
+    ensures { λ r. ⌜ RoomsOpenPromise (now (file .entry)) (now (numbers .entry)) r (now (numbers .exit)) ⌝ }
 {
     let header = opened::read_header(file);
     let number = header.number;
@@ -186,7 +186,7 @@ pub extern "C" fn rooms_ask(
     solid: &mut u32,
     records: &mut u32,
 ) -> u32
-    ensures { λ r. ⌜ outcome (told r (now (solid .exit) ∷ now (records .exit) ∷ [])) [] ≡ askCOutcome (now (file .entry)) (now (numbers .entry)) (point x y z) ⌝ }
+    ensures { λ r. ⌜ RoomsAskPromise (now (file .entry)) (now (numbers .entry)) (point x y z) r (now (solid .exit)) (now (records .exit)) ⌝ }
 {
     if numbers.len() < OPENED_NUMBERS {
         *solid = 0;
@@ -202,7 +202,7 @@ pub extern "C" fn rooms_ask(
 // Detail: the height at which to draw a scene of this depth; the wish is given by its kind and two numbers.
 #[no_mangle]
 pub extern "C" fn rooms_detail(depth: u32, kind: u32, a: f64, b: f64, height: &mut u32) -> u32
-    ensures { λ r. ⌜ outcome (told r (now (height .exit) ∷ [])) [] ≡ detailCOutcome depth kind a b ⌝ }
+    ensures { λ r. ⌜ RoomsDetailPromise depth kind a b r (now (height .exit)) ⌝ }
 {
     let answer = rooms::detail(depth, wish_of(kind, a, b));
     *height = answer.value();

@@ -7,11 +7,11 @@ use lib.ListN.{getD}
 use Rattle.paper.specs.Numbers.{tabulate}
 use Rattle.paper.specs.Store.{Cell, tagOf, cellNo, pointer}
 
--- 'two mirrors one after the other are their exclusive or': the tag changes, the cell's number stays, and none stays none; a tag with no number
+-- a pointer mirrored by t ('one after the other'): the tag changes, the cell's number stays, and none stays none; a tag with no number
 -- is read as number 0, as the match rule reads it
 unfoldable pub turnedBy : ℕ → ℕ → ℕ
 turnedBy t p = cond (eqb p 0) 0 (pointer (bitXor (tagOf p) t) (cellNo p))
 
--- 'a mirrored cell has as child i the mirrored child (i xor t)'
+-- a cell mirrored by t ('A mirrored cell'): its pointers change places and are each mirrored
 unfoldable pub mirroredCell : ℕ → Cell → Cell
 mirroredCell t c = tabulate 0 8 (λ i. turnedBy t (getD c (bitXor i t) 0))

@@ -1,4 +1,4 @@
-// The words from 160 on: C leaves of two words, high first, then for heights 3 to 16 in turn C cells of 8 pointers.
+// The words of the kept cells, list after list: a leaf has two, its upper half first, any other cell eight, its pointers.
 ghost use mathlib.Core.Path.{_≡_};
 ghost use Prim.Native.Nat.{_+_, _≤_, _<_};
 ghost use lib.Dec.{T};

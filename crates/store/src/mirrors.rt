@@ -1,4 +1,4 @@
-// Mirroring: a pointer's tag is changed by exclusive or, and a mirrored cell has as child i the mirrored child (i xor t).
+// Mirroring: a pointer's tag is changed by exclusive or; of a cell the pointers change places, too.
 ghost use mathlib.Core.Path.{_≡_};
 ghost use Prim.Native.Nat.{_<_};
 ghost use lib.Bits.{bitXor};

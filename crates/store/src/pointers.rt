@@ -1,4 +1,4 @@
-// Pointers: 0 for none; otherwise the top three bits are a mirror and the low 29 bits the kept cell's number plus 1.
+// Pointers: 0 names nothing; any other has a tag on top and below it the number of a kept cell, counted from 1.
 ghost use mathlib.Core.Path.{_≡_};
 ghost use mathlib.Core.Bool.{not};
 ghost use Prim.Native.Nat.{_+_, _^_, _<_};

@@ -1,4 +1,4 @@
-// Words 32 to 159: 64 scenes of two words, depth and root pointer.
+// The words of the scenes: two for each, its depth and its root pointer.
 ghost use mathlib.Core.Path.{_≡_};
 ghost use mathlib.Core.Bool.{not};
 ghost use Prim.Native.Nat.{_≤_, _<_};

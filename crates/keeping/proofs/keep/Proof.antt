@@ -39,7 +39,7 @@ returns c =
     let s = k .before .before .before .before in
     let a = s .args in
     w .put-words .ensures
-    ∙ cell-kept (a .store .now) (a .k) _ _ _ (k .kept-count .ensures) (q .capacity .ensures) (p .cell-place .ensures) _ (a .cell .now) (n .set-count .ensures)
+    ∙ cell-kept (a .store .now) (a .k) _ _ _ (k .kept-count .ensures) (q .capacity .ensures) (p .cell-place .ensures) _ (a .words .now) (n .set-count .ensures)
 
 pub keep-spec : {M : Type 1} → statement M
 keep-spec =

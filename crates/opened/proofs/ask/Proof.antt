@@ -35,8 +35,7 @@ use denote.Triple.Spec.{tripleOf}
 use denote.Triple.Table.{entered, cited}
 use denote.Triple.Walked.{walkOf, Walks, walked}
 use Rattle.paper.specs.Rooms.{point}
-use Rattle.paper.specs.Answers.{outcome, found}
-use Rattle.paper.specs.Calls.{askOutcome}
+use Rattle.paper.specs.Promises.{AskPromise}
 use Rattle.paper.specs.declared.Opened.{Opened}
 use Rattle.paper.specs.declared.Found.{Found}
 use Rattle.opened.proofs.Held.{Starts, arr, cut, α, B, Known, known, Slice, freed}
@@ -62,7 +61,7 @@ module _ {M : Type 1} (𝓤 : URA M) (H : Heap 𝓤) (A : Atoms 𝓤) (mem : Mem
 module _ {M : Type 1} (𝓤 : URA M) (H : Heap 𝓤) (A : Atoms 𝓤) (W : Given 𝓤 H A) (mem : Memory → SProp 𝓤) (run : Routine → Fun 𝓤) (κ : Lft) (q : Share) (o : Opened) (k : Known o) (x y z : ℕ) (fx : x < 2 ^ 32) (fy : y < 2 ^ 32) (fz : z < 2 ^ 32) where
   -- what the callee says of its answer
   abbrev Answers : Found → Type 0
-  Answers r = outcome (found r) [] ≡ askOutcome (now (o .bytes)) (o .depth) (o .starts) (point x y z)
+  Answers r = AskPromise (now (o .bytes)) (o .depth) (o .starts) (point x y z) r
 
   -- what is bound, and what the callee is passed
   abbrev bound : walkOf 𝓤 H A ask.ended (dropped ask.ended) (ask.clauses 𝓤 H A mem run) .Ghost

@@ -34,8 +34,9 @@ use denote.Triple.Spec.{tripleOf}
 use denote.Triple.Table.{entered, cited}
 use denote.Triple.Walked.{walkOf, Walks, walked}
 use Rattle.paper.specs.Rooms.{Point, point}
-use Rattle.paper.specs.Answers.{Outcome, outcome, found, opened, holds}
-use Rattle.paper.specs.Calls.{openOutcome, askOutcome}
+use Rattle.paper.specs.Answers.{Outcome, outcome, found}
+use Rattle.paper.specs.Calls.{openOutcome}
+use Rattle.paper.specs.Promises.{OpenPromise, AskPromise}
 use Rattle.opened.specs.Opens.{askedOf}
 use Rattle.paper.specs.declared.Opening.{Opening}
 use Rattle.paper.specs.declared.Found.{Found}
@@ -69,13 +70,10 @@ module _ {M : Type 1} (𝓤 : URA M) (H : Heap 𝓤) (A : Atoms 𝓤) (mem : Mem
   Ask = tripleOf 𝓤 H A ask.signature (ask.spec 𝓤 H A mem run)
 
 -- what the two calls say of their answers, and what that makes of the second
-abbrev Opens : List ℕ → Opening → Type 0
-Opens s r = outcome (opened r) (holds r ∷ []) ≡ openOutcome s
-
 abbrev Answers : Opening → Point → Found → Type 0
-Answers r v t = outcome (found t) [] ≡ askOutcome (now (r .scene .bytes)) (r .scene .depth) (r .scene .starts) v
+Answers r v t = AskPromise (now (r .scene .bytes)) (r .scene .depth) (r .scene .starts) v t
 
-right : (s : List ℕ) (v : Point) (r : Opening) (t : Found) → Opens s r → Answers r v t → outcome (found t) [] ≡ askedOf (openOutcome s) v
+right : (s : List ℕ) (v : Point) (r : Opening) (t : Found) → OpenPromise s r → Answers r v t → outcome (found t) [] ≡ askedOf (openOutcome s) v
 right s v r t e e′ = e′ ∙ ap (λ (o : Outcome). askedOf o v) e
 
 module _ {M : Type 1} (𝓤 : URA M) (H : Heap 𝓤) (A : Atoms 𝓤) (W : Given 𝓤 H A) (mem : Memory → SProp 𝓤) (run : Routine → Fun 𝓤) (κ : Lft) (q : Share) (s : RefT (List ℕ)) (x y z : ℕ) (fx : x < 2 ^ 32) (fy : y < 2 ^ 32) (fz : z < 2 ^ 32) where
@@ -117,7 +115,7 @@ module _ {M : Type 1} (𝓤 : URA M) (H : Heap 𝓤) (A : Atoms 𝓤) (W : Given
         pass1 ! (init ! 10 refl (shr-slice-lawful 𝓤 H A W (named 0) κ u8 .typed s _ p .0)) $ pass1 ! (init ! 8 refl (tt, record { fits = fx })) $ pass1 ! (init ! 6 refl (tt, record { fits = fy })) $ pass1 ! (init ! 4 refl (tt, record { fits = fz })) $ pass0 ! $
         -- opening = open(file)
         move ! (14 ∷ []) $ use1 W (raw (Open 𝓤 H A mem run .pre to-open)) goes-open $
-        asks ! fm opens.ended (opens.clauses 𝓤 H A mem run) met-open to-open (Opens (now s)) (λ r ws. id⊢ 𝓤 _) (and-then ! (load ! (from ! (stop !)) (look ! 11 refl)) (no-more !)) (λ u r e is.
+        asks ! fm opens.ended (opens.clauses 𝓤 H A mem run) met-open to-open (OpenPromise (now s)) (λ r ws. id⊢ 𝓤 _) (and-then ! (load ! (from ! (stop !)) (look ! 11 refl)) (no-more !)) (λ u r e is.
         -- [what the opening owns; the token; _6; …; _0; …]
         land ! (from ! (stop !)) (init ! 4 refl (LL.lawful (O.the-type αᵉ) (O′.the-laws αᵉ) 𝓤 H A W .typed r _ is .0)) $ rewrite ! 4 (λ (v : Val). ‵ (fat fullShare (O′.mir erased) l₅ 0 v)) (ap only (O′.lowers αᵉ .val-is r _ is)) refl $
         use1 W (‵ (Whole 𝓤 H A W κ (r .scene))) (scened 𝓤 H A W κ r u) $ peeks ! (B κ) (Is (B κ)) (shows 𝓤 H A (B κ)) (r .scene) _ (λ is′.

@@ -1,5 +1,5 @@
--- `packed::walk` meets its contract. The invariant: list k starts where the code says, and the walk from the record at hand, with the records read
--- before, ends as the whole walk does; each way through a turn is a law of the walk by numbers. The measure is k. Assumes nothing.
+-- `packed::walk` meets its contract. The invariant: list k starts where the code says, and the walk from the record at hand, with the records counted
+-- so far, ends as the whole walk does; each way through a turn is a law of the walk by numbers. The measure is k. Assumes nothing.
 use mathlib.Core.Path.{_≡_, sym, ap, ap₂, _∙_}
 use mathlib.Core.Bool.{true}
 use mathlib.Core.List.{List}
@@ -29,12 +29,12 @@ abbrev from : List ℕ → ℕ → ℕ → ℕ → Point → Reached
 from bs k p m v = wayAt (listAt bs) (sizeAt bs) k p (seenAt k m v)
 
 abbrev Inv-loop : tie.InvT-loop
-Inv-loop file x y z top k₀ start₀ here₀ place₀ mirror₀ k start here place mirror =
-    (top ≡ topOf file) × (k ≤ top) × (mirror < 8) × (start ≡ startAt file k)
-    × (plus (top - k) (from file k place mirror (point x y z)) ≡ from file (topOf file) 0 (rootTag file) (point x y z)) × (here ≡ sizeAt file k) × (here < 4294967296)
+Inv-loop file x y z top k₀ start₀ here₀ place₀ mirror₀ records₀ k start here place mirror records =
+    (top ≡ topOf file) × (records + k ≡ top) × (mirror < 8) × (start ≡ startAt file k)
+    × (plus records (from file k place mirror (point x y z)) ≡ from file (topOf file) 0 (rootTag file) (point x y z)) × (here ≡ sizeAt file k) × (here < 4294967296)
 
 abbrev μ-loop : tie.MeasureT-loop
-μ-loop file x y z top k₀ start₀ here₀ place₀ mirror₀ k start here place mirror = k
+μ-loop file x y z top k₀ start₀ here₀ place₀ mirror₀ records₀ k start here place mirror records = k
 
 abbrev spot : tie.Start Inv-loop μ-loop → Point
 spot s = point (s .args .x) (s .args .y) (s .args .z)
@@ -56,13 +56,12 @@ loop-holds c =
     let t = c .before .before .before .wide .result - 2 in
     let e : t ≡ topOf bs = ap (λ (n : ℕ). n - 2) (c .before .before .before .wide .ensures .0) in
     let f : 7 + 4 * (t + 1) ≡ frontOf bs = omega (arith, e) in
-    let z : t - t ≡ 0 = omega arith in
     let m = c .wide2 in (
       e,
       omega arith,
       omega (arith, m .ensures .0, root-mirror bs (s .pre .0 .head) (s .pre .1)),
       f ∙ start-top bs (total s) ∙ ap (startAt bs) (sym e),
-      ap (λ (n : ℕ). plus n (from bs t 0 (m .result) (spot s))) z ∙ plus-none (from bs t 0 (m .result) (spot s)) ∙ ap₂ (λ (k n : ℕ). from bs k 0 n (spot s)) e (m .ensures .0),
+      plus-none (from bs t 0 (m .result) (spot s)) ∙ ap₂ (λ (k n : ℕ). from bs k 0 n (spot s)) e (m .ensures .0),
       c .before .before .size .ensures,
       omega arith,
     )
@@ -93,7 +92,7 @@ returns c =
     let bs = s .args .file .now in
     let l = c .before .before .before .before .loop in
     let z = c .before .before .before in
-    way-broken (listAt bs) (sizeAt bs) (l .place) (l .mirror) (spot s) (l .inv .2) (_ - l .k) (l .k) (c .before .before .before .loop-test .taken)
+    way-broken (listAt bs) (sizeAt bs) (l .place) (l .mirror) (spot s) (l .inv .2) (l .records) (l .k) (c .before .before .before .loop-test .taken)
     (ap (λ (i : List ℕ). recordOk i (l .place)) (sym (list-is z)) ∙ not-true (recordOk (cut z) (l .place)) (sym (c .before .record-bad .ensures) ∙ c .if1 .taken))
     ∙ l .inv .4
 
@@ -121,7 +120,7 @@ returns-2 c =
     let bs = s .args .file .now in
     let l = c .before .before .before .before .before .before .before .before .loop in
     let p = c .before .before in
-    way-absent (listAt bs) (sizeAt bs) (l .place) (l .mirror) (spot s) (l .inv .2) (_ - l .k) (l .k) (c .before .before .before .before .before .before .before .loop-test .taken)
+    way-absent (listAt bs) (sizeAt bs) (l .place) (l .mirror) (spot s) (l .inv .2) (l .records) (l .k) (c .before .before .before .before .before .before .before .loop-test .taken)
     (linkIs (p .pointer-at .result)) (taken p) (p .pointer-at .ensures .1) (good-list (p .before .before)) (c .if2 .taken)
     ∙ l .inv .4
 
@@ -133,13 +132,10 @@ returns-3 c =
     let p = c .before .before .before .before .before in
     let q = linkIs (p .pointer-at .result) in
     let n = c .before .before .size2 in
-    way-astray (listAt bs) (sizeAt bs) (l .place) (l .mirror) (spot s) (l .inv .2) (_ - l .k) (l .k) (c .before .before .before .before .before .before .before .before .before .before .loop-test .taken)
+    way-astray (listAt bs) (sizeAt bs) (l .place) (l .mirror) (spot s) (l .inv .2) (l .records) (l .k) (c .before .before .before .before .before .before .before .before .before .before .loop-test .taken)
     q (taken p) (p .pointer-at .ensures .1) (good-list (p .before .before)) (c .before .before .before .if2 .left)
     (ap (λ (m : ℕ). takenOk m q) (sym (n .ensures)) ∙ not-true (takenOk (n .result) q) (sym (c .before .taken-bad .ensures) ∙ c .if3 .taken))
     ∙ l .inv .4
-
-one-more : (t k : ℕ) → 0 < k → k ≤ t → t - (k - 1) ≡ t - k + 1
-one-more t k h l = omega arith
 
 loop-again : tie.Need-loop-again Inv-loop μ-loop
 loop-again c =
@@ -149,14 +145,12 @@ loop-again c =
     let p = c .before .before .before .before .before .before in
     let q = linkIs (p .pointer-at .result) in
     let n = c .before .before .before .size2 in
-    let h = c .before .before .before .before .before .before .before .before .before .before .before .loop-test .taken in
-    let t = c .before .before .before .before .before .before .before .before .before .before .before .before .before .before .before .before .wide .result - 2 in (
+    let h = c .before .before .before .before .before .before .before .before .before .before .before .loop-test .taken in (
       l .inv .0,
-      omega (arith, l .inv .1),
+      omega (arith, l .inv .1, h),
       xor8-lt (p .pointer-at .result .tag) (l .mirror) (p .pointer-at .ensures .1) (l .inv .2),
       next (c .before .before .before .before .before .before .before .before .before .before .before),
-      ap (λ (i : ℕ). plus i (from bs (l .k - 1) (q .place) (bitXor (q .tag) (l .mirror)) (spot s))) (one-more t (l .k) h (l .inv .1))
-          ∙ way-on (listAt bs) (sizeAt bs) (l .place) (l .mirror) (spot s) (l .inv .2) (t - l .k) (l .k) h
+      way-on (listAt bs) (sizeAt bs) (l .place) (l .mirror) (spot s) (l .inv .2) (l .records) (l .k) h
           q (taken p) (p .pointer-at .ensures .1) (good-list (p .before .before)) (c .before .before .before .before .if2 .left)
           (ap (λ (m : ℕ). takenOk m q) (sym (n .ensures)) ∙ not-false (takenOk (n .result) q) (sym (c .before .before .taken-bad .ensures) ∙ c .before .if3 .left))
           ∙ l .inv .4,
@@ -180,20 +174,17 @@ leaves-are c =
 in-leaf-requires : tie.Need-in-leaf-requires Inv-loop μ-loop
 in-leaf-requires c κs =
     let s = c .before .before .before .before .before .before .before .before .before in
-    (ap (λ (i : List ℕ). length i % 8) (leaves-are (c .before)) ∙ leaves-eights (s .args .file .now) (total s), omega (arith, c .before .before .loop .inv .0, s .pre .0 .tested .flat))
+    (ap (λ (i : List ℕ). length i % 8) (leaves-are (c .before)) ∙ leaves-eights (s .args .file .now) (total s), omega (arith, c .before .before .loop .inv .0, c .before .before .loop .inv .1, s .pre .0 .tested .flat))
 
 returns-4 : tie.Need-returns-4 Inv-loop μ-loop
 returns-4 c =
     let s = c .before .before .before .before .before .before .before .before .before .before in
     let bs = s .args .file .now in
     let l = c .before .before .before .loop in
-    let t = c .before .before .before .before .before .before .before .wide .result - 2 in
     let e = at-leaves (c .before .before) in
-    let f : t ≡ t - l .k = omega (arith, e) in
     c .in-leaf .ensures
-    ∙ ap (λ (i : List ℕ). plus t (leafEnd i (l .place) (seenAt 0 (l .mirror) (spot s)))) (leaves-are (c .before .before))
-    ∙ ap (plus t) (leaves-end (listAt bs) (sizeAt bs) (l .k) (l .place) (l .mirror) (spot s) e)
-    ∙ ap (λ (i : ℕ). plus i (from bs (l .k) (l .place) (l .mirror) (spot s))) f
+    ∙ ap (λ (i : List ℕ). plus (l .records) (leafEnd i (l .place) (seenAt 0 (l .mirror) (spot s)))) (leaves-are (c .before .before))
+    ∙ ap (plus (l .records)) (leaves-end (listAt bs) (sizeAt bs) (l .k) (l .place) (l .mirror) (spot s) e)
     ∙ l .inv .4
 
 pub walk-spec : {M : Type 1} → statement M
@@ -222,10 +213,9 @@ walk-spec =
     (λ c κs. search needs)
     returns
     (λ c. search needs)
+    (λ c. search needs)
     (λ c κs. search needs)
     pointer-at-requires
-    (λ c. search needs)
-    (λ c. search needs)
     returns-2
     (λ c. search needs)
     (λ c κs. (sized (c .before .before .before .before .before .before .before .before .before .before .before .before .before .before .before), omega (arith, c .before .before .before .before .before .before .before .before .loop .inv .0, c .before .before .before .before .before .before .before .before .loop .inv .1)))

@@ -1,16 +1,10 @@
 -- `keep::seek_cell` meets its contract: found where the search says, else kept or refused. Assumes nothing.
 use mathlib.Core.Path.{sym, ap, _∙_}
-use Rattle.keeping.proofs.Ways.{eight-words}
 use Rattle.seek.specs.Sought.{sought}
 use Rattle.merge.proofs.Ways.{found-at, found-nowhere, cell-by}
 use borrow.Author.Needs.{needs}
 use Rattle.merge.proofs.keep.seek_cell.Statement.{statement}
 use Rattle.merge.proofs.keep.seek_cell.Tie as tie
-
-place-requires : tie.Need-place-requires
-place-requires c κs =
-    let s = c .before .before .before .before .before .before .before .before in
-    (s .pre .0, (s .pre .1 .1, s .good .1 .1 .0 .1 .0 .1 ∙ eight-words (s .args .k) (s .pre .1 .0)))
 
 returns : tie.Need-returns
 returns c =
@@ -20,9 +14,9 @@ returns c =
 returns-2 : tie.Need-returns-2
 returns-2 c =
     let p = c .before .before in
-    let e = p .before .before .before in
+    let e = p .before .before in
     let f = e .before .before in
-    p .place .ensures ∙ sym (found-nowhere _ _ _ _ _ (ap sought (e .enum-told .given .1))) ∙ cell-by _ _ _ _ _ _ (f .find-cell .ensures) (f .before .before .cell-mask .ensures)
+    p .place-cell .ensures ∙ sym (found-nowhere _ _ _ _ _ (ap sought (e .enum-told .given .1))) ∙ cell-by _ _ _ _ _ _ (f .find-cell .ensures) (f .before .before .cell-mask .ensures)
 
 pub seek-cell-spec : {M : Type 1} → statement M
 seek-cell-spec =
@@ -32,8 +26,7 @@ seek-cell-spec =
     (λ c κs. search needs)
     (λ c. search needs)
     (λ c. search needs)
-    (λ c. search needs)
-    place-requires
+    (λ c κs. search needs)
     (λ c. search needs)
     returns
     (λ c. search needs)

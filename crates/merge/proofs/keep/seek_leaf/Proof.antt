@@ -1,7 +1,5 @@
 -- `keep::seek_leaf` meets its contract: found where the search says, else kept or refused. Assumes nothing.
 use mathlib.Core.Path.{sym, ap, _∙_}
-use lib.Dec.{lit<}
-use lib.ListN.{length}
 use Rattle.paper.specs.Store.{Cell}
 use Rattle.seek.specs.Sought.{sought}
 use Rattle.merge.specs.Seeking.{keptWith}
@@ -9,11 +7,6 @@ use Rattle.merge.proofs.Ways.{found-at, found-nowhere, leaf-by}
 use borrow.Author.Needs.{needs}
 use Rattle.merge.proofs.keep.seek_leaf.Statement.{statement}
 use Rattle.merge.proofs.keep.seek_leaf.Tie as tie
-
-place-requires : tie.Need-place-requires
-place-requires c κs =
-    let w = c .before .before in
-    (w .before .before .before .before .before .before .before .pre, (lit< tt, ap length (w .leaf-words .ensures)))
 
 returns : tie.Need-returns
 returns c =
@@ -23,11 +16,11 @@ returns c =
 returns-2 : tie.Need-returns-2
 returns-2 c =
     let p = c .before .before in
-    let w = p .before .before .before in
-    let e = w .before in
+    let w = p .before in
+    let e = w .before .before in
     let f = e .before .before in
     let a = f .before .before .before .before .args in
-    p .place .ensures ∙ ap (λ (l : Cell). keptWith (f .before .before .leaf-mask .result) 0 l (a .store .now)) (w .leaf-words .ensures)
+    p .place-leaf .ensures ∙ ap (λ (l : Cell). keptWith (f .before .before .leaf-mask .result) 0 l (a .store .now)) (w .leaf-words .ensures)
     ∙ sym (found-nowhere _ _ _ _ _ (ap sought (e .enum-told .given .1))) ∙ leaf-by _ _ _ _ (f .find-leaf .ensures) (f .before .before .leaf-mask .ensures)
 
 pub seek-leaf-spec : {M : Type 1} → statement M
@@ -39,8 +32,7 @@ seek-leaf-spec =
     (λ c. search needs)
     (λ c. search needs)
     (λ c κs. search needs)
-    (λ c. search needs)
-    place-requires
+    (λ c κs. search needs)
     (λ c. search needs)
     returns
     (λ c. search needs)

@@ -1,0 +1,846 @@
+/*
+ * The header against the library. Each call is made with arguments that all differ, given by their names and passed in the order in
+ * which the header names them; its number and every lent element are compared with what is known of it beforehand. Then the
+ * arguments of one kind are put in every other order, and each must end otherwise: so a header that exchanged two names would be seen.
+ * Then refusals, and the sizes.
+ *
+ * Each word of the command line is a prototype of the header: its name and those of its parameters (bindings/c/run writes them).
+ *
+ * What is known is worked out beside each call, from document 01's formats and three rooms of one or two voxels.
+ */
+#include "rooms.h"
+#include "rooms.h" /* twice does no harm */
+
+#include <inttypes.h>
+#include <math.h>
+#include <stdarg.h>
+#include <stdbool.h>
+#include <stdio.h>
+#include <stdlib.h>
+#include <string.h>
+
+/* ---- the prototypes once more, from the exports of crates/rooms_c: a compiler takes both only where they have the same types ---- */
+
+uint32_t rooms_new(uint32_t *, size_t, uint32_t);
+uint32_t rooms_add(uint32_t *, size_t, const uint8_t *, size_t, uint32_t *);
+uint32_t rooms_voxel(const uint32_t *, size_t, uint32_t, uint32_t, uint32_t, uint32_t, uint32_t *);
+uint32_t rooms_cell(const uint32_t *, size_t, uint32_t, uint32_t, uint32_t, uint32_t, uint32_t, uint32_t *);
+uint32_t rooms_box(const uint32_t *, size_t, uint32_t, uint32_t, uint32_t, uint32_t, uint32_t, uint32_t, uint32_t, uint64_t *);
+uint32_t rooms_kept(const uint32_t *, size_t, uint32_t, uint32_t *);
+uint32_t rooms_outline(const uint32_t *, size_t, uint32_t, uint8_t *, size_t, uint32_t *);
+uint32_t rooms_pack(const uint32_t *, size_t, uint32_t, uint32_t *, size_t, uint8_t *, size_t, uint32_t *);
+uint32_t rooms_check(const uint8_t *, size_t, uint8_t *, size_t, uint32_t *);
+uint32_t rooms_packed_voxel(const uint8_t *, size_t, uint32_t, uint32_t, uint32_t, uint32_t *, uint32_t *);
+uint32_t rooms_open(const uint8_t *, size_t, uint32_t *, size_t);
+uint32_t rooms_ask(const uint8_t *, size_t, const uint32_t *, size_t, uint32_t, uint32_t, uint32_t, uint32_t *, uint32_t *);
+uint32_t rooms_detail(uint32_t, uint32_t, double, double, uint32_t *);
+
+/* ---- arguments and the memory they point to ---- */
+
+enum kind { WHOLE, REAL, WORDS, BYTES, WIDE, KINDS };
+
+static const char *const kind_names[KINDS] = {"numbers", "doubles", "pointers to words", "pointers to bytes", "pointers to counts"};
+
+struct argument {
+    const char *name;
+    enum kind kind;
+    size_t whole;
+    double real;
+    uint32_t *words;
+    uint8_t *bytes;
+    uint64_t *wide;
+};
+
+/* Elements of each memory. No number given is greater, so that any pointer may be lent with any of them as its length. */
+#define SIZE 1200
+
+struct memory {
+    uint32_t words[3][SIZE];
+    uint8_t bytes[2][SIZE];
+    uint64_t wide[2];
+};
+
+static struct memory lent;   /* what the calls see */
+static struct memory before; /* what it holds before a call */
+static struct memory after;  /* and must hold afterwards */
+
+static struct argument whole(const char *name, size_t value)
+{
+    return (struct argument){.name = name, .kind = WHOLE, .whole = value};
+}
+
+static struct argument real(const char *name, double value)
+{
+    return (struct argument){.name = name, .kind = REAL, .real = value};
+}
+
+static struct argument words(const char *name, size_t i)
+{
+    return (struct argument){.name = name, .kind = WORDS, .words = lent.words[i]};
+}
+
+static struct argument bytes(const char *name, size_t i)
+{
+    return (struct argument){.name = name, .kind = BYTES, .bytes = lent.bytes[i]};
+}
+
+static struct argument wide(const char *name)
+{
+    return (struct argument){.name = name, .kind = WIDE, .wide = lent.wide};
+}
+
+/* ---- the calls ---- */
+
+#define U32(i) ((uint32_t)a[i].whole)
+
+static uint32_t call_new(const struct argument *a)
+{
+    return rooms_new(a[0].words, a[1].whole, U32(2));
+}
+
+static uint32_t call_add(const struct argument *a)
+{
+    return rooms_add(a[0].words, a[1].whole, a[2].bytes, a[3].whole, a[4].words);
+}
+
+static uint32_t call_voxel(const struct argument *a)
+{
+    return rooms_voxel(a[0].words, a[1].whole, U32(2), U32(3), U32(4), U32(5), a[6].words);
+}
+
+static uint32_t call_cell(const struct argument *a)
+{
+    return rooms_cell(a[0].words, a[1].whole, U32(2), U32(3), U32(4), U32(5), U32(6), a[7].words);
+}
+
+static uint32_t call_box(const struct argument *a)
+{
+    return rooms_box(a[0].words, a[1].whole, U32(2), U32(3), U32(4), U32(5), U32(6), U32(7), U32(8), a[9].wide);
+}
+
+static uint32_t call_kept(const struct argument *a)
+{
+    return rooms_kept(a[0].words, a[1].whole, U32(2), a[3].words);
+}
+
+static uint32_t call_outline(const struct argument *a)
+{
+    return rooms_outline(a[0].words, a[1].whole, U32(2), a[3].bytes, a[4].whole, a[5].words);
+}
+
+static uint32_t call_pack(const struct argument *a)
+{
+    return rooms_pack(a[0].words, a[1].whole, U32(2), a[3].words, a[4].whole, a[5].bytes, a[6].whole, a[7].words);
+}
+
+static uint32_t call_check(const struct argument *a)
+{
+    return rooms_check(a[0].bytes, a[1].whole, a[2].bytes, a[3].whole, a[4].words);
+}
+
+static uint32_t call_packed_voxel(const struct argument *a)
+{
+    return rooms_packed_voxel(a[0].bytes, a[1].whole, U32(2), U32(3), U32(4), a[5].words, a[6].words);
+}
+
+static uint32_t call_open(const struct argument *a)
+{
+    return rooms_open(a[0].bytes, a[1].whole, a[2].words, a[3].whole);
+}
+
+static uint32_t call_ask(const struct argument *a)
+{
+    return rooms_ask(a[0].bytes, a[1].whole, a[2].words, a[3].whole, U32(4), U32(5), U32(6), a[7].words, a[8].words);
+}
+
+static uint32_t call_detail(const struct argument *a)
+{
+    return rooms_detail(U32(0), U32(1), a[2].real, a[3].real, a[4].words);
+}
+
+/* ---- one trial: a call, its arguments, and how it must end ---- */
+
+static char **prototypes; /* the words of the command line */
+
+static const char *called;
+static uint32_t (*call)(const struct argument *);
+static struct argument given[10]; /* in the header's order */
+static size_t count;              /* of arguments */
+static size_t outs;               /* how many of them, from the last back, are out parameters */
+
+static unsigned long passed, failed;
+
+static void judge(bool holds, const char *what, uint32_t got, uint32_t due)
+{
+    if (holds) {
+        passed++;
+        return;
+    }
+    failed++;
+    printf("FAILED: %s, %s: ", called, what);
+    if (got == due) {
+        printf("lent memory holds something else than it must\n");
+    } else {
+        printf("%" PRIu32 ", due %" PRIu32 "\n", got, due);
+    }
+}
+
+/* Ends the check where a call can't be made. */
+static void stop(const char *why, const char *parameter)
+{
+    printf("FAILED: %s, %s: %s\n%lu passed, %lu failed\n", called, parameter, why, passed, failed + 1);
+    exit(1);
+}
+
+/* Whether a call on these arguments answers this number and leaves memory as it must be. */
+static bool ends(const struct argument *a, uint32_t number, uint32_t *got)
+{
+    memcpy(&lent, &before, sizeof lent);
+    *got = call(a);
+    return *got == number && memcmp(&lent, &after, sizeof lent) == 0;
+}
+
+/* Begins the trials of a call: memory that is never blank, no two elements beside each other alike. */
+static void begin(const char *name, uint32_t (*make)(const struct argument *))
+{
+    called = name;
+    call = make;
+    for (size_t i = 0; i < SIZE; i++) {
+        for (size_t k = 0; k < 3; k++) {
+            before.words[k][i] = (uint32_t)(2654435761u * i + 12345 + k);
+        }
+        for (size_t k = 0; k < 2; k++) {
+            before.bytes[k][i] = (uint8_t)(7 * i + 3 + k);
+        }
+    }
+    before.wide[0] = UINT64_C(0x9E3779B97F4A7C15);
+    before.wide[1] = UINT64_C(0x3C6EF372FE94F82A);
+}
+
+/* The place of a parameter among those of the call's prototype in the header; as many as there are where it has none of that name. */
+static size_t place_of(const char *name)
+{
+    size_t length = strlen(called), wanted = strlen(name), place = 0;
+    for (char **word = prototypes; *word != NULL; word++) {
+        if (strncmp(*word, called, length) != 0 || (*word)[length] != ' ') {
+            continue;
+        }
+        for (const char *at = *word + length; *at == ' '; place++) {
+            size_t size = strcspn(++at, " ");
+            if (size == wanted && strncmp(at, name, size) == 0) {
+                return place;
+            }
+            at += size;
+        }
+    }
+    return count;
+}
+
+/* Gives the call its arguments: so many, in the order of their types, the last `out` of which are out parameters. Each goes where the
+   header has its name. */
+static void give(size_t out, size_t many, ...)
+{
+    enum kind kinds[10];
+    va_list list;
+    count = many;
+    outs = out;
+    va_start(list, many);
+    for (size_t i = 0; i < many; i++) {
+        struct argument argument = va_arg(list, struct argument);
+        size_t place = place_of(argument.name);
+        if (place >= many) {
+            stop("the header has no such parameter", argument.name);
+        }
+        kinds[i] = argument.kind;
+        given[place] = argument;
+    }
+    va_end(list);
+    for (size_t i = 0; i < many; i++) {
+        if (given[i].kind != kinds[i]) {
+            stop("the header has this parameter where its type doesn't fit", given[i].name);
+        }
+    }
+    memcpy(&after, &before, sizeof after);
+}
+
+/* Changes one argument. */
+static void change(struct argument other)
+{
+    given[place_of(other.name)] = other;
+}
+
+/* The call is accepted, and memory is then as `after` says. */
+static void accepted(const char *what)
+{
+    uint32_t got;
+    bool holds = ends(given, ROOMS_OK, &got);
+    judge(holds, what, got, ROOMS_OK);
+}
+
+/* `after` of a refusal: out parameters are zero, all else is as before. */
+static void refusing(void)
+{
+    memcpy(&after, &before, sizeof after);
+    for (size_t i = count - outs; i < count; i++) {
+        if (given[i].kind == WIDE) {
+            after.wide[0] = 0;
+        } else {
+            after.words[(given[i].words - lent.words[0]) / SIZE][0] = 0;
+        }
+    }
+}
+
+/* The call is refused with one argument changed; `cleared` bytes of lent.bytes[1] are then zero, `blank` words of lent.words[2]. */
+static void refused_scratch(struct argument other, uint32_t number, size_t cleared, size_t blank)
+{
+    struct argument kept = given[place_of(other.name)];
+    uint32_t got;
+    refusing();
+    memset(after.bytes[1], 0, cleared);
+    memset(after.words[2], 0, blank * sizeof(uint32_t));
+    change(other);
+    bool holds = ends(given, number, &got);
+    change(kept);
+    judge(holds, other.name, got, number);
+}
+
+static void refused(struct argument other, uint32_t number)
+{
+    refused_scratch(other, number, 0, 0);
+}
+
+/* The call is refused as it stands. */
+static void refused_so(uint32_t number)
+{
+    refused(given[0], number);
+}
+
+/* The call is refused with one byte of the file changed. */
+static void refused_byte(size_t place, uint8_t value, uint32_t number, size_t cleared)
+{
+    uint8_t kept = before.bytes[0][place];
+    before.bytes[0][place] = value;
+    refused_scratch(given[0], number, cleared, 0);
+    before.bytes[0][place] = kept;
+}
+
+/* The call is refused with one word of lent.words[0] changed. */
+static void refused_word(size_t place, uint32_t value, uint32_t number)
+{
+    uint32_t kept = before.words[0][place];
+    before.words[0][place] = value;
+    refused_so(number);
+    before.words[0][place] = kept;
+}
+
+/* ---- every other order of the arguments of one kind ---- */
+
+static unsigned long tried, alike;
+
+/* Tries each order of the arguments at places[from] on; `moved` says whether one stands elsewhere already. */
+static void reorder(struct argument *a, const size_t *places, size_t many, size_t from, bool moved)
+{
+    if (from == many) {
+        uint32_t got;
+        tried += moved;
+        alike += moved && ends(a, ROOMS_OK, &got);
+        return;
+    }
+    for (size_t i = from; i < many; i++) {
+        struct argument first = a[places[from]];
+        a[places[from]] = a[places[i]];
+        a[places[i]] = first;
+        reorder(a, places, many, from + 1, moved || i != from);
+        a[places[i]] = a[places[from]];
+        a[places[from]] = first;
+    }
+}
+
+static bool same(const struct argument *a, const struct argument *b)
+{
+    return a->whole == b->whole && a->real == b->real && a->words == b->words && a->bytes == b->bytes && a->wide == b->wide;
+}
+
+/* No two arguments of a kind are the same, and the accepted call answers otherwise with them in any other order. */
+static void orders(void)
+{
+    printf("%-18s", called);
+    for (enum kind kind = WHOLE; kind < KINDS; kind++) {
+        struct argument a[10];
+        size_t places[10], many = 0;
+        bool differ = true;
+        memcpy(a, given, sizeof a);
+        for (size_t i = 0; i < count; i++) {
+            if (given[i].kind != kind) {
+                continue;
+            }
+            for (size_t k = 0; k < many; k++) {
+                differ = differ && !same(&given[i], &given[places[k]]);
+            }
+            differ = differ && given[i].whole <= SIZE;
+            places[many++] = i;
+        }
+        if (many < 2) {
+            continue;
+        }
+        tried = alike = 0;
+        reorder(a, places, many, 0, false);
+        judge(differ && alike == 0, kind_names[kind], (uint32_t)alike + !differ, 0);
+        printf("  %zu %s, %lu other orders, %lu with the same end", many, kind_names[kind], tried, alike);
+    }
+    printf("\n");
+}
+
+/* ---- three rooms ---- */
+
+#define CAPACITY 8
+#define STORE ROOMS_STORE_WORDS(CAPACITY)
+
+/* Document 01's first sample: depth 3, voxels (0, 0, 0) and (7, 0, 0). Its two leaves are mirror images in x. */
+static const uint8_t sample[] = {
+    0x11, 0, 0, 0, 23, 3,   /* version, length, depth */
+    0x03,                   /* children 0 and 1 */
+    0, 0, 0, 0, 0, 0, 0, 1, /* bit 0: (0, 0, 0) */
+    0, 0, 0, 0, 0, 0, 0, 8, /* bit 3: (3, 0, 0) */
+};
+
+/* S1: what that room packs to. */
+static const uint8_t sample_packed[] = {
+    0x21, 0, 0, 0, 29, 3, 0,            /* version, length, depth, the root's mirror */
+    0, 0, 0, 3, 0, 0, 0, 1,             /* three half-words at height 3, one leaf */
+    0x00, 0x05, 0x00, 0x00, 0x20, 0x00, /* children 0 and 1 short; leaf 0, and leaf 0 mirrored in x */
+    0, 0, 0, 0, 0, 0, 0, 1,
+};
+
+/* One voxel, (13, 18, 23), at depth 5: 13 = 01101, 18 = 10010, 23 = 10111 in binary, so from the root its half is
+   x 0, y 1, z 1 (child 6), then 1, 0, 0 (child 1), then 1, 0, 1 (child 5); in the leaf it is (1, 2, 3), bit 1 + 8 + 48 = 57. */
+static const uint8_t single[] = {
+    0x11, 0, 0, 0, 17, 5, 1 << 6, 1 << 1, 1 << 5, 0x02, 0, 0, 0, 0, 0, 0, 0,
+};
+
+/* The same room packed. A record of one child is a header, code 1 in bits 2i and 2i+1 for child i, and a pointer to place 0. */
+static const uint8_t single_packed[] = {
+    0x21, 0, 0, 0, 43, 5, 0,                        /* version, length, depth, the root's mirror */
+    0, 0, 0, 2, 0, 0, 0, 2, 0, 0, 0, 2, 0, 0, 0, 1, /* two half-words at heights 5, 4 and 3, one leaf */
+    0x10, 0x00, 0, 0,                               /* byte 23, height 5: child 6 */
+    0x00, 0x04, 0, 0,                               /* byte 27, height 4: child 1 */
+    0x04, 0x00, 0, 0,                               /* byte 31, height 3: child 5 */
+    0x02, 0, 0, 0, 0, 0, 0, 0,                      /* byte 35, the leaf */
+};
+
+/* Two voxels, (2, 3, 4) and (8, 10, 12), at depth 4: children 0 and 7, each with a child 4, a leaf; bit 2 + 12 = 14 and bit 8. */
+static const uint8_t pair[] = {
+    0x11, 0, 0, 0, 25, 4, 0x81, 0x10, 0, 0, 0, 0, 0, 0, 0x40, 0, 0x10, 0, 0, 0, 0, 0, 0, 0x01, 0,
+};
+
+/* S9: a room that keeps two leaves. */
+static const uint8_t two_leaves[] = {
+    0x11, 0, 0, 0, 23, 3, 0x03, 0, 0, 0, 0, 0, 0, 0x80, 0x01, 0, 0, 0, 0, 0, 0, 0, 1,
+};
+
+/* S12: an empty scene. */
+static const uint8_t nothing[] = {0x11, 0, 0, 0, 6, 2};
+
+static const uint8_t nothing_packed[] = {0x21, 0, 0, 0, 7, 2, 8};
+
+static void put_file(const uint8_t *file, size_t length)
+{
+    memcpy(before.bytes[0], file, length);
+}
+
+/* A store of this capacity that holds one empty scene of depth 2, word by word. */
+static void put_store_by_hand(uint32_t capacity)
+{
+    memset(before.words[0], 0, ROOMS_STORE_WORDS(capacity) * sizeof(uint32_t));
+    before.words[0][0] = capacity;
+    before.words[0][1] = 1;  /* scenes held */
+    before.words[0][32] = 2; /* the first scene's depth; its root pointer is 0 */
+}
+
+/* The same, and this room as scene 1: what the trials of add show. */
+static void put_store(const uint8_t *file, size_t length)
+{
+    uint32_t scene;
+    put_store_by_hand(CAPACITY);
+    if (rooms_add(before.words[0], STORE, file, length, &scene) != ROOMS_OK || scene != 1) {
+        judge(false, "its store", scene, 1);
+    }
+}
+
+/* What every call on a scene refuses: a short slice, a header out of range, a scene that is not there. */
+static void refused_store(void)
+{
+    refused(whole("store_words", STORE - 1), ROOMS_DAMAGED_STORE);
+    refused(whole("store_words", 0), ROOMS_DAMAGED_STORE);
+    refused_word(17, 1, ROOMS_DAMAGED_STORE);
+    refused(whole("scene", 2), ROOMS_NO_SCENE);
+}
+
+/* ---- the trials ---- */
+
+static void try_new(void)
+{
+    begin("rooms_new", call_new);
+    give(0, 3, words("store", 0), whole("store_words", STORE), whole("capacity", CAPACITY));
+    memset(after.words[0], 0, STORE * sizeof(uint32_t));
+    after.words[0][0] = CAPACITY;
+    accepted("a new store");
+    orders();
+    refused(whole("store_words", STORE - 1), ROOMS_BAD_SIZE);
+    refused(whole("capacity", CAPACITY + 1), ROOMS_BAD_SIZE);
+    refused(whole("capacity", 0), ROOMS_BAD_SIZE);
+}
+
+static void try_add(void)
+{
+    begin("rooms_add", call_add);
+    put_store_by_hand(CAPACITY);
+    put_file(sample, sizeof sample);
+    give(1, 5, words("store", 0), whole("store_words", STORE), bytes("file", 0), whole("file_bytes", sizeof sample), words("scene", 1));
+    after.words[0][1] = 2;                              /* scenes held */
+    after.words[0][2] = 1;                              /* leaves kept: the second is the first one's image */
+    after.words[0][3] = 1;                              /* cells of height 3 */
+    after.words[0][34] = 3;                             /* scene 1: its depth */
+    after.words[0][35] = 1;                             /* and its root, cell 0 */
+    after.words[0][161] = 1;                            /* leaf 0, its low word */
+    after.words[0][160 + 2 * CAPACITY] = 1;             /* the cell: child 0 is leaf 0 */
+    after.words[0][160 + 2 * CAPACITY + 1] = 0x20000001; /* child 1 is leaf 0 mirrored in x */
+    after.words[1][0] = 1;                              /* *scene */
+    accepted("the sample as scene 1");
+    orders();
+    refused(whole("store_words", STORE - 1), ROOMS_DAMAGED_STORE);
+    refused_word(17, 1, ROOMS_DAMAGED_STORE);
+    refused(whole("file_bytes", 0), ROOMS_BAD_VERSION);
+    refused_byte(0, 0x21, ROOMS_BAD_VERSION, 0);
+    refused(whole("file_bytes", sizeof sample - 1), ROOMS_BAD_LENGTH);
+    refused_byte(5, 17, ROOMS_BAD_DEPTH, 0);
+    refused_byte(6, 0, ROOMS_BROKEN_RULES, 0);
+    for (size_t i = 0; i < ROOMS_MAX_SCENES; i++) {
+        before.words[0][32 + 2 * i] = 2;
+    }
+    before.words[0][1] = ROOMS_MAX_SCENES;
+    refused_so(ROOMS_SCENES_FULL);
+    put_store_by_hand(1);
+    put_file(two_leaves, sizeof two_leaves);
+    refused_so(ROOMS_CELLS_FULL);
+}
+
+static void try_voxel(void)
+{
+    begin("rooms_voxel", call_voxel);
+    put_store(single, sizeof single);
+    give(1, 7, words("store", 0), whole("store_words", STORE), whole("scene", 1), whole("x", 13), whole("y", 18), whole("z", 23), words("solid", 1));
+    after.words[1][0] = 1; /* solid, and no other point is; no scene has a higher number */
+    accepted("the one voxel");
+    orders();
+    refused_store();
+    refused(whole("x", 32), ROOMS_OUTSIDE);
+    refused(whole("y", 32), ROOMS_OUTSIDE);
+    refused(whole("z", 32), ROOMS_OUTSIDE);
+    refused_word(34, 17, ROOMS_DAMAGED_STORE); /* the scene's depth */
+    refused_word(35, 2, ROOMS_DAMAGED_STORE);  /* its root, a cell that is not kept */
+    change(whole("z", 22));
+    memcpy(&after, &before, sizeof after);
+    after.words[1][0] = 0;
+    accepted("the voxel beside it is empty");
+}
+
+static void try_cell(void)
+{
+    begin("rooms_cell", call_cell);
+    put_store(single, sizeof single);
+    give(1, 8, words("store", 0), whole("store_words", STORE), whole("scene", 1), whole("height", 2), whole("x", 3), whole("y", 4), whole("z", 5), words("full", 1));
+    after.words[1][0] = 1; /* the leaf of (13, 18, 23) is that of (3, 4, 5) * 4, and the only one */
+    accepted("the one leaf");
+    orders();
+    refused_store();
+    refused(whole("height", 6), ROOMS_OUTSIDE);
+    refused(whole("x", 8), ROOMS_OUTSIDE);
+    refused(whole("y", 8), ROOMS_OUTSIDE);
+    refused(whole("z", 8), ROOMS_OUTSIDE);
+}
+
+static void try_box(void)
+{
+    begin("rooms_box", call_box);
+    put_store(pair, sizeof pair);
+    /* The smallest box with both voxels. The lows are the three least of its six numbers, so no other order of the six has both. */
+    give(1, 10, words("store", 0), whole("store_words", STORE), whole("scene", 1), whole("low_x", 2), whole("low_y", 3), whole("low_z", 4), whole("high_x", 9), whole("high_y", 11), whole("high_z", 13), wide("count"));
+    after.wide[0] = 2;
+    accepted("a box with both voxels");
+    orders();
+    refused_store();
+    static const char *const lows[] = {"low_x", "low_y", "low_z"}, *const highs[] = {"high_x", "high_y", "high_z"};
+    static const size_t low[] = {2, 3, 4}, high[] = {9, 11, 13};
+    for (size_t axis = 0; axis < 3; axis++) {
+        refused(whole(lows[axis], high[axis] + 1), ROOMS_OUTSIDE);
+        refused(whole(highs[axis], 17), ROOMS_OUTSIDE);
+        change(whole(lows[axis], low[axis] + 1));
+        memcpy(&after, &before, sizeof after);
+        after.wide[0] = 1;
+        accepted("a box without the first voxel");
+        change(whole(lows[axis], high[axis]));
+        after.wide[0] = 0;
+        accepted("a box of no voxels");
+        change(whole(lows[axis], low[axis]));
+    }
+}
+
+static void try_kept(void)
+{
+    begin("rooms_kept", call_kept);
+    put_store(pair, sizeof pair);
+    give(1, 4, words("store", 0), whole("store_words", STORE), whole("height", 3), words("count", 1));
+    after.words[1][0] = 2; /* its leaves differ from each other's images, and so do the two cells above them */
+    accepted("height 3");
+    orders();
+    change(whole("height", 4));
+    after.words[1][0] = 1;
+    accepted("height 4");
+    change(whole("height", 5));
+    after.words[1][0] = 0;
+    accepted("height 5");
+    refused(whole("store_words", STORE - 1), ROOMS_DAMAGED_STORE);
+    refused_word(17, 1, ROOMS_DAMAGED_STORE);
+    refused(whole("height", ROOMS_MIN_DEPTH - 1), ROOMS_OUTSIDE);
+    refused(whole("height", ROOMS_MAX_DEPTH + 1), ROOMS_OUTSIDE);
+}
+
+static void try_outline(void)
+{
+    begin("rooms_outline", call_outline);
+    put_store(sample, sizeof sample);
+    give(1, 6, words("store", 0), whole("store_words", STORE), whole("scene", 1), bytes("out", 0), whole("out_bytes", sizeof sample), words("length", 1));
+    memcpy(after.bytes[0], sample, sizeof sample); /* the file that was added */
+    after.words[1][0] = sizeof sample;
+    accepted("the sample's outline");
+    orders();
+    refused_store();
+    refused_word(STORE - 1, 1, ROOMS_DAMAGED_STORE); /* an unused word */
+    refused(whole("out_bytes", sizeof sample - 1), ROOMS_OUTPUT_SHORT);
+}
+
+static void try_pack(void)
+{
+    const size_t scratch = ROOMS_PACK_SCRATCH_WORDS(CAPACITY);
+    begin("rooms_pack", call_pack);
+    put_store(sample, sizeof sample);
+    give(1, 8, words("store", 0), whole("store_words", STORE), whole("scene", 1), words("scratch", 2), whole("scratch_words", scratch), bytes("out", 0), whole("out_bytes", sizeof sample_packed), words("length", 1));
+    memset(after.words[2], 0, scratch * sizeof(uint32_t));
+    memcpy(after.bytes[0], sample_packed, sizeof sample_packed);
+    after.words[1][0] = sizeof sample_packed;
+    accepted("the sample packed");
+    orders();
+    refused_store();
+    refused_word(STORE - 1, 1, ROOMS_DAMAGED_STORE); /* an unused word */
+    refused(whole("scratch_words", scratch - 1), ROOMS_SCRATCH_SHORT);
+    refused_scratch(whole("out_bytes", sizeof sample_packed - 1), ROOMS_OUTPUT_SHORT, 0, scratch);
+}
+
+static void try_check(void)
+{
+    const size_t length = sizeof single_packed;
+    begin("rooms_check", call_check);
+    put_file(single_packed, length);
+    give(1, 5, bytes("file", 0), whole("file_bytes", length), bytes("scratch", 1), whole("scratch_bytes", length + 7), words("depth", 0));
+    memset(after.bytes[1], 0, length);
+    after.words[0][0] = 5;
+    accepted("a proper file");
+    orders();
+    refused(whole("scratch_bytes", ROOMS_CHECK_SCRATCH_BYTES(length) - 1), ROOMS_SCRATCH_SHORT);
+    refused(whole("file_bytes", 0), ROOMS_BAD_VERSION);
+    refused_byte(0, 0x11, ROOMS_BAD_VERSION, 0);
+    refused(whole("file_bytes", length - 1), ROOMS_BAD_LENGTH);
+    refused_byte(5, 1, ROOMS_BAD_DEPTH, 0);
+    refused_byte(35, 0, ROOMS_BROKEN_RULES, length); /* a zero leaf */
+    change(whole("scratch_bytes", ROOMS_CHECK_SCRATCH_BYTES(length)));
+    memcpy(&after, &before, sizeof after);
+    memset(after.bytes[1], 0, length);
+    after.words[0][0] = 5;
+    accepted("with just the scratch it takes");
+}
+
+/* What packed voxel and open refuse of a file's first bytes. */
+static void refused_front(void)
+{
+    refused(whole("file_bytes", 0), ROOMS_BAD_VERSION);
+    refused_byte(0, 0x11, ROOMS_BAD_VERSION, 0);
+    refused(whole("file_bytes", sizeof single_packed - 1), ROOMS_BAD_LENGTH);
+    refused_byte(5, 17, ROOMS_BAD_DEPTH, 0);
+    refused_byte(6, 8, ROOMS_BROKEN_RULES, 0);
+    refused_byte(10, 3, ROOMS_BROKEN_RULES, 0); /* a size */
+}
+
+static void try_packed_voxel(void)
+{
+    begin("rooms_packed_voxel", call_packed_voxel);
+    put_file(single_packed, sizeof single_packed);
+    give(2, 7, bytes("file", 0), whole("file_bytes", sizeof single_packed), whole("x", 13), whole("y", 18), whole("z", 23), words("solid", 0), words("records", 1));
+    after.words[0][0] = 1; /* solid */
+    after.words[1][0] = 4; /* records of heights 5, 4 and 3, and the leaf */
+    accepted("the one voxel");
+    orders();
+    refused_front();
+    refused(whole("x", 32), ROOMS_OUTSIDE);
+    refused(whole("y", 32), ROOMS_OUTSIDE);
+    refused(whole("z", 32), ROOMS_OUTSIDE);
+    refused_byte(23, 0, ROOMS_BROKEN_RULES, 0); /* a zero header */
+    change(whole("x", 20));
+    memcpy(&after, &before, sizeof after);
+    after.words[0][0] = 0;
+    after.words[1][0] = 1;
+    accepted("a point in another half than the voxel's: the root's record alone");
+}
+
+static const uint32_t single_numbers[ROOMS_OPENED_NUMBERS] = {5, 35, 31, 27, 23};
+
+static void try_open(void)
+{
+    begin("rooms_open", call_open);
+    put_file(single_packed, sizeof single_packed);
+    give(0, 4, bytes("file", 0), whole("file_bytes", sizeof single_packed), words("numbers", 0), whole("numbers_words", ROOMS_OPENED_NUMBERS + 1));
+    memcpy(after.words[0], single_numbers, sizeof single_numbers); /* the depth, then where heights 2, 3, 4 and 5 begin */
+    accepted("its depth and list starts");
+    orders();
+    refused_front();
+    refused(whole("numbers_words", ROOMS_OPENED_NUMBERS - 1), ROOMS_OUTPUT_SHORT);
+    change(whole("numbers_words", ROOMS_OPENED_NUMBERS));
+    memcpy(&after, &before, sizeof after);
+    memcpy(after.words[0], single_numbers, sizeof single_numbers);
+    accepted("into just the numbers it takes");
+}
+
+static void try_ask(void)
+{
+    begin("rooms_ask", call_ask);
+    put_file(single_packed, sizeof single_packed);
+    memcpy(before.words[0], single_numbers, sizeof single_numbers);
+    give(2, 9, bytes("file", 0), whole("file_bytes", sizeof single_packed), words("numbers", 0), whole("numbers_words", ROOMS_OPENED_NUMBERS + 1), whole("x", 13), whole("y", 18), whole("z", 23), words("solid", 1), words("records", 2));
+    after.words[1][0] = 1;
+    after.words[2][0] = 4;
+    accepted("the one voxel");
+    orders();
+    refused(whole("numbers_words", ROOMS_OPENED_NUMBERS - 1), ROOMS_BROKEN_RULES);
+    refused(whole("file_bytes", sizeof single_packed - 1), ROOMS_BROKEN_RULES);
+    for (size_t i = 0; i < ROOMS_OPENED_NUMBERS; i++) {
+        refused_word(i, single_numbers[i] + 1, ROOMS_BROKEN_RULES);
+    }
+    refused(whole("x", 32), ROOMS_OUTSIDE);
+    refused(whole("y", 32), ROOMS_OUTSIDE);
+    refused(whole("z", 32), ROOMS_OUTSIDE);
+}
+
+static void try_detail(void)
+{
+    begin("rooms_detail", call_detail);
+    give(1, 5, whole("depth", 6), whole("kind", ROOMS_DISTANCE), real("a", 10), real("b", 2.5), words("height", 0));
+    after.words[0][0] = 2; /* S11; 2.5 seen with factor 10 gives 0, and depth 2 with kind 6 is 13 */
+    accepted("distance 10, factor 2.5");
+    orders();
+    refused(whole("depth", ROOMS_MIN_DEPTH - 1), ROOMS_BAD_DEPTH);
+    refused(whole("depth", ROOMS_MAX_DEPTH + 1), ROOMS_BAD_DEPTH);
+    refused(whole("kind", ROOMS_DISTANCE + 1), ROOMS_BAD_WISH);
+    refused(real("a", -1), ROOMS_BAD_WISH);
+    refused(real("a", -5e-324), ROOMS_BAD_WISH);
+    refused(real("a", (double)NAN), ROOMS_BAD_WISH);
+    refused(real("b", 0), ROOMS_BAD_WISH);
+    refused(real("b", (double)INFINITY), ROOMS_BAD_WISH);
+    change(real("a", -0.0));
+    after.words[0][0] = 0;
+    accepted("distance -0");
+    change(whole("kind", ROOMS_WIDEST_EDGE));
+    change(real("a", 8));
+    after.words[0][0] = 3; /* S10 */
+    accepted("widest edge 8");
+    refused(real("a", 0.5), ROOMS_BAD_WISH);
+    change(whole("kind", ROOMS_EVERY_VOXEL));
+    memcpy(&after, &before, sizeof after);
+    after.words[0][0] = 0;
+    accepted("every voxel");
+}
+
+/* ---- sizes: each is enough and the least ---- */
+
+static void is(const char *what, uint32_t got, uint32_t due)
+{
+    judge(got == due, what, got, due);
+}
+
+/* A new store of the greatest capacity. */
+static void try_greatest(void)
+{
+    const size_t most = ROOMS_STORE_WORDS(ROOMS_MAX_CAPACITY);
+    uint32_t *store = malloc((most + 114) * sizeof *store);
+    if (store == NULL) {
+        is("no memory for the greatest store", 1, 0);
+        return;
+    }
+    store[most] = 7;
+    is("the greatest capacity", rooms_new(store, most, ROOMS_MAX_CAPACITY), ROOMS_OK);
+    is("its last word", store[most - 1], 0);
+    is("the word behind it", store[most], 7);
+    is("one word too few", rooms_new(store, most - 1, ROOMS_MAX_CAPACITY), ROOMS_BAD_SIZE);
+    is("a greater capacity", rooms_new(store, most + 114, ROOMS_MAX_CAPACITY + 1), ROOMS_BAD_SIZE);
+    free(store);
+}
+
+static void try_sizes(void)
+{
+    static uint32_t store[ROOMS_STORE_WORDS(CAPACITY)], scratch[ROOMS_PACK_SCRATCH_WORDS(CAPACITY)];
+    static uint8_t out[ROOMS_PACKED_MAX_BYTES(CAPACITY)], spare[ROOMS_CHECK_SCRATCH_BYTES(sizeof out)];
+    uint8_t file[sizeof nothing];
+    uint32_t value;
+
+    called = "sizes";
+    try_greatest();
+
+    is("the words of a small store", rooms_new(store, STORE, CAPACITY), ROOMS_OK);
+    is("the shortest outline", sizeof nothing, ROOMS_OUTLINE_MIN_BYTES);
+    is("it is accepted", rooms_add(store, STORE, nothing, ROOMS_OUTLINE_MIN_BYTES, &value), ROOMS_OK);
+    is("a byte less is not", rooms_add(store, STORE, nothing, ROOMS_OUTLINE_MIN_BYTES - 1, &value), ROOMS_BAD_LENGTH);
+    is("packed", rooms_pack(store, STORE, 0, scratch, ROOMS_PACK_SCRATCH_WORDS(CAPACITY), out, sizeof out, &value), ROOMS_OK);
+    is("the shortest packed file", value, ROOMS_PACKED_MIN_BYTES);
+    is("its bytes", memcmp(out, nothing_packed, sizeof nothing_packed) != 0, 0);
+    is("it is proper", rooms_check(out, ROOMS_PACKED_MIN_BYTES, spare, sizeof spare, &value), ROOMS_OK);
+    is("a byte less is not", rooms_check(out, ROOMS_PACKED_MIN_BYTES - 1, spare, sizeof spare, &value), ROOMS_BAD_LENGTH);
+
+    memcpy(file, nothing, sizeof file);
+    for (uint8_t depth = ROOMS_MIN_DEPTH; depth <= ROOMS_MAX_DEPTH; depth++) {
+        file[5] = depth;
+        is("each depth", rooms_add(store, STORE, file, sizeof file, &value), ROOMS_OK);
+    }
+    file[5] = ROOMS_MIN_DEPTH - 1;
+    is("a depth too small", rooms_add(store, STORE, file, sizeof file, &value), ROOMS_BAD_DEPTH);
+    file[5] = ROOMS_MAX_DEPTH + 1;
+    is("a depth too great", rooms_add(store, STORE, file, sizeof file, &value), ROOMS_BAD_DEPTH);
+
+    for (uint32_t scene = store[1]; scene < ROOMS_MAX_SCENES; scene++) {
+        is("each scene", rooms_add(store, STORE, nothing, sizeof nothing, &value), ROOMS_OK);
+        is("its number", value, scene);
+    }
+    is("one scene more", rooms_add(store, STORE, nothing, sizeof nothing, &value), ROOMS_SCENES_FULL);
+    /* 7 bytes, 15 sizes, a root of 34 bytes; at each height below 16 at most 8 records, of 8 bytes at height 2, else of 34 */
+    is("the most bytes of a packed scene", ROOMS_PACKED_MAX_BYTES(CAPACITY), 7 + 60 + 34 + 8 * 8 + 13 * 8 * 34);
+}
+
+int main(int argc, char **argv)
+{
+    (void)argc;
+    prototypes = argv + 1;
+    try_new();
+    try_add();
+    try_voxel();
+    try_cell();
+    try_box();
+    try_kept();
+    try_outline();
+    try_pack();
+    try_check();
+    try_packed_voxel();
+    try_open();
+    try_ask();
+    try_detail();
+    try_sizes();
+    printf("%lu passed, %lu failed\n", passed, failed);
+    return failed != 0;
+}
