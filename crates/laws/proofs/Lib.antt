@@ -82,6 +82,8 @@ pub mod RecordBytes
 pub mod RoundTrip
 pub mod ProperCounts
 pub mod PackedOrder
+pub mod RenumberedPointers
+pub mod Renumbering
 pub mod PackedReached
 pub mod PackedGraph
 pub mod Packing

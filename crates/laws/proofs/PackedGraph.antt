@@ -1,32 +1,32 @@
--- The graph that packing lays out stands for the scene's voxels, and the rules on records hold of it. Voxels, matches and popularity are carried
--- across the renumbering; 'no two match' and 'tags lowest' are the store's invariant, 'named' and 'falling' the order's laws. Assumes nothing.
-use mathlib.Core.Path.{_≡_, sym, _∙_, subst, ap}
-use mathlib.Core.Bool.{not}
+-- The graph that packing lays out stands for the scene's voxels, and the rules on records hold of it. It has the store's cells renumbered, so its
+-- lists are as they should be: 'no two match' and 'tags lowest'; 'named' and 'falling' are the order's laws. Assumes nothing.
+use mathlib.Core.Path.{_≡_, _∙_, subst₂, ap}
+use mathlib.Core.Bool.{Bool, true, false, cond, not}
 use mathlib.Core.List.{List, [], map}
-use mathlib.Core.Logic.{inl, inr}
-use Prim.Native.Nat.{ℕ, zero, suc, _-_, _<_, _≤_}
+use mathlib.Core.Logic.{inr}
+use Prim.Native.Nat.{ℕ, suc, _-_, _<_, _≤_}
 use native.Mathlib.Nat.{zero-add}
 use native.Mathlib.Omega.{arith}
-use borrow.Author.Tests.{eq-eqb, ne-eqb, lt-ltb, le-leb}
+use borrow.Author.Tests.{lt-ltb, le-leb}
 use lib.Bits.{bitXor}
-use lib.Dec.{T, not-T}
-use lib.ListN.{length, getD, length-map, List·getD-map}
+use lib.Dec.{T, eqb, not-T}
+use lib.ListN.{length, getD}
 use Rattle.paper.specs.Numbers.{allBelow, indexIn}
-use Rattle.paper.specs.Rooms.{Point, mirror, childNo, inChild}
-use Rattle.paper.specs.Leaf.{leafVoxel}
-use Rattle.paper.specs.Outline.{edge}
-use Rattle.paper.specs.Store.{Cell, cellNo, tagOf, leafNo, cellsAt, cellAt}
-use Rattle.paper.specs.Meaning.{pointerVoxel, cellVoxel}
+use Rattle.paper.specs.Rooms.{Point}
+use Rattle.paper.specs.Store.{Cell, mostCapacity, cellNo, tagOf, cellsAt, cellAt}
+use Rattle.paper.specs.Meaning.{cellVoxel}
 use Rattle.paper.specs.Match.{matches}
 use Rattle.paper.specs.Packed.{popularity, namedOk, apartOk, tagLow, pointerLow, tagsOk, fallingOk, graphOk}
 use Rattle.paper.specs.Pack.{renumber, listFor, sceneGraph}
 use Rattle.laws.proofs.Tests.{T-true, true-T, all-T}
-use Rattle.laws.proofs.Lists.{map-at, getD-tabulate}
+use Rattle.laws.proofs.Lists.{isIn-at, in-head, getD-tabulate}
 use Rattle.laws.proofs.Eight.{xor8-lt}
 use Rattle.laws.proofs.Matching.{tag-lt, match-sound}
-use Rattle.laws.proofs.Invariant.{Names, Alike, LowTag}
+use Rattle.laws.proofs.Invariant.{Names, names-ne, LowTag, Inv}
+use Rattle.laws.proofs.RenumberedPointers.{Listed, listed-cell, listed-tag}
+use Rattle.laws.proofs.Renumbering.{Renumbered, renumbered-length, renumbered-cell, renumbered-pointer, renumbered-voxels, renumbered-popularity, pointer-low, renumbered-inv}
 use Rattle.laws.proofs.PackedOrder.{every-at, pairs-at, Before, Counted}
-use Rattle.laws.proofs.PackedReached.{InList, none-renumbered, listed-cell, listed-tag, listed-some, popularity-same, Packable, Chosen, numbers, keptAt, uses, N-top, N-chosen, N-few, N-used, N-falls, all-listed, before-le}
+use Rattle.laws.proofs.PackedReached.{Packable, numbers, keptAt, uses, N-top, N-chosen, N-few, N-used, N-falls, all-listed, before-le}
 
 -- ---- the lists of a scene's graph
 
@@ -43,6 +43,37 @@ module _ (K : List (List Cell)) (k p : ℕ) where
   unfolding listFor
   graph-inner j h = graph-list (suc j) h
 
+-- ---- lists as they should be keep the rules
+
+-- no two match
+apart-ok : (G : List (List Cell)) (j : ℕ) → Inv G j → T (apartOk G j)
+unfolding apartOk
+apart-ok G j inv =
+    all-T (length (cellsAt G j)) _ (λ q hq. all-T q _ (λ r hr. all-T 8 (λ t. not (matches G j (cellAt G j q) (cellAt G j r) t)) (λ t ht.
+    not-T (matches G j (cellAt G j q) (cellAt G j r) t)
+    (λ w. absurd (omega (arith, inv .apart q r t hq (omega arith) ht (match-sound G j (cellAt G j q) (cellAt G j r) t ht w)))))))
+
+-- tags are lowest
+tag-low : (G : List (List Cell)) (j p : ℕ) → LowTag G j p → T (tagLow G j (tagOf p) (cellNo p))
+tag-low G j p low =
+    let c : Cell = cellAt G j (cellNo p) in
+    all-T (tagOf p) _ (λ u hu. not-T (matches G j c c (bitXor u (tagOf p))) (λ w.
+    low u hu (match-sound G j c c (bitXor u (tagOf p)) (xor8-lt u (tagOf p) (omega (arith, tag-lt p)) (tag-lt p)) w)))
+
+named-low : (G : List (List Cell)) (j p : ℕ) → LowTag G j p → T (pointerLow G j p)
+unfolding pointerLow
+named-low G j p low = go (eqb p 0)
+  where
+    go : (b : Bool) → T (cond b true (tagLow G j (tagOf p) (cellNo p)))
+    go true = tt
+    go false = tag-low G j p low
+
+tags-ok : (G : List (List Cell)) (j : ℕ) → Inv G (suc j) → T (tagsOk G j)
+unfolding tagsOk
+tags-ok G j inv =
+    all-T (length (cellsAt G (suc j))) _ (λ n hn. all-T 8 (λ i. pointerLow G j (getD (cellAt G (suc j) n) i 0)) (λ i hi.
+    named-low G j (getD (cellAt G (suc j) n) i 0) (inv .shape n hn .1 i hi)))
+
 module _ (K : List (List Cell)) (s : Packable K) (k p : ℕ) (hp : Names (length (cellsAt K k)) p) where
   abbrev N : ℕ → List ℕ
   N = numbers K k p
@@ -56,68 +87,43 @@ module _ (K : List (List Cell)) (s : Packable K) (k p : ℕ) (hp : Names (length
   abbrev G : List (List Cell)
   G = sceneGraph K k p
 
-  -- ---- the graph's cells
+  -- ---- the graph's cells are the store's renumbered
+
+  pub graph-renumbered : Renumbered K G N k
+  graph-renumbered = record {
+    list = graph-list K k p;
+    below = λ j h. N-chosen K s k p hp j h .below;
+    once = λ j h. N-chosen K s k p hp j h .once;
+    few = N-few K s k p hp;
+    closed = all-listed K s k p hp;
+  }
 
   pub graph-length : (j : ℕ) → j ≤ k → length (cellsAt G j) ≡ length (N j)
-  graph-length zero h = ap length (graph-leaves K k p) ∙ length-map (N 0) (cellAt K 0)
-  graph-length (suc j) h = ap length (graph-inner K k p j h) ∙ length-map (N (suc j)) (λ q. map (renumber (N j)) (cellAt K (suc j) q))
+  graph-length = renumbered-length graph-renumbered
 
   pub graph-leaf : (n : ℕ) → n < length (N 0) → cellAt G 0 n ≡ kept 0 n
-  graph-leaf n h = ap (λ (l : List Cell). getD l n []) (graph-leaves K k p) ∙ map-at (cellAt K 0) (N 0) n 0 [] h
+  graph-leaf = renumbered-cell graph-renumbered 0 (omega arith)
 
   pub graph-cell : (j : ℕ) → j < k → (n : ℕ) → n < length (N (suc j)) → cellAt G (suc j) n ≡ map (renumber (N j)) (kept (suc j) n)
-  graph-cell j h n m = ap (λ (l : List Cell). getD l n []) (graph-inner K k p j h) ∙ map-at (λ q. map (renumber (N j)) (cellAt K (suc j) q)) (N (suc j)) n 0 [] m
+  graph-cell j h = renumbered-cell graph-renumbered (suc j) h
 
   pub graph-pointer : (j : ℕ) → j < k → (n : ℕ) → n < length (N (suc j)) → (i : ℕ) → getD (cellAt G (suc j) n) i 0 ≡ renumber (N j) (getD (kept (suc j) n) i 0)
-  unfolding renumber
-  graph-pointer j h n m i = ap (λ (c : Cell). getD c i 0) (graph-cell j h n m) ∙ List·getD-map (renumber (N j)) (kept (suc j) n) i 0
-
-  -- ---- its voxels are the store's
-
-  pointer-voxels : (j : ℕ) → j ≤ k → ((n : ℕ) (v : Point) → n < length (N j) → cellVoxel G j (cellAt G j n) v ≡ cellVoxel K j (kept j n) v)
-      → (r : ℕ) → InList (N j) r → (u : Point) → pointerVoxel (cellVoxel G j) (cellsAt G j) (edge j) (renumber (N j) r) u ≡ pointerVoxel (cellVoxel K j) (cellsAt K j) (edge j) r u
-  pointer-voxels j h ih r (inl e) u = rw (none-renumbered (N j) r e, eq-eqb r 0 e)
-  pointer-voxels j h ih r (inr w) u =
-      let n : ℕ = indexIn (cellNo r) (N j) in
-      let x : Point = mirror (tagOf r) (edge j) u in
-      rw (ne-eqb (renumber (N j) r) 0 (listed-some (N j) r w), ne-eqb r 0 (w .some), listed-cell (N j) (N-few K s k p hp j h) r w, listed-tag (N j) (N-few K s k p hp j h) r w)
-      (ih n x (w .at .inside) ∙ ap (λ (q : ℕ). cellVoxel K j (cellAt K j q) x) (w .at .is))
+  graph-pointer = renumbered-pointer graph-renumbered
 
   pub graph-voxels : (j : ℕ) → j ≤ k → (n : ℕ) (v : Point) → n < length (N j) → cellVoxel G j (cellAt G j n) v ≡ cellVoxel K j (kept j n) v
-  unfolding cellVoxel
-  graph-voxels zero h n v m = ap (λ (c : Cell). leafVoxel (leafNo c) v) (graph-leaf n m)
-  graph-voxels (suc j) h n v m =
-      rw (graph-pointer j h n m (childNo (edge j) v))
-      (pointer-voxels j (omega arith) (graph-voxels j (omega arith)) (getD (kept (suc j) n) (childNo (edge j) v) 0) (all-listed K s k p hp j h n m (childNo (edge j) v)) (inChild (edge j) v))
+  graph-voxels j h n v m = renumbered-voxels graph-renumbered j h n m v
 
-  -- ---- the rules
+  graph-inv : (j : ℕ) → j ≤ k → Inv G j
+  graph-inv j h = renumbered-inv graph-renumbered j h (s .invs j)
 
-  alike-kept : (j : ℕ) → j ≤ k → (m n t : ℕ) → m < length (N j) → n < length (N j) → Alike G j (cellAt G j m) (cellAt G j n) t → Alike K j (kept j m) (kept j n) t
-  alike-kept j h m n t lm ln e v l = sym (graph-voxels j h m v lm) ∙ e v l ∙ graph-voxels j h n (mirror t (edge j) v) ln
-
-  -- no two match
-  pub apart-ok : (j : ℕ) → j ≤ k → T (apartOk G j)
-  unfolding apartOk
-  apart-ok j h =
-      all-T (length (cellsAt G j)) _ (λ q hq. all-T q _ (λ r hr. all-T 8 (λ t. not (matches G j (cellAt G j q) (cellAt G j r) t)) (λ t ht. not-T (matches G j (cellAt G j q) (cellAt G j r) t) (λ w. absurd
-      (let lq : q < length (N j) = omega (arith, graph-length j h) in
-      let lr : r < length (N j) = omega (arith, graph-length j h) in
-      let c : Chosen (length (cellsAt K j)) (N j) = N-chosen K s k p hp j h in
-      omega (
-        arith,
-        c .once q r lq lr
-            (s .invs j .apart (getD (N j) q 0) (getD (N j) r 0) t (c .below q lq) (c .below r lr) ht
-            (alike-kept j h q r t lq lr (match-sound G j (cellAt G j q) (cellAt G j r) t ht w))),
-      ))))))
+  -- ---- the rules of the order
 
   -- as many records name it as cells named the kept cell
   graph-popularity : (j : ℕ) → j < k → (q : ℕ) → q < length (N j) → popularity (cellsAt G (suc j)) q ≡ used j (getD (N j) q 0)
-  graph-popularity j h q m =
-      ap (λ (l : List Cell). popularity l q) (graph-inner K k p j h)
-      ∙ popularity-same (N j) (N-few K s k p hp j (omega arith)) (N-chosen K s k p hp j (omega arith) .once) q m (cellAt K (suc j)) (N (suc j)) (λ n l i. all-listed K s k p hp j h n l i)
+  graph-popularity = renumbered-popularity graph-renumbered
 
   -- every record below the top is named
-  pub named-ok : (j : ℕ) → j < k → T (namedOk G j)
+  named-ok : (j : ℕ) → j < k → T (namedOk G j)
   unfolding namedOk
   named-ok j h =
       all-T (length (cellsAt G j)) _ (λ q hq.
@@ -126,7 +132,7 @@ module _ (K : List (List Cell)) (s : Packable K) (k p : ℕ) (hp : Names (length
       true-T (lt-ltb 0 (popularity (cellsAt G (suc j)) q) (omega (arith, graph-popularity j h q l, u .some))))
 
   -- along each list that number never rises
-  pub falling-ok : (j : ℕ) → j < k → T (fallingOk G j)
+  falling-ok : (j : ℕ) → j < k → T (fallingOk G j)
   unfolding fallingOk
   falling-ok j h =
       all-T (length (cellsAt G j) - 1) _ (λ q hq.
@@ -135,40 +141,25 @@ module _ (K : List (List Cell)) (s : Packable K) (k p : ℕ) (hp : Names (length
       true-T (le-leb (popularity (cellsAt G (suc j)) (suc q)) (popularity (cellsAt G (suc j)) q)
       (omega (arith, graph-popularity j h q (omega arith), graph-popularity j h (suc q) l, before-le (used j) (getD (N j) q 0) (getD (N j) (suc q) 0) b))))
 
-  -- tags are lowest
-  tag-low : (j : ℕ) → j ≤ k → (n t : ℕ) → n < length (N j) → t < 8
-      → ((u : ℕ) → u < t → Alike K j (kept j n) (kept j n) (bitXor u t) → ⊥) → T (tagLow G j t n)
-  tag-low j h n t l ht low =
-      all-T t _ (λ u hu. not-T (matches G j (cellAt G j n) (cellAt G j n) (bitXor u t)) (λ w.
-      low u hu (alike-kept j h n n (bitXor u t) l l (match-sound G j (cellAt G j n) (cellAt G j n) (bitXor u t) (xor8-lt u t (omega arith) ht) w))))
+  -- ---- all of them
 
-  pointer-low : (j : ℕ) → j ≤ k → (r : ℕ) → InList (N j) r → LowTag K j r → T (pointerLow G j (renumber (N j) r))
-  unfolding pointerLow
-  pointer-low j h r (inl e) low = rw (none-renumbered (N j) r e) tt
-  pointer-low j h r (inr w) low =
-      rw (ne-eqb (renumber (N j) r) 0 (listed-some (N j) r w), listed-cell (N j) (N-few K s k p hp j h) r w, listed-tag (N j) (N-few K s k p hp j h) r w)
-      (tag-low j h (indexIn (cellNo r) (N j)) (tagOf r) (w .at .inside) (tag-lt r)
-      (λ u hu e. low u hu (subst (λ (q : ℕ). Alike K j (cellAt K j q) (cellAt K j q) (bitXor u (tagOf r))) (w .at .is) e)))
+  -- the root's cell is number 0 of the top list
+  root-listed : Listed (N k) p
+  root-listed = record { some = names-ne hp; at = isIn-at (cellNo p) (N k) (rw (N-top K k p) (in-head (cellNo p) [])) }
 
-  pub tags-ok : (j : ℕ) → j < k → T (tagsOk G j)
-  unfolding tagsOk
-  tags-ok j h =
-      all-T (length (cellsAt G (suc j))) _ (λ n hn. all-T 8 (λ i. pointerLow G j (getD (cellAt G (suc j) n) i 0)) (λ i hi.
-      let l : n < length (N (suc j)) = omega (arith, graph-length (suc j) h) in
-      rw (graph-pointer j h n l i)
-      (pointer-low j (omega arith) (getD (kept (suc j) n) i 0) (all-listed K s k p hp j h n l i) (s .invs (suc j) .shape (getD (N (suc j)) n 0) (N-chosen K s k p hp (suc j) h .below n l) .1 i hi))))
-
-  pub root-ok : LowTag K k p → T (tagLow G k (tagOf p) 0)
+  root-ok : LowTag K k p → T (tagLow G k (tagOf p) 0)
   root-ok low =
-      tag-low k (omega arith) 0 (tagOf p) (omega (arith, ap length (N-top K k p))) (tag-lt p)
-      (λ u hu e. low u hu (subst (λ (l : List ℕ). Alike K k (cellAt K k (getD l 0 0)) (cellAt K k (getD l 0 0)) (bitXor u (tagOf p))) (N-top K k p) e))
+      let few : length (N k) ≤ mostCapacity = N-few K s k p hp k (omega arith) in
+      let first : indexIn (cellNo p) (N k) ≡ 0 = omega (arith, root-listed .at .inside, ap length (N-top K k p)) in
+      subst₂ (λ (t n : ℕ). T (tagLow G k t n)) (listed-tag (N k) few p root-listed) (listed-cell (N k) few p root-listed ∙ first)
+      (tag-low G k (renumber (N k) p) (pointer-low graph-renumbered k (omega arith) p (inr root-listed) low))
 
   pub graph-ok : LowTag K k p → T (graphOk k (tagOf p) G)
   unfolding graphOk
   graph-ok low =
       rw (
         T-true {b = allBelow k (namedOk G)} (all-T k (namedOk G) named-ok),
-        T-true {b = allBelow (suc k) (apartOk G)} (all-T (suc k) (apartOk G) (λ j h. apart-ok j (omega arith))),
-        T-true {b = allBelow k (tagsOk G)} (all-T k (tagsOk G) tags-ok),
+        T-true {b = allBelow (suc k) (apartOk G)} (all-T (suc k) (apartOk G) (λ j h. apart-ok G j (graph-inv j (omega arith)))),
+        T-true {b = allBelow k (tagsOk G)} (all-T k (tagsOk G) (λ j h. tags-ok G j (graph-inv (suc j) h))),
         T-true {b = tagLow G k (tagOf p) 0} (root-ok low),
       ) (all-T k (fallingOk G) falling-ok)

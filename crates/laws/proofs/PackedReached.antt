@@ -1,24 +1,23 @@
--- Which cells packing lays out: those that a reached cell names are reached, each once, by popularity; and a pointer renumbered names the same cell
--- under the same tag. By induction from the root down, with the laws of the order. Assumes nothing.
-use mathlib.Core.Path.{_≡_, refl, sym, _∙_, subst, ap, ap₂}
+-- Which cells packing lays out: those that a reached cell names are reached, each once, by popularity. By induction from the root down, with the
+-- laws of the order. Assumes nothing.
+use mathlib.Core.Path.{_≡_, refl, sym, _∙_, subst, ap}
 use mathlib.Core.Bool.{Bool, true, false, cond}
 use mathlib.Core.List.{List, [], _∷_, map}
 use mathlib.Core.Logic.{_⊎_, inl, inr}
-use Prim.Native.Nat.{ℕ, zero, suc, _+_, _-_, _^_, _<_, _≤_}
+use Prim.Native.Nat.{ℕ, zero, suc, _+_, _<_, _≤_}
 use native.Mathlib.Nat.{le-of-suc-le-suc, not-suc-le-zero, eq-or-lt-of-le}
-use native.Mathlib.Decide.{decLt, ℕ-discrete}
+use native.Mathlib.Decide.{decLt}
 use native.Mathlib.Omega.{arith}
 use borrow.Author.Tests.{eq-eqb, ne-eqb}
 use lib.Dec.{T, eqb}
 use lib.ListN.{length, getD, length-map, List·getD-eq-default}
-use Rattle.paper.specs.Numbers.{isIn, indexIn}
-use Rattle.paper.specs.Store.{Cell, mostCapacity, cellNo, tagOf, pointer, cellsAt, cellAt}
+use Rattle.paper.specs.Numbers.{isIn}
+use Rattle.paper.specs.Store.{Cell, mostCapacity, cellNo, cellsAt, cellAt}
 use Rattle.paper.specs.Packed.{names, popularity}
-use Rattle.paper.specs.Pack.{ordered, next, reached, renumber}
-use Rattle.laws.proofs.Lists.{map-at, At, isIn-at, Once, index-getD}
-use Rattle.laws.proofs.Matching.{tag-lt}
+use Rattle.paper.specs.Pack.{ordered, next, reached}
+use Rattle.laws.proofs.Lists.{map-at, isIn-at, Once}
 use Rattle.laws.proofs.Invariant.{Names, OkPointer, Inv}
-use Rattle.laws.proofs.Adding.{pointer-cell, pointer-tag}
+pub use Rattle.laws.proofs.RenumberedPointers.{Listed, InList, none-renumbered, listed-is, listed-small, listed-some, listed-cell, listed-tag}
 use Rattle.laws.proofs.PackedOrder.{Every, Pairs, every-at, Before, Counted, ordered-counted, ordered-pairs, ordered-all, ordered-once, ordered-length}
 
 -- ---- which cells are named
@@ -51,67 +50,6 @@ popularity-le (c ∷ cs) q = go (names q c) (popularity-le cs q)
     go : (b : Bool) → popularity cs q ≤ length cs → cond b 1 0 + popularity cs q ≤ suc (length cs)
     go true h = omega arith
     go false h = omega arith
-
--- ---- pointers renumbered
-
--- a pointer to one of the cells ns
-pub record Listed (ns : List ℕ) (r : ℕ) : Type 0 where
-  pub some : r ≡ 0 → ⊥
-  pub at : At (cellNo r) ns
-
--- none, or one of them
-abbrev pub InList : List ℕ → ℕ → Type 0
-InList ns r = (r ≡ 0) ⊎ Listed ns r
-
-module _ (ns : List ℕ) where
-  pub none-renumbered : (r : ℕ) → r ≡ 0 → renumber ns r ≡ 0
-  unfolding renumber
-  none-renumbered r e = rw (eq-eqb r 0 e)
-
-  pub listed-is : (r : ℕ) → Listed ns r → renumber ns r ≡ pointer (tagOf r) (indexIn (cellNo r) ns)
-  unfolding renumber
-  listed-is r h = rw (ne-eqb r 0 (h .some))
-
-  pub listed-some : (r : ℕ) → Listed ns r → renumber ns r ≡ 0 → ⊥
-  listed-some r h e = let q : pointer (tagOf r) (indexIn (cellNo r) ns) ≡ 0 = sym (listed-is r h) ∙ e in omega arith
-
--- its number fits, so a pointer renumbered names the same cell under the same tag
-module _ (ns : List ℕ) (few : length ns ≤ mostCapacity) where
-  pub listed-small : (r : ℕ) → Listed ns r → suc (indexIn (cellNo r) ns) < 2 ^ 29
-  listed-small r h = omega (arith, h .at .inside)
-
-  pub listed-cell : (r : ℕ) → Listed ns r → cellNo (renumber ns r) ≡ indexIn (cellNo r) ns
-  listed-cell r h = ap cellNo (listed-is ns r h) ∙ pointer-cell (tagOf r) (indexIn (cellNo r) ns) (listed-small r h)
-
-  pub listed-tag : (r : ℕ) → Listed ns r → tagOf (renumber ns r) ≡ tagOf r
-  listed-tag r h = ap tagOf (listed-is ns r h) ∙ pointer-tag (tagOf r) (indexIn (cellNo r) ns) (tag-lt r) (listed-small r h)
-
-  -- and as many cells name number q as named the cell that has it
-  module _ (once : Once ns) (q : ℕ) (hq : q < length ns) where
-    same-number : (r : ℕ) → Listed ns r → eqb (indexIn (cellNo r) ns) q ≡ eqb (cellNo r) (getD ns q 0)
-    same-number r h = go (ℕ-discrete (indexIn (cellNo r) ns) q)
-      where
-        go : Dec (indexIn (cellNo r) ns ≡ q) → eqb (indexIn (cellNo r) ns) q ≡ eqb (cellNo r) (getD ns q 0)
-        go (yes e) = rw (eq-eqb (indexIn (cellNo r) ns) q e, eq-eqb (cellNo r) (getD ns q 0) (sym (h .at .is) ∙ ap (λ (i : ℕ). getD ns i 0) e))
-        go (no n) = rw (ne-eqb (indexIn (cellNo r) ns) q n, ne-eqb (cellNo r) (getD ns q 0) (λ e. n (ap (λ (x : ℕ). indexIn x ns) e ∙ index-getD ns once q hq)))
-
-    names-same : (c : Cell) → ((i : ℕ) → InList ns (getD c i 0)) → names q (map (renumber ns) c) ≡ names (getD ns q 0) c
-    unfolding names
-    names-same [] h = refl
-    names-same (r ∷ c) h = go (h 0) (names-same c (λ i. h (suc i)))
-      where
-        go : InList ns r → names q (map (renumber ns) c) ≡ names (getD ns q 0) c
-            → cond (eqb (renumber ns r) 0) (names q (map (renumber ns) c)) (cond (eqb (cellNo (renumber ns r)) q) true (names q (map (renumber ns) c)))
-            ≡ cond (eqb r 0) (names (getD ns q 0) c) (cond (eqb (cellNo r) (getD ns q 0)) true (names (getD ns q 0) c))
-        go (inl e) ih = rw (none-renumbered ns r e, eq-eqb r 0 e) ih
-        go (inr w) ih = rw (ne-eqb (renumber ns r) 0 (listed-some ns r w), ne-eqb r 0 (w .some), listed-cell r w, same-number r w, ih)
-
-    pub popularity-same : (g : ℕ → Cell) (ms : List ℕ) → ((n : ℕ) → n < length ms → (i : ℕ) → InList ns (getD (g (getD ms n 0)) i 0))
-        → popularity (map (λ m. map (renumber ns) (g m)) ms) q ≡ popularity (map g ms) (getD ns q 0)
-    unfolding popularity
-    popularity-same g [] h = refl
-    popularity-same g (m ∷ ms) h =
-        ap₂ (λ (b : Bool) (n : ℕ). cond b 1 0 + n) (names-same (g m) (h 0 (omega arith))) (popularity-same g ms (λ n l. h (suc n) (omega arith)))
 
 -- ---- which numbers are reached
 
