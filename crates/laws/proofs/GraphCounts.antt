@@ -16,7 +16,8 @@ use Rattle.paper.specs.Rooms.{Room, Inside, cellOf, childRoom, Same, Image, Non
 use Rattle.paper.specs.Outline.{edge}
 use Rattle.paper.specs.Store.{Cell, tagOf, cellNo, cellsAt, cellAt}
 use Rattle.paper.specs.Meaning.{cellVoxel}
-use Rattle.paper.specs.Packed.{names, popularity, namedOk}
+use Rattle.paper.specs.Packed.{names, weight, popularity, namedOk}
+use Rattle.laws.proofs.Weights.{weight-named}
 use Rattle.paper.specs.Runs.{alone, Occurs, Number}
 use Rattle.laws.proofs.Tests.{all-at}
 use Rattle.laws.proofs.Eight.{xor8-lt, xor8-back}
@@ -59,12 +60,12 @@ names-some q (p ∷ c) e = go (eqb p 0) refl (eqb (cellNo p) q) refl e (names-so
 named-by : (cs : List Cell) (q : ℕ) → 0 < popularity cs q → NamedBy cs q
 unfolding popularity
 named-by [] q h = absurd (not-suc-le-zero h)
-named-by (c ∷ cs) q h = go (names q c) refl h (named-by cs q)
+named-by (c ∷ cs) q h = go (decLt 0 (weight q c)) (named-by cs q)
   where
-    go : (b : Bool) → names q c ≡ b → 0 < cond b 1 0 + popularity cs q → (0 < popularity cs q → NamedBy cs q) → NamedBy (c ∷ cs) q
-    go true e l ih = let w : Names q c = names-some q c e in record { cell = 0; is-cell = omega arith; child = w .0; some = w .1; is = w .2 }
-    go false e l ih =
-        let w : NamedBy cs q = ih (omega arith) in
+    go : Dec (0 < weight q c) → (0 < popularity cs q → NamedBy cs q) → NamedBy (c ∷ cs) q
+    go (yes l) ih = let w : Names q c = names-some q c (weight-named q c l) in record { cell = 0; is-cell = omega arith; child = w .0; some = w .1; is = w .2 }
+    go (no n) ih =
+        let w : NamedBy cs q = ih (omega (arith, h)) in
         record { cell = suc (w .cell); is-cell = omega (arith, w .is-cell); child = w .child; some = w .some; is = w .is }
 
 -- ---- the graph K under its record 0 of list k, seen under m

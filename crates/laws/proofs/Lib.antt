@@ -89,6 +89,7 @@ pub mod RecordBytes
 pub mod RoundTrip
 pub mod ProperCounts
 pub mod PackedOrder
+pub mod Weights
 pub mod RenumberedPointers
 pub mod Renumbering
 pub mod PackedReached

@@ -4,7 +4,7 @@ use mathlib.Core.Path.{_≡_, _∙_, subst₂, ap}
 use mathlib.Core.Bool.{Bool, true, false, cond, not}
 use mathlib.Core.List.{List, [], map}
 use mathlib.Core.Logic.{inr}
-use Prim.Native.Nat.{ℕ, suc, _-_, _<_, _≤_}
+use Prim.Native.Nat.{ℕ, suc, _-_, _*_, _<_, _≤_}
 use native.Mathlib.Nat.{zero-add}
 use native.Mathlib.Omega.{arith}
 use borrow.Author.Tests.{lt-ltb, le-leb}
@@ -16,7 +16,7 @@ use Rattle.paper.specs.Rooms.{Point}
 use Rattle.paper.specs.Store.{Cell, mostCapacity, cellNo, tagOf, cellsAt, cellAt}
 use Rattle.paper.specs.Meaning.{cellVoxel}
 use Rattle.paper.specs.Match.{matches}
-use Rattle.paper.specs.Packed.{popularity, namedOk, apartOk, tagLow, pointerLow, tagsOk, fallingOk, graphOk}
+use Rattle.paper.specs.Packed.{mostWeight, popularity, namedOk, apartOk, tagLow, pointerLow, tagsOk, fallingOk, graphOk}
 use Rattle.paper.specs.Pack.{renumber, listFor, sceneGraph}
 use Rattle.laws.proofs.Tests.{T-true, true-T, all-T}
 use Rattle.laws.proofs.Lists.{isIn-at, in-head, getD-tabulate}
@@ -128,7 +128,7 @@ module _ (K : List (List Cell)) (s : Packable K) (k p : ℕ) (hp : Names (length
   named-ok j h =
       all-T (length (cellsAt G j)) _ (λ q hq.
       let l : q < length (N j) = omega (arith, graph-length j (omega arith)) in
-      let u : Counted (used j) (length (N (suc j))) (length (cellsAt K j)) (getD (N j) q 0) = every-at _ (N j) (N-used K k p j h) q l in
+      let u : Counted (used j) (mostWeight * length (N (suc j))) (length (cellsAt K j)) (getD (N j) q 0) = every-at _ (N j) (N-used K k p j h) q l in
       true-T (lt-ltb 0 (popularity (cellsAt G (suc j)) q) (omega (arith, graph-popularity j h q l, u .some))))
 
   -- along each list that number never rises

@@ -4,7 +4,7 @@ use mathlib.Core.Path.{_≡_, refl, sym, _∙_, subst, ap}
 use mathlib.Core.Bool.{Bool, true, false, cond}
 use mathlib.Core.List.{List, [], _∷_, map}
 use mathlib.Core.Logic.{_⊎_, inl, inr}
-use Prim.Native.Nat.{ℕ, zero, suc, _+_, _<_, _≤_}
+use Prim.Native.Nat.{ℕ, zero, suc, _+_, _*_, _<_, _≤_}
 use native.Mathlib.Nat.{le-of-suc-le-suc, not-suc-le-zero, eq-or-lt-of-le}
 use native.Mathlib.Decide.{decLt}
 use native.Mathlib.Omega.{arith}
@@ -13,9 +13,10 @@ use lib.Dec.{T, eqb}
 use lib.ListN.{length, getD, length-map, List·getD-eq-default}
 use Rattle.paper.specs.Numbers.{isIn}
 use Rattle.paper.specs.Store.{Cell, mostCapacity, cellNo, cellsAt, cellAt}
-use Rattle.paper.specs.Packed.{names, popularity}
+use Rattle.paper.specs.Packed.{names, mostWeight, popularity}
 use Rattle.paper.specs.Pack.{ordered, next, reached}
 use Rattle.laws.proofs.Lists.{map-at, isIn-at, Once}
+use Rattle.laws.proofs.Weights.{weight-pos, weight-le}
 use Rattle.laws.proofs.Invariant.{Names, OkPointer, Inv}
 pub use Rattle.laws.proofs.RenumberedPointers.{Listed, InList, none-renumbered, listed-is, listed-small, listed-some, listed-cell, listed-tag}
 use Rattle.laws.proofs.PackedOrder.{Every, Pairs, every-at, Before, Counted, ordered-counted, ordered-pairs, ordered-all, ordered-once, ordered-length}
@@ -39,17 +40,13 @@ names-at (p ∷ c) (suc i) n = go (eqb p 0) (eqb (cellNo p) (cellNo (getD c i 0)
 pub popularity-pos : (cs : List Cell) (i q : ℕ) → i < length cs → names q (getD cs i []) ≡ true → 1 ≤ popularity cs q
 unfolding popularity
 popularity-pos [] i q h e = absurd (not-suc-le-zero h)
-popularity-pos (c ∷ cs) zero q h e = rw e (omega arith)
+popularity-pos (c ∷ cs) zero q h e = omega (arith, weight-pos q c e)
 popularity-pos (c ∷ cs) (suc i) q h e = omega (arith, popularity-pos cs i q (le-of-suc-le-suc h) e)
 
-pub popularity-le : (cs : List Cell) (q : ℕ) → popularity cs q ≤ length cs
+pub popularity-le : (cs : List Cell) (q : ℕ) → popularity cs q ≤ mostWeight * length cs
 unfolding popularity
 popularity-le [] q = omega arith
-popularity-le (c ∷ cs) q = go (names q c) (popularity-le cs q)
-  where
-    go : (b : Bool) → popularity cs q ≤ length cs → cond b 1 0 + popularity cs q ≤ suc (length cs)
-    go true h = omega arith
-    go false h = omega arith
+popularity-le (c ∷ cs) q = omega (arith, weight-le q c, popularity-le cs q)
 
 -- ---- which numbers are reached
 
@@ -130,16 +127,16 @@ module _ (K : List (List Cell)) (k p : ℕ) where
   abbrev used : ℕ → ℕ → ℕ
   used = uses K k p
 
-  N-next : (j : ℕ) → j < k → N j ≡ ordered (used j) (length (N (suc j))) (length (cellsAt K j))
+  N-next : (j : ℕ) → j < k → N j ≡ ordered (used j) (mostWeight * length (N (suc j))) (length (cellsAt K j))
   unfolding next
   N-next j h = reached-next K k (cellNo p ∷ []) j h
 
-  pub N-used : (j : ℕ) → j < k → Every (Counted (used j) (length (N (suc j))) (length (cellsAt K j))) (N j)
+  pub N-used : (j : ℕ) → j < k → Every (Counted (used j) (mostWeight * length (N (suc j))) (length (cellsAt K j))) (N j)
   N-used j h =
-      subst (Every (Counted (used j) (length (N (suc j))) (length (cellsAt K j)))) (sym (N-next j h)) (ordered-counted (used j) (length (N (suc j))) (length (cellsAt K j)))
+      subst (Every (Counted (used j) (mostWeight * length (N (suc j))) (length (cellsAt K j)))) (sym (N-next j h)) (ordered-counted (used j) (mostWeight * length (N (suc j))) (length (cellsAt K j)))
 
   pub N-falls : (j : ℕ) → j < k → Pairs (Before (used j)) (N j)
-  N-falls j h = subst (Pairs (Before (used j))) (sym (N-next j h)) (ordered-pairs (used j) (length (N (suc j))) (length (cellsAt K j)))
+  N-falls j h = subst (Pairs (Before (used j))) (sym (N-next j h)) (ordered-pairs (used j) (mostWeight * length (N (suc j))) (length (cellsAt K j)))
 
   module _ (root : cellNo p < length (cellsAt K k)) where
     pub chosen : (j : ℕ) → j ≤ k → Chosen (length (cellsAt K j)) (N j)
@@ -150,7 +147,7 @@ module _ (K : List (List Cell)) (k p : ℕ) where
 
         go : (j ≡ k) ⊎ (j < k) → Chosen (length (cellsAt K j)) (N j)
         go (inl e) = subst (λ (i : ℕ). Chosen (length (cellsAt K i)) (N i)) (sym e) top
-        go (inr l) = subst (Chosen (length (cellsAt K j))) (sym (N-next j l)) (chosen-ordered (used j) (length (N (suc j))) (length (cellsAt K j)))
+        go (inr l) = subst (Chosen (length (cellsAt K j))) (sym (N-next j l)) (chosen-ordered (used j) (mostWeight * length (N (suc j))) (length (cellsAt K j)))
 
     pub listed : Pointing K k → (j : ℕ) → j < k → (n : ℕ) → n < length (N (suc j)) → (i : ℕ) → InList (N j) (getD (keptAt K k p (suc j) n) i 0)
     listed ok j h n m i = go (ok j h (getD (N (suc j)) n 0) (chosen (suc j) h .below n m) i)
@@ -164,7 +161,7 @@ module _ (K : List (List Cell)) (k p : ℕ) where
             let some : r ≡ 0 → ⊥ = λ e. omega arith in
             let cs : List Cell = map (cellAt K (suc j)) (N (suc j)) in
             let is : getD cs n [] ≡ keptAt K k p (suc j) n = map-at (cellAt K (suc j)) (N (suc j)) n 0 [] m in
-            let count : Counted (used j) (length (N (suc j))) (length (cellsAt K j)) (cellNo r) =
+            let count : Counted (used j) (mostWeight * length (N (suc j))) (length (cellsAt K j)) (cellNo r) =
             record {
               below = omega arith;
               some = popularity-pos cs n (cellNo r) (omega (arith, length-map (N (suc j)) (cellAt K (suc j)))) (ap (names (cellNo r)) is ∙ names-at (keptAt K k p (suc j) n) i some);
@@ -172,7 +169,7 @@ module _ (K : List (List Cell)) (k p : ℕ) where
             } in
             inr (record {
               some = some;
-              at = isIn-at (cellNo r) (N j) (subst (λ (l : List ℕ). T (isIn (cellNo r) l)) (sym (N-next j h)) (ordered-all (used j) (length (N (suc j))) (length (cellsAt K j)) (cellNo r) count));
+              at = isIn-at (cellNo r) (N j) (subst (λ (l : List ℕ). T (isIn (cellNo r) l)) (sym (N-next j h)) (ordered-all (used j) (mostWeight * length (N (suc j))) (length (cellsAt K j)) (cellNo r) count));
             })
 
 -- so it is in lists that can be packed

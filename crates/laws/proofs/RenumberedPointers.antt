@@ -14,7 +14,7 @@ use lib.ListN.{length, getD}
 use Rattle.paper.specs.Numbers.{indexIn}
 use Rattle.paper.specs.Store.{Cell, mostCapacity, cellNo, tagOf, pointer}
 use Rattle.paper.specs.Match.{pointerMatch}
-use Rattle.paper.specs.Packed.{names, popularity}
+use Rattle.paper.specs.Packed.{names, weight, popularity}
 use Rattle.paper.specs.Pack.{renumber}
 use Rattle.laws.proofs.Lists.{At, isIn-at, isIn-getD, Once, index-getD}
 use Rattle.laws.proofs.Matching.{tag-lt}
@@ -110,9 +110,13 @@ module _ (ns : List ℕ) (few : length ns ≤ mostCapacity) where
         go (inl e) ih = rw (none-renumbered ns r e, eq-eqb r 0 e) ih
         go (inr w) ih = rw (ne-eqb (renumber ns r) 0 (listed-some ns r w), ne-eqb r 0 (w .some), listed-cell r w, same-name r w, ih)
 
+    weight-same : (c : Cell) → ((i : ℕ) → InList ns (getD c i 0)) → weight q (map (renumber ns) c) ≡ weight (getD ns q 0) c
+    unfolding weight
+    weight-same c h = ap (λ (b : Bool). cond b 1 0) (names-same c h)
+
     pub popularity-same : (g : ℕ → Cell) (ms : List ℕ) → ((n : ℕ) → n < length ms → (i : ℕ) → InList ns (getD (g (getD ms n 0)) i 0))
         → popularity (map (λ m. map (renumber ns) (g m)) ms) q ≡ popularity (map g ms) (getD ns q 0)
     unfolding popularity
     popularity-same g [] h = refl
     popularity-same g (m ∷ ms) h =
-        ap₂ (λ (b : Bool) (n : ℕ). cond b 1 0 + n) (names-same (g m) (h 0 (omega arith))) (popularity-same g ms (λ n l. h (suc n) (omega arith)))
+        ap₂ (λ (a n : ℕ). a + n) (weight-same (g m) (h 0 (omega arith))) (popularity-same g ms (λ n l. h (suc n) (omega arith)))

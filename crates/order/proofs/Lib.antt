@@ -1,5 +1,4 @@
--- Laws that belong to no one function: words, tallies, buckets; counting what is named; one list, then all.
-pub mod OrderWords
+-- Laws that belong to no one function: tallies, buckets; counting what is named; one list, then all.
 pub mod OrderTally
 pub mod OrderBuckets
 pub mod OrderCounting

@@ -1,3 +1,2 @@
--- Definitions that the contracts cite: the scratch, and the order in it.
-pub mod Scratch
+-- Definitions that the contracts cite: the order in scratch, and the steps to it.
 pub mod OrderParts

@@ -5,28 +5,30 @@ use mathlib.Core.Bool.{Bool, false, cond}
 use mathlib.Core.List.{List, [], _∷_, _++_, map, append-assoc, append-nil}
 use mathlib.Core.Logic.{_⊎_, inl, inr}
 use Prim.Native.Nat.{ℕ, zero, suc, _+_, _-_, _*_, _^_, _<_, _≤_}
-use native.Mathlib.Nat.{zero-add, eq-or-lt-of-le, le-of-suc-le-suc, not-suc-le-zero, mul-le-mul-left, mul-suc}
+use native.Mathlib.Nat.{zero-add, eq-or-lt-of-le, le-of-suc-le-suc, not-suc-le-zero}
 use native.Mathlib.Numerals.{add-one}
 use native.Mathlib.Omega.{arith}
 use borrow.Author.Tests.{ne-eqb}
 use lib.Dec.{T}
-use lib.ListN.{length, getD, set, take, drop, length-append, length-drop, length-set}
-use lib.Seq.{getD-set-same, getD-set-other, getD-drop, ext-getD}
+use lib.ListN.{length, getD, set, take, length-append, length-set}
+use lib.Seq.{getD-set-same, getD-set-other, ext-getD}
 use Rattle.paper.specs.Numbers.{bytes, flatten}
 use Rattle.paper.specs.Store.{Cell, heights, mostCapacity, capacityOf, keptCount, keptOf, tagOf, badPointer, storeOk}
 use Rattle.paper.specs.Packed.{packedFront, packedHead}
 use Rattle.paper.specs.Pack.{size, listBytes, sizeBytes, body, layout, emptyFile, sceneGraph, packedFile}
-use Rattle.paper.specs.Calls.{packScratch}
 use Rattle.laws.proofs.PackedReached.{numbers}
 use Rattle.laws.proofs.Layouts.{sizes-length}
 use Rattle.numbers.specs.Laid.{Reached, reached}
-use Rattle.order.specs.Scratch.{orderPlace, placePlace, Ordered}
-use Rattle.placing.specs.Placing.{orderIn, span, placing, placedList, Placed, placed, onto, listPlaced, placedLists, Kept}
+use Rattle.scratch.specs.Parts.{orders, wordIn, Lent, Only, OnlyPart, orderIn}
+use Rattle.scratch.specs.Parts as part
+use Rattle.scratch.proofs.Words.{in-orders, in-places, only-none, only-then, only-more, only-lent, words-at, words-length}
+use Rattle.order.specs.OrderParts.{Ordered}
+use Rattle.placing.specs.Placing.{span, placing, placedList, Placed, placed, onto, listPlaced, placedLists, Kept}
 use Rattle.writing.specs.Writing.{recordIn, listIn, bodyIn, sizesIn, bodyLength, fileLength, headOf}
-use Rattle.placing.proofs.Bounds.{lists-fit, order-at, order-length}
+use Rattle.pack.specs.Ready.{Ready}
 use Rattle.pack.proofs.Heads.{head-length}
-use Rattle.placing.proofs.Placings.{stop, words, total, placing-length, placing-other, placing-stop, placing-at}
-use Rattle.placing.proofs.Runs.{kept-still}
+use Rattle.placing.proofs.Placings.{stop, words, total, placing-only, placing-stop, placing-at}
+use Rattle.placing.proofs.Runs.{Places, kept-still}
 use Rattle.pack.proofs.Scenes.{Told, ListIs, list-is, choice, N-kept, N-below, N-few, size-small, list-bytes, leaf-bytes}
 
 -- the sizes and the words once lists are placed
@@ -35,22 +37,6 @@ sizesOf (placed a s) = a
 
 abbrev wordsOf : Placed → List ℕ
 wordsOf (placed a s) = s
-
--- what is found for the scene under root p of list k: scratch was s when its lists were ordered, and is t when they are placed
-pub record Found (ws : List ℕ) (k p : ℕ) (counts s sizes t : List ℕ) : Type 0 where
-  pub long : length t ≡ length s
-  pub behind : drop (packScratch (capacityOf ws)) t ≡ drop (packScratch (capacityOf ws)) s
-  pub kept : (j : ℕ) → j ≤ k → Kept ws j (getD counts j 0) t
-  pub small : fileLength sizes k < 2 ^ 32
-  pub whole : headOf (fileLength sizes k) (k + 2) (tagOf p) ++ (sizesIn sizes (suc k) ++ bodyIn (keptOf ws) (capacityOf ws) counts (suc k) t) ≡ packedFile (keptOf ws) (k + 2) p
-  pub measured : length (packedFile (keptOf ws) (k + 2) p) ≡ fileLength sizes k
-
--- a place of a list lies before those of the lists above, and inside its part
-place-before : (C j k q : ℕ) → j < k → q < C → placePlace C j q < placePlace C k 0
-place-before C j k q h l = let m : C * suc j ≤ C * k = mul-le-mul-left C h in omega (arith, mul-suc C j, l)
-
-place-inside : (C k q : ℕ) → k < heights → q < C → placePlace C k q < 45 * C
-place-inside C k q h l = omega (arith, lists-fit C k h, l)
 
 module _ (ws : List ℕ) (ok : T (storeOk ws)) (top p : ℕ) (hk : top < heights) (some : p ≡ 0 → ⊥) (fine : badPointer (keptCount ws top) p ≡ false) where
   abbrev K : List (List Cell)
@@ -65,7 +51,7 @@ module _ (ws : List ℕ) (ok : T (storeOk ws)) (top p : ℕ) (hk : top < heights
   abbrev N : ℕ → List ℕ
   N = numbers (keptOf ws) top p
 
-  module _ (counts s : List ℕ) (o : Ordered (keptOf ws) top p (capacityOf ws) counts s) (room : packScratch (capacityOf ws) ≤ length s) where
+  module _ (counts s : List ℕ) (o : Ordered (keptOf ws) top p (capacityOf ws) counts s) (lent : Lent (capacityOf ws) s) where
     -- every list's cells in their order are kept ones
     pub all-kept : (j : ℕ) → j ≤ top → Kept ws j (getD counts j 0) s
     all-kept j h = record {
@@ -75,40 +61,37 @@ module _ (ws : List ℕ) (ok : T (storeOk ws)) (top p : ℕ) (hk : top < heights
           rw (o .order j h i m) (N-kept ws ok top p hk some fine j h i m);
     }
 
-    -- the first k lists are placed: the order and what lies behind the places are as they were
+    -- the first k lists are placed
     record After (k : ℕ) (sizes t : List ℕ) : Type 0 where
-      before : (x : ℕ) → x < 30 * C → getD t x 0 ≡ getD s x 0
-      behind : (x : ℕ) → 45 * C ≤ x → getD t x 0 ≡ getD s x 0
-      long : length t ≡ length s
+      frame : Only C Places s t
       fifteen : length sizes ≡ heights
       told : (j : ℕ) → j < k → Told ws ok top p hk some fine j t
       sized : (j : ℕ) → j < k → getD sizes j 0 ≡ size G j
 
-    order-is : (k : ℕ) → k ≤ top → (t : List ℕ) → ((x : ℕ) → x < 30 * C → getD t x 0 ≡ getD s x 0) → orderIn C k (getD counts k 0) t ≡ N k
-    order-is k h t same = ext-getD 0 (orderIn C k n t) (N k) (order-length C k n t ∙ o .count k h) each
+    order-stays : (k : ℕ) → k ≤ top → (t : List ℕ) → Only C Places s t → (i : ℕ) → i < length (N k) → wordIn C (orders k) t i ≡ getD (N k) i 0
+    order-stays k h t same i l =
+        same .same (orders k) i (in-orders C k i (omega arith) (omega (arith, N-few ws ok top p hk some fine k h))) (λ x. omega (arith, x .0)) ∙ o .order k h i l
+
+    order-is : (k : ℕ) → k ≤ top → (t : List ℕ) → Only C Places s t → orderIn C k (getD counts k 0) t ≡ N k
+    order-is k h t same = ext-getD 0 (orderIn C k n t) (N k) (words-length C (orders k) n t ∙ o .count k h) each
       where
         n : ℕ
         n = getD counts k 0
 
         each : (i : ℕ) → i < length (orderIn C k n t) → getD (orderIn C k n t) i 0 ≡ getD (N k) i 0
         each i l =
-            let m : i < n = subst (λ (x : ℕ). i < x) (order-length C k n t) l in
+            let m : i < n = subst (λ (x : ℕ). i < x) (words-length C (orders k) n t) l in
             let u : i < length (N k) = subst (λ (x : ℕ). i < x) (o .count k h) m in
-            order-at C k n t i m
-            ∙ same (orderPlace C k i) (omega (arith, lists-fit C k (omega arith), N-few ws ok top p hk some fine k h))
-            ∙ o .order k h i u
+            words-at C (orders k) n t i m ∙ order-stays k h t same i u
 
     -- one list more
     module _ (k : ℕ) (h : k ≤ top) (sizes t : List ℕ) (a : After k sizes t) (r : ℕ) (t′ : List ℕ) (e : reached r t′ ≡ placedList (keptOf ws) (capacityOf ws) k (getD counts k 0) t) where
-      abbrev base : ℕ
-      base = placePlace C k 0
-
       abbrev P : Reached
-      P = placing (span K C k t) (placePlace C k 0) 0 (N k) t
+      P = placing (span K C k t) C k 0 (N k) t
 
       is : reached r t′ ≡ P
       unfolding placedList
-      is = e ∙ ap (λ (ns : List ℕ). placing (span K C k t) base 0 ns t) (order-is k h t (a .before))
+      is = e ∙ ap (λ (ns : List ℕ). placing (span K C k t) C k 0 ns t) (order-is k h t (a .frame))
 
       words-is : t′ ≡ words P
       words-is = ap words is
@@ -116,39 +99,37 @@ module _ (ws : List ℕ) (ok : T (storeOk ws)) (top p : ℕ) (hk : top < heights
       this : ListIs ws ok top p hk some fine k t
       this = list-is ws ok top p hk some fine k h t (a .told)
 
+      list : k < heights
+      list = omega arith
+
       below : (i : ℕ) → i < length (N k) → getD (N k) i 0 < C
       below = N-below ws ok top p hk some fine k h
 
-      other : (x : ℕ) → ((i : ℕ) → i < length (N k) → base + getD (N k) i 0 ≡ x → ⊥) → getD t′ x 0 ≡ getD t x 0
-      other x n = ap (λ (l : List ℕ). getD l x 0) words-is ∙ placing-other (span K C k t) base 0 (N k) t x n
+      only : OnlyPart C (part.places k) t t′
+      only = subst (OnlyPart C (part.places k) t) (sym words-is) (placing-only (span K C k t) C k list 0 (N k) t below)
 
       told-now : (j : ℕ) → (j ≡ k) ⊎ (j < k) → Told ws ok top p hk some fine j t′
       told-now j (inl q) = subst (λ (j : ℕ). Told ws ok top p hk some fine j t′) (sym q) here
         where
           here : Told ws ok top p hk some fine k t′
           here i l =
-              let x : ℕ = getD (N k) i 0 in
-              let at : placePlace C k x ≡ base + x = omega arith in
-              let inside : (i : ℕ) → i < length (N k) → base + getD (N k) i 0 < length t = λ i m. omega (arith, below i m, lists-fit C k (omega arith), a .long, room) in
-              ap₂ (λ (y : ℕ) (l : List ℕ). getD l y 0) at words-is
-              ∙ placing-at (span K C k t) base 0 (N k) t (choice ws ok top p hk some fine k h .once) inside i l
+              ap (λ (m : List ℕ). wordIn C (part.places k) m (getD (N k) i 0)) words-is
+              ∙ placing-at (span K C k t) C k list 0 (N k) t (only-lent C Places s t (a .frame) lent) (choice ws ok top p hk some fine k h .once) below i l
               ∙ zero-add (total (span K C k t) (take i (N k))) ∙ this .place i l
       told-now j (inr q) = λ i l.
           let x : ℕ = getD (N j) i 0 in
           let small : x < C = N-below ws ok top p hk some fine j (omega arith) i l in
-          other (placePlace C j x) (λ m g y. omega (arith, place-before C j k x q small, y)) ∙ a .told j q i l
+          only .same (part.places j) x (in-places C j x (omega arith) small) (λ y. omega (arith, q)) ∙ a .told j q i l
 
       sized-now : (j : ℕ) → (j ≡ k) ⊎ (j < k) → getD (set sizes k r) j 0 ≡ size G j
       sized-now j (inl q) =
           ap (λ (i : ℕ). getD (set sizes k r) i 0) q ∙ getD-set-same sizes k r 0 (omega (arith, a .fifteen)) ∙ ap stop is
-          ∙ placing-stop (span K C k t) base 0 (N k) t ∙ zero-add (total (span K C k t) (N k)) ∙ this .size-is ∙ ap (size G) (sym q)
+          ∙ placing-stop (span K C k t) C k 0 (N k) t ∙ zero-add (total (span K C k t) (N k)) ∙ this .size-is ∙ ap (size G) (sym q)
       sized-now j (inr q) = getD-set-other sizes k j r 0 (λ y. omega (arith, y, q)) ∙ a .sized j q
 
       after-next : After (suc k) (set sizes k r) t′
       after-next = record {
-        before = λ x l. other x (λ i m y. omega (arith, y, l)) ∙ a .before x l;
-        behind = λ x l. other x (λ i m y. omega (arith, y, l, below i m, lists-fit C k (omega arith))) ∙ a .behind x l;
-        long = ap length words-is ∙ placing-length (span K C k t) base 0 (N k) t ∙ a .long;
+        frame = only-then C Places s t t′ (a .frame) (only-more C (λ x. x ≡ part.places k) Places t t′ (λ x d. (omega arith, omega arith)) only);
         fifteen = length-set sizes k r ∙ a .fifteen;
         told = λ j l. told-now j (eq-or-lt-of-le (le-of-suc-le-suc l));
         sized = λ j l. sized-now j (eq-or-lt-of-le (le-of-suc-le-suc l));
@@ -164,9 +145,7 @@ module _ (ws : List ℕ) (ok : T (storeOk ws)) (top p : ℕ) (hk : top < heights
     after : (k : ℕ) → k ≤ suc top → After k (sizesOf (placedLists K C counts k s)) (wordsOf (placedLists K C counts k s))
     unfolding placedLists
     after zero h = record {
-      before = λ x l. refl;
-      behind = λ x l. refl;
-      long = refl;
+      frame = only-none C Places s;
       fifteen = refl;
       told = λ j l. absurd (not-suc-le-zero l);
       sized = λ j l. absurd (not-suc-le-zero l);
@@ -181,15 +160,13 @@ module _ (ws : List ℕ) (ok : T (storeOk ws)) (top p : ℕ) (hk : top < heights
           let q : placedLists K C counts (suc top) s ≡ placed sizes t = ap (λ (j : ℕ). placedLists K C counts j s) (sym (add-one top)) ∙ sym e in
           subst (λ (x : Placed). After (suc top) (sizesOf x) (wordsOf x)) q (after (suc top) (omega arith))
 
-      placed-behind : drop (packScratch C) t ≡ drop (packScratch C) s
-      placed-behind =
-          ext-getD 0 (drop (packScratch C) t) (drop (packScratch C) s) (length-drop (packScratch C) t ∙ ap (λ (n : ℕ). n - packScratch C) (all .long) ∙ sym (length-drop (packScratch C) s))
-          (λ i l. getD-drop (packScratch C) t i 0 ∙ all .behind (packScratch C + i) (omega arith) ∙ sym (getD-drop (packScratch C) s i 0))
+      pub placed-only : Only C Places s t
+      placed-only = all .frame
 
       list-bytes-are : (k : ℕ) → k ≤ top → listIn K C k (getD counts k 0) t ≡ listBytes G k
       unfolding listIn
       list-bytes-are k h =
-          ap (λ (ns : List ℕ). flatten (map (recordIn K C k t) ns)) (order-is k h t (all .before)) ∙ list-is ws ok top p hk some fine k h t (λ j l. all .told j (omega arith)) .bytes-are
+          ap (λ (ns : List ℕ). flatten (map (recordIn K C k t) ns)) (order-is k h t (all .frame)) ∙ list-is ws ok top p hk some fine k h t (λ j l. all .told j (omega arith)) .bytes-are
 
       body-is : (k : ℕ) → k ≤ top → bodyIn K C counts (suc k) t ≡ body G k
       unfolding bodyIn body
@@ -243,12 +220,14 @@ module _ (ws : List ℕ) (ok : T (storeOk ws)) (top p : ℕ) (hk : top < heights
           ap length (sym file-is) ∙ length-append (headOf (fileLength sizes top) (top + 2) (tagOf p)) tail
           ∙ ap₂ (λ (x y : ℕ). x + y) (head-length (fileLength sizes top) (top + 2) (tagOf p)) (ap length tail-is) ∙ sym whole
 
-      pub found : Found ws top p counts s sizes t
-      found = record {
-        long = all .long;
-        behind = placed-behind;
-        kept = λ j h. kept-still ws j (getD counts j 0) s t (omega arith) (all-kept j h) (all .before);
-        small = file-small;
-        whole = file-is;
-        measured = file-length;
+      pub ready : (n : ℕ) → n ≡ fileLength sizes top → Ready ws top p counts sizes n t
+      ready n e = record {
+        room = record { lent = only-lent C Places s t (all .frame) lent; list = hk };
+        ordered = record { count = o .count; order = λ j h i l. order-stays j h t (all .frame) i l };
+        placed = λ j h i l. all .told j (omega arith) i l;
+        sized = λ j h. all .sized j (omega arith);
+        kept = λ j h. kept-still ws j (getD counts j 0) s t (omega arith) (all-kept j h) (all .frame);
+        whole = ap (λ (m : ℕ). headOf m (top + 2) (tagOf p) ++ tail) e ∙ file-is;
+        measured = e ∙ sym file-length;
+        small = omega (arith, e, file-small);
       }

@@ -26,10 +26,11 @@ use Rattle.laws.proofs.RecordSizes.{list-length, size-le}
 use Rattle.laws.proofs.PackedReached.{Chosen, numbers, Pointing, chosen, listed}
 use Rattle.laws.proofs.PackedGraph.{graph-leaves, graph-inner}
 use Rattle.store.proofs.HeaderFacts.{header}
-use Rattle.order.specs.Scratch.{placePlace}
-use Rattle.placing.specs.Placing.{placesIn, span}
+use Rattle.scratch.specs.Parts.{wordIn, placesIn}
+use Rattle.scratch.specs.Parts as part
+use Rattle.scratch.proofs.Words.{words-at}
+use Rattle.placing.specs.Placing.{span}
 use Rattle.writing.specs.Writing.{recordIn}
-use Rattle.placing.proofs.Bounds.{place-at}
 use Rattle.placing.proofs.Placings.{total}
 use Rattle.writing.proofs.KeptWords.{leaf-two, cell-eight}
 use Rattle.pack.proofs.Renumbering.{same-list, same-size, same-places}
@@ -133,7 +134,7 @@ module _ (ws : List ℕ) (ok : T (storeOk ws)) (top p : ℕ) (hk : top < heights
 
   -- scratch has the places of list j
   abbrev pub Told : ℕ → List ℕ → Type 0
-  Told j s = (i : ℕ) → i < length (N j) → getD s (placePlace C j (getD (N j) i 0)) 0 ≡ getD (places G j) i 0
+  Told j s = (i : ℕ) → i < length (N j) → wordIn C (part.places j) s (getD (N j) i 0) ≡ getD (places G j) i 0
 
   pub record ListIs (k : ℕ) (s : List ℕ) : Type 0 where
     pub place : (i : ℕ) → i < length (N k) → total (span K C k s) (take i (N k)) ≡ getD (places G k) i 0
@@ -175,7 +176,7 @@ module _ (ws : List ℕ) (ok : T (storeOk ws)) (top p : ℕ) (hk : top < heights
   pub list-is : (k : ℕ) → k ≤ top → (s : List ℕ) → ((j : ℕ) → j < k → Told j s) → ListIs k s
   list-is zero h s told = leaves-are s
   list-is (suc j) h s told =
-      inner-are j h s (λ i l. place-at C j s (getD (N j) i 0) (N-below j (omega arith) i l) ∙ told j (omega arith) i l)
+      inner-are j h s (λ i l. words-at C (part.places j) C s (getD (N j) i 0) (N-below j (omega arith) i l) ∙ told j (omega arith) i l)
 
   -- ---- sizes
 

@@ -10,9 +10,10 @@ ghost use Rattle.paper.specs.Store.{heights, capacityOf, keptCount, keptOf, bad
 ghost use Rattle.paper.specs.Packed.{packedHead};
 ghost use Rattle.paper.specs.Pack.{emptyFile, packedFile};
 ghost use Rattle.paper.specs.Answers.{outcome, written};
-ghost use Rattle.paper.specs.Calls.{packScratch, packOutcome};
+ghost use Rattle.paper.specs.Calls.{over, packScratch, packOutcome};
 ghost use Rattle.numbers.specs.Laid.{reached, writing};
 ghost use Rattle.writing.specs.Writing.{headOf, fitted};
+ghost use Rattle.pack.specs.Ready.{Ready};
 use limits::EMPTY_MARK;
 use limits::LEAF_HEIGHT;
 use limits::PACKED_FRONT;
@@ -21,6 +22,7 @@ use order::order_lists;
 use paper::Refusal;
 use paper::Written;
 use placing::place_lists;
+use scratch::scratch_words;
 use store::capacity;
 use store::clear;
 use store::not_held;
@@ -36,15 +38,19 @@ use writing::write_sizes;
 // Byte 6 of an empty scene.
 const EMPTY: u32 = EMPTY_MARK as u32;
 
-// Scratch takes so many words for each unit of capacity.
-const SCRATCH_PER_UNIT: usize = 60;
+// What is prepared of a scene: how many cells each list has, the lists' sizes, and the file's length.
+struct Prepared {
+    counts: [u32; 15],
+    sizes: [u32; 15],
+    length: u64,
+}
 
-// The words of scratch that a store of this capacity takes.
-fn scratch_words(store: &[u32]) -> usize
+// The words of scratch that this store takes.
+fn words_needed(store: &[u32]) -> usize
     requires { ⌜ T (headerOk (now store)) ⌝ }
     ensures { λ r. ⌜ r ≡ packScratch (capacityOf (now (store .entry))) ⌝ }
 {
-    SCRATCH_PER_UNIT * (capacity(store) as usize)
+    scratch_words(capacity(store))
 }
 
 // Writes the header of a file of this length, the root's mirror or the mark of an empty scene behind what every file
@@ -71,7 +77,48 @@ fn pack_empty(depth: u32, out: &mut [u8]) -> Written
     Written::Length(HEAD as u32)
 }
 
-// Writes the file of the scene with this root in list `top`: ordered, placed, measured, written.
+// Prepares the file of the scene with this root in list `top`: ordered, placed, measured. Scratch has the order and the
+// places of each list, and nothing is written.
+fn prepare(store: &[u32], top: u32, root: u32, scratch: &mut [u32]) -> Prepared
+    requires { ⌜ T (storeOk (now store)) ⌝ }
+    requires { ⌜ (top < heights) × (root ≡ 0 → ⊥) × (badPointer (keptCount (now store) top) root ≡ false) ⌝ }
+    requires { ⌜ packScratch (capacityOf (now store)) ≤ length (now scratch) ⌝ }
+    requires { ⌜ take (packScratch (capacityOf (now store))) (now scratch) ≡ replicate (packScratch (capacityOf (now store))) 0 ⌝ }
+    ensures { λ r. ⌜ Ready (now (store .entry)) top root (r .counts) (r .sizes) (r .length) (now (scratch .exit)) ⌝ }
+    ensures { λ r. ⌜ (length (now (scratch .exit)) ≡ length (now (scratch .entry))) × (drop (packScratch (capacityOf (now (store .entry)))) (now (scratch .exit)) ≡ drop (packScratch (capacityOf (now (store .entry)))) (now (scratch .entry))) ⌝ }
+{
+    let counts = order_lists(store, top, root, scratch);
+    let sizes = place_lists(store, top, counts, scratch);
+    let length = file_length(sizes, top);
+    Prepared {
+        counts: counts,
+        sizes: sizes,
+        length: length,
+    }
+}
+
+// Writes the file of what is prepared.
+fn write_prepared(
+    store: &[u32],
+    top: u32,
+    root: u32,
+    prepared: Prepared,
+    scratch: &[u32],
+    out: &mut [u8],
+)
+    requires { ⌜ T (storeOk (now store)) ⌝ }
+    requires { ⌜ Ready (now store) top root (prepared .counts) (prepared .sizes) (prepared .length) (now scratch) ⌝ }
+    requires { ⌜ prepared .length ≤ length (now out) ⌝ }
+    ensures { λ _. ⌜ now (out .exit) ≡ over (packedFile (keptOf (now (store .entry))) (top + 2) root) (now (out .entry)) ⌝ }
+{
+    let counts = prepared.counts;
+    let sizes = prepared.sizes;
+    let after_head = write_packed_head(out, prepared.length, top + LEAF_HEIGHT, tag(root));
+    let after_sizes = write_sizes(sizes, top, out, after_head);
+    write_lists(store, top, counts, scratch, out, after_sizes);
+}
+
+// Writes the file of the scene with this root in list `top`: prepared, and written where the output has room.
 fn pack_root(store: &[u32], top: u32, root: u32, scratch: &mut [u32], out: &mut [u8]) -> Written
     requires { ⌜ T (storeOk (now store)) ⌝ }
     requires { ⌜ (top < heights) × (root ≡ 0 → ⊥) × (badPointer (keptCount (now store) top) root ≡ false) ⌝ }
@@ -80,15 +127,12 @@ fn pack_root(store: &[u32], top: u32, root: u32, scratch: &mut [u32], out: &mut 
     ensures { λ r. ⌜ outcome (written r) (now (out .exit) ∷ []) ≡ fitted (packedFile (keptOf (now (store .entry))) (top + 2) root) (now (out .entry)) ⌝ }
     ensures { λ r. ⌜ (length (now (scratch .exit)) ≡ length (now (scratch .entry))) × (drop (packScratch (capacityOf (now (store .entry)))) (now (scratch .exit)) ≡ drop (packScratch (capacityOf (now (store .entry)))) (now (scratch .entry))) ⌝ }
 {
-    let counts = order_lists(store, top, root, scratch);
-    let sizes = place_lists(store, top, counts, scratch);
-    let total = file_length(sizes, top);
+    let prepared = prepare(store, top, root, scratch);
+    let total = prepared.length;
     if (out.len() as u64) < total {
         return Written::Refused(Refusal::OutputShort);
     }
-    let after_head = write_packed_head(out, total, top + LEAF_HEIGHT, tag(root));
-    let after_sizes = write_sizes(sizes, top, out, after_head);
-    write_lists(store, top, counts, scratch, out, after_sizes);
+    write_prepared(store, top, root, prepared, scratch, out);
     Written::Length(total as u32)
 }
 
@@ -102,7 +146,7 @@ pub fn pack(store: &[u32], scene: u32, scratch: &mut [u32], out: &mut [u8]) -> W
     if not_held(store, scene) {
         return Written::Refused(Refusal::NoScene);
     }
-    let words = scratch_words(store);
+    let words = words_needed(store);
     if scratch.len() < words {
         return Written::Refused(Refusal::ScratchShort);
     }

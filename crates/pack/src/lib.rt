@@ -1,5 +1,5 @@
-// A scene written as a packed file. Scratch holds, for each list of cells, their popularity, their order and their
-// places; the file is measured from the lists' sizes, then written.
+// A scene written as a packed file: prepared (its lists ordered and placed in scratch, the file measured from their
+// sizes), then written.
 mod call; // a scene's file, and the call
 
 pub use call::pack;

@@ -7,7 +7,7 @@ use lib.Dec.{eqb}
 use lib.ListN.{length, getD}
 use Rattle.paper.specs.Numbers.{bytes, flatten, count, tabulate, indexIn}
 use Rattle.paper.specs.Store.{Cell, heights, cellsAt, cellAt, tagOf, cellNo, pointer}
-use Rattle.paper.specs.Packed.{packedFront, packedHead, emptyMark, codeFor, popularity}
+use Rattle.paper.specs.Packed.{packedFront, packedHead, emptyMark, codeFor, mostWeight, popularity}
 
 -- ---- a graph's bytes
 
@@ -103,7 +103,7 @@ ordered f (suc c) m = withCount f (suc c) m 0 ++ ordered f c m
 
 -- the cells of list k that the cells ns of list k + 1 name, by popularity
 unfoldable pub next : List (List Cell) → ℕ → List ℕ → List ℕ
-next K k ns = ordered (popularity (map (cellAt K (suc k)) ns)) (length ns) (length (cellsAt K k))
+next K k ns = ordered (popularity (map (cellAt K (suc k)) ns)) (mostWeight * length ns) (length (cellsAt K k))
 
 -- the cells under those numbered ns of list k ('reachable'): the numbers in list j
 unfoldable pub reached : List (List Cell) → ℕ → List ℕ → ℕ → List ℕ

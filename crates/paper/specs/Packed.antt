@@ -169,10 +169,17 @@ unfoldable pub names : ℕ → Cell → Bool
 names q [] = false
 names q (p ∷ ps) = let r = names q ps in cond (eqb p 0) r (cond (eqb (cellNo p) q) true r)
 
+-- what one record counts towards the popularity of number q: 1 where it names q, however often, and the most that it can count
+unfoldable pub weight : ℕ → Cell → ℕ
+weight q c = cond (names q c) 1 0
+
+abbrev pub mostWeight : ℕ
+mostWeight = 1
+
 -- how popular number q is ('one height up'): how many of these records name it, each counted once, however many pointers to it it has
 unfoldable pub popularity : List Cell → ℕ → ℕ
 popularity [] q = 0
-popularity (c ∷ cs) q = cond (names q c) 1 0 + popularity cs q
+popularity (c ∷ cs) q = weight q c + popularity cs q
 
 -- 5 ('below the top'): each record of list k is named by one of list k + 1
 unfoldable pub namedOk : List (List Cell) → ℕ → Bool

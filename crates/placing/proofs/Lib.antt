@@ -1,5 +1,4 @@
--- Laws that belong to no one function: rooms in scratch, codes as digits, places found one behind the other.
-pub mod Bounds
+-- Laws that belong to no one function: codes as digits, places found one behind the other.
 pub mod Codes
 pub mod Placings
 pub mod Runs

@@ -4,21 +4,11 @@
 use mathlib.Core.Path.{_≡_}
 use mathlib.Core.List.{List, [], _∷_}
 use Prim.Native.Nat.{ℕ, zero, suc, _+_, _*_, _<_, _≤_}
-use lib.ListN.{length, getD, set, replicate}
-use Rattle.paper.specs.Numbers.{tabulate}
-use Rattle.paper.specs.Store.{Cell, heights, mostCapacity, cellAt, cellNo, keptCount, capacityOf}
+use lib.ListN.{getD, set, replicate}
+use Rattle.paper.specs.Store.{Cell, heights, cellAt, cellNo, keptCount, capacityOf}
 use Rattle.paper.specs.Pack.{code, width}
-use Rattle.paper.specs.Calls.{packScratch}
 use Rattle.numbers.specs.Laid.{Reached, reached}
-use Rattle.order.specs.Scratch.{orderPlace, placePlace}
-
--- list k's places in scratch, by cell number
-unfoldable pub placesIn : ℕ → ℕ → List ℕ → List ℕ
-placesIn C k s = tabulate 0 C (λ q. getD s (placePlace C k q) 0)
-
--- list k's first n cells in their order
-unfoldable pub orderIn : ℕ → ℕ → ℕ → List ℕ → List ℕ
-orderIn C k n s = tabulate 0 n (λ i. getD s (orderPlace C k i) 0)
+use Rattle.scratch.specs.Parts.{orders, places, wordIn, withWord, orderIn, placesIn}
 
 -- the codes of a cell's pointers as the digits of a number to base b, child 0's the lowest
 unfoldable pub digits : ℕ → List ℕ → Cell → ℕ
@@ -30,14 +20,14 @@ unfoldable pub span : List (List Cell) → ℕ → ℕ → List ℕ → ℕ → 
 span K C zero s q = 1
 span K C (suc k) s q = width (placesIn C k s) (cellAt K (suc k) q)
 
--- cells placed one behind the other, the first at place a: cell q takes w q and its place is word base + q
-unfoldable pub placing : (ℕ → ℕ) → ℕ → ℕ → List ℕ → List ℕ → Reached
-placing w base a [] s = reached a s
-placing w base a (q ∷ ns) s = placing w base (a + w q) ns (set s (base + q) a)
+-- cells of list k placed one behind the other, the first at place a: cell q takes w q
+unfoldable pub placing : (ℕ → ℕ) → ℕ → ℕ → ℕ → List ℕ → List ℕ → Reached
+placing w C k a [] s = reached a s
+placing w C k a (q ∷ ns) s = placing w C k (a + w q) ns (withWord C (places k) q a s)
 
 -- list k of n cells: its size, and scratch with its places
 unfoldable pub placedList : List (List Cell) → ℕ → ℕ → ℕ → List ℕ → Reached
-placedList K C k n s = placing (span K C k s) (placePlace C k 0) 0 (orderIn C k n s) s
+placedList K C k n s = placing (span K C k s) C k 0 (orderIn C k n s) s
 
 -- the lists' sizes, and scratch with their places
 pub data Placed : Type 0 where
@@ -56,12 +46,6 @@ placedLists K C counts (suc k) s = listPlaced K C counts k (placedLists K C coun
 
 -- ---- what code asks of its arguments
 
--- scratch has room for list k of a store of capacity C
-pub record Room (C k : ℕ) (s : List ℕ) : Type 0 where
-  pub most : C ≤ mostCapacity
-  pub list : k < heights
-  pub long : packScratch C ≤ length s
-
 -- each pointer of a cell names a number below C
 abbrev pub Below : ℕ → Cell → Type 0
 Below C c = (i : ℕ) → i < 8 → (getD c i 0 ≡ 0 → ⊥) → cellNo (getD c i 0) < C
@@ -69,4 +53,4 @@ Below C c = (i : ℕ) → i < 8 → (getD c i 0 ≡ 0 → ⊥) → cellNo (getD 
 -- the n cells of list k in their order are kept ones
 pub record Kept (ws : List ℕ) (k n : ℕ) (s : List ℕ) : Type 0 where
   pub few : n ≤ capacityOf ws
-  pub kept : (i : ℕ) → i < n → getD s (orderPlace (capacityOf ws) k i) 0 < keptCount ws k
+  pub kept : (i : ℕ) → i < n → wordIn (capacityOf ws) (orders k) s i < keptCount ws k

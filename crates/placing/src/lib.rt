@@ -1,42 +1,25 @@
 // Where each record lies in its list: half-words from the list's start, or the leaf's number. From the leaves up, so
 // that a record's size is known from the places of the records that it points to.
 ghost use mathlib.Core.Path.{_≡_};
-ghost use Prim.Native.Nat.{ℕ, _+_, _*_, _≤_, _<_};
+ghost use Prim.Native.Nat.{ℕ, _+_, _≤_, _<_};
 ghost use lib.Dec.{T};
 ghost use lib.ListN.{getD};
 ghost use Rattle.paper.specs.Store.{capacityOf, keptCount, keptOf, cellNo, storeOk};
 ghost use Rattle.paper.specs.Pack.{code};
 ghost use Rattle.numbers.specs.Laid.{reached};
-ghost use Rattle.placing.specs.Placing.{placesIn, digits, span, placedList, placed, placedLists, Room, Below, Kept};
+ghost use Rattle.scratch.specs.Parts.{Room, placesIn};
+ghost use Rattle.placing.specs.Placing.{digits, span, placedList, placed, placedLists, Below, Kept};
 use limits::CHILDREN;
-use order::ORDERS;
-use order::PLACES;
-use order::word_place;
 use packed::code_for;
+use scratch::ordered;
+use scratch::place;
+use scratch::put_place;
 use store::capacity;
 use store::cell_at;
 use store::cell_number;
 
 // A pointer's code is its half-words: to base 1 the codes of a cell are counted together.
 const COUNTED: u32 = 1;
-
-// Word i of list k in a part of scratch.
-pub fn word_of(c: u32, part: usize, k: u32, i: u32, scratch: &[u32]) -> u32
-    requires { ⌜ Room c k (now scratch) ⌝ }
-    requires { ⌜ (part ≤ 30) × (i < c) ⌝ }
-    ensures { λ r. ⌜ r ≡ getD (now (scratch .entry)) (part * c + (c * k + i)) 0 ⌝ }
-{
-    scratch[word_place(c, part, k, i)]
-}
-
-// The place of cell q of list k.
-pub fn place_of(c: u32, k: u32, q: u32, scratch: &[u32]) -> u32
-    requires { ⌜ Room c k (now scratch) ⌝ }
-    requires { ⌜ q < c ⌝ }
-    ensures { λ r. ⌜ r ≡ getD (placesIn c k (now (scratch .entry))) q 0 ⌝ }
-{
-    word_of(c, PLACES, k, q, scratch)
-}
 
 // The half-words of a pointer p into list k: 0 for none.
 pub fn code_of(c: u32, k: u32, p: u32, scratch: &[u32]) -> u32
@@ -47,7 +30,7 @@ pub fn code_of(c: u32, k: u32, p: u32, scratch: &[u32]) -> u32
     if p == 0 {
         return 0;
     }
-    code_for(place_of(c, k, cell_number(p), scratch))
+    code_for(place(c, k, cell_number(p), scratch))
 }
 
 // The codes of a cell's pointers into list k as the digits of a number to this base, child 0's the lowest.
@@ -97,9 +80,9 @@ fn place_list(store: &[u32], k: u32, n: u32, scratch: &mut [u32]) -> u32
     let mut at = 0u32;
     let mut i = 0u32;
     while i < n {
-        let q = word_of(c, ORDERS, k, i, scratch);
+        let q = ordered(c, k, i, scratch);
         let taken = span_of(store, k, q, scratch);
-        scratch[word_place(c, PLACES, k, q)] = at;
+        put_place(c, k, q, at, scratch);
         at += taken;
         i += 1;
     }

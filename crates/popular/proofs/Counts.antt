@@ -13,14 +13,13 @@ use lib.Dec.{T, eqb}
 use lib.ListN.{length, getD, take, drop, replicate, length-append, length-replicate}
 use lib.Seq.{length-take-le, take-append-le, drop-append-add, take-take, take-add, drop-drop, drop-at}
 use Rattle.paper.specs.Numbers.{anyBelow, allIn, isIn, bitFor, bytes, be, num}
-use Rattle.paper.specs.Packed.{Link, noLink, linksAt}
+use Rattle.paper.specs.Packed.{Link, noLink, linksAt, mostWeight}
 use Rattle.laws.proofs.Tests.{not-not, any-same}
-use Rattle.laws.proofs.Bits.{bitFor-lt}
 use Rattle.laws.proofs.Bytes.{bytes-length}
 use Rattle.laws.proofs.RecordReading.{num-bytes}
 use Rattle.numbers.specs.Laid.{laid}
 use Rattle.numbers.proofs.Laying.{length-laid}
-use Rattle.popular.specs.Places.{namesPlace, timesNamed}
+use Rattle.popular.specs.Places.{namesPlace, weightAt, timesNamed}
 use Rattle.popular.specs.Counting.{linkTo, countOf, oneMore, countLink, countLinks, countRecords}
 use Rattle.alike.proofs.Loops.{not-allIn}
 use Rattle.alike.proofs.Linking.{links-length}
@@ -75,6 +74,14 @@ zeros-num j (suc k) zero = zeros-be j 0
 zeros-num j (suc k) (suc n) = zeros-num j k n
 
 -- ---- a record names a place by one of its eight pointers
+
+weight-most : (x : ℕ) (rs : List Link) → weightAt x rs ≤ mostWeight
+unfolding weightAt
+weight-most x rs = go (namesPlace x rs)
+  where
+    go : (b : Bool) → cond b 1 0 ≤ mostWeight
+    go true = omega arith
+    go false = omega arith
 
 names-some : (x : ℕ) (rs : List Link) → namesPlace x rs ≡ not (allIn (λ r. not (linkTo x r)) rs)
 unfolding namesPlace allIn
@@ -195,35 +202,40 @@ module _ (u n : ℕ) (ps : List ℕ) (roomy : Roomy u n ps) where
     abbrev AllLand : List ℕ → Type 0
     AllLand qs = (j : ℕ) → j < length qs → (i : ℕ) → Lands ps (getD (linksAt l (getD qs j 0)) i noLink)
 
-    pub records-count : (qs : List ℕ) → AllLand qs → (m : List ℕ) → length m ≡ n → (x : ℕ) → T (isIn x ps) → countOf u m x + length qs < 2 ^ 32
+    -- one record
+    record-count : (q : ℕ) → ((i : ℕ) → Lands ps (getD (linksAt l q) i noLink)) → (m : List ℕ) → length m ≡ n → (x : ℕ) → T (isIn x ps) → countOf u m x + mostWeight < 2 ^ 32
+        → countOf u (countLinks u (linksAt l q) 8 m) x ≡ countOf u m x + weightAt x (linksAt l q)
+    unfolding weightAt
+    record-count q lands m e x ix lt =
+        let rs : List Link = linksAt l q in
+        let b : Bool = anyBelow 8 (goesTo x rs) in
+        let one : countOf u (countLinks u rs 8 m) x ≡ countOf u m x + bitFor b = links-count rs lands m e x ix (omega arith) 8 in
+        let named : cond (namesPlace x rs) 1 0 ≡ bitFor b =
+        ap (λ (c : Bool). cond c 1 0) (names-any x rs ∙ ap (λ (k : ℕ). anyBelow k (goesTo x rs)) (links-length l q)) ∙ bit-is b in
+        omega (arith, one, named)
+      where
+        bit-is : (b : Bool) → cond b 1 0 ≡ bitFor b
+        bit-is true = refl
+        bit-is false = refl
+
+    pub records-count : (qs : List ℕ) → AllLand qs → (m : List ℕ) → length m ≡ n → (x : ℕ) → T (isIn x ps) → countOf u m x + mostWeight * length qs < 2 ^ 32
         → countOf u (countRecords u l qs m) x ≡ countOf u m x + timesNamed l qs x
     unfolding countRecords timesNamed
     records-count [] lands m e x ix lt = omega arith
     records-count (q ∷ qs) lands m e x ix lt =
         let rs : List Link = linksAt l q in
         let mine : (i : ℕ) → Lands ps (getD rs i noLink) = lands 0 (omega arith) in
-        let b : Bool = anyBelow 8 (goesTo x rs) in
-        let one : countOf u (countLinks u rs 8 m) x ≡ countOf u m x + bitFor b = links-count rs mine m e x ix (omega arith) 8 in
-        let named : cond (namesPlace x rs) 1 0 ≡ bitFor b =
-        ap (λ (c : Bool). cond c 1 0) (names-any x rs ∙ ap (λ (k : ℕ). anyBelow k (goesTo x rs)) (links-length l q)) ∙ bit-is b in
-        records-count qs (λ j h. lands (suc j) (suc-le-suc h)) (countLinks u rs 8 m) (links-length-kept rs mine m e 8) x ix (omega (arith, bitFor-lt b))
-        ∙ omega (arith, one, named)
-      where
-        bit-is : (b : Bool) → cond b 1 0 ≡ bitFor b
-        bit-is true = refl
-        bit-is false = refl
+        let one : countOf u (countLinks u rs 8 m) x ≡ countOf u m x + weightAt x rs = record-count q mine m e x ix (omega arith) in
+        records-count qs (λ j h. lands (suc j) (suc-le-suc h)) (countLinks u rs 8 m) (links-length-kept rs mine m e 8) x ix (omega (arith, one, weight-most x rs))
+        ∙ omega (arith, one)
 
     -- from zero: the number of records that name the place
-    pub counted : (qs : List ℕ) → AllLand qs → length qs < 2 ^ 32 → (x : ℕ) → T (isIn x ps) → countOf u (countRecords u l qs (replicate n 0)) x ≡ timesNamed l qs x
+    pub counted : (qs : List ℕ) → AllLand qs → mostWeight * length qs < 2 ^ 32 → (x : ℕ) → T (isIn x ps) → countOf u (countRecords u l qs (replicate n 0)) x ≡ timesNamed l qs x
     counted qs lands few x ix =
         let z : countOf u (replicate n 0) x ≡ 0 = zeros-num 4 (u * x) n in
         records-count qs lands (replicate n 0) (length-replicate n 0) x ix (omega arith) ∙ omega arith
 
-pub times-few : (l qs : List ℕ) (x : ℕ) → timesNamed l qs x ≤ length qs
+pub times-few : (l qs : List ℕ) (x : ℕ) → timesNamed l qs x ≤ mostWeight * length qs
 unfolding timesNamed
 times-few l [] x = omega arith
-times-few l (q ∷ qs) x = go (namesPlace x (linksAt l q)) (times-few l qs x)
-  where
-    go : (b : Bool) → timesNamed l qs x ≤ length qs → cond b 1 0 + timesNamed l qs x ≤ suc (length qs)
-    go true ih = omega arith
-    go false ih = omega arith
+times-few l (q ∷ qs) x = omega (arith, weight-most x (linksAt l q), times-few l qs x)

@@ -163,7 +163,7 @@ module _ (bs : List ℕ) (by : Bytes bs) (short : length bs < 2 ^ 32) (sound : S
 
   pub counts-are : (k : ℕ) → suc k ≤ topOf bs → (x : ℕ) → T (isIn x (placesAt bs k)) → countOf (unitAt k) (counts k) x ≡ popularAt bs k x
   counts-are k h x i =
-      counted (unitAt k) (length (listAt bs k)) (placesAt bs k) (roomy-at k (omega arith)) (above k) (placesAt bs (suc k)) (links-land k h) (few-at k h) x i
+      counted (unitAt k) (length (listAt bs k)) (placesAt bs k) (roomy-at k (omega arith)) (above k) (placesAt bs (suc k)) (links-land k h) (omega (arith, few-at k h)) x i
 
   -- the test along them is rules 5 and 8
   pub popular-is : (k : ℕ) → suc k ≤ topOf bs → countsFall (unitAt k) (counts k) (placesAt bs k) ≡ popularRules bs k

@@ -30,10 +30,14 @@ unfoldable pub namesPlace : ℕ → List Link → Bool
 namesPlace x [] = false
 namesPlace x (r ∷ rs) = let m = namesPlace x rs in cond (eqb (r .code) 0) m (cond (eqb (r .place) x) true m)
 
--- how many of the records at these places of the list l name place x one list down
+-- what a record with these pointers counts towards the popularity of place x
+unfoldable pub weightAt : ℕ → List Link → ℕ
+weightAt x rs = cond (namesPlace x rs) 1 0
+
+-- what the records at these places of the list l count towards that of place x one list down
 unfoldable pub timesNamed : List ℕ → List ℕ → ℕ → ℕ
 timesNamed l [] x = 0
-timesNamed l (p ∷ ps) x = cond (namesPlace x (linksAt l p)) 1 0 + timesNamed l ps x
+timesNamed l (p ∷ ps) x = weightAt x (linksAt l p) + timesNamed l ps x
 
 -- of a record of list k
 abbrev pub popularAt : List ℕ → ℕ → ℕ → ℕ

@@ -15,7 +15,7 @@ use Rattle.paper.specs.Numbers.{allBelow, allIn, isIn, indexIn}
 use Rattle.paper.specs.Outline.{lengthOk}
 use Rattle.paper.specs.Store.{Cell, cellNo, tagOf, pointer, leafNo, cellsAt, cellAt}
 use Rattle.paper.specs.Match.{pointerMatch, cellMatch, matches}
-use Rattle.paper.specs.Packed.{packedHead, topOf, rootTag, listAt, headerAt, Link, noLink, linksAt, leafAt, recordOk, codeFor, placesAt, byNumber, cellsOf, graphOf, linkOk, linksOk, wholeAt, names, popularity, namedOk, apartOk, tagLow, pointerLow, tagsOk, fallingOk, graphOk, topOk}
+use Rattle.paper.specs.Packed.{packedHead, topOf, rootTag, listAt, headerAt, Link, noLink, linksAt, leafAt, recordOk, codeFor, placesAt, byNumber, cellsOf, graphOf, linkOk, linksOk, wholeAt, names, weight, popularity, namedOk, apartOk, tagLow, pointerLow, tagsOk, fallingOk, graphOk, topOk}
 use Rattle.paper.specs.Runs.{Bytes}
 use Rattle.laws.proofs.Tests.{T-true, true-T, and-left, and-right, and-T, and5, and5-T, all-at, all-T, all-same}
 use Rattle.laws.proofs.Lists.{allIn-at, allIn-isIn, allIn-in, allIn-T, isIn-at, isIn-getD, index-getD}
@@ -29,7 +29,7 @@ use Rattle.laws.proofs.PackedLists.{num4-lt, Fits, links-fit, list-bytes, start
 use Rattle.laws.proofs.PackedWalk.{First, SoundLists, few-leaves, root-first}
 use Rattle.least.specs.Keys.{markOf}
 use Rattle.alike.specs.Matching.{leavesMatch, linkMatch, selfBy, recordsMatch, leafMask, recordMask, lowBy, linkRules, recordRules, apartIn}
-use Rattle.popular.specs.Places.{unitAt, namesPlace, timesNamed, popularAt, popularRules}
+use Rattle.popular.specs.Places.{unitAt, namesPlace, weightAt, timesNamed, popularAt, popularRules}
 use Rattle.proper.specs.Places.{marksAt, listRules, rootLow, rulesBy}
 use Rattle.alike.proofs.Linking.{links-length}
 use Rattle.proper.proofs.Marks.{marks-start}
@@ -210,12 +210,16 @@ module _ (bs : List ℕ) (by : Bytes bs) (long : T (lengthOk packedHead bs)) (so
       go (inl e) ih = rw (no-link k r e, eq-eqb (r .code) 0 e) ih
       go (inr a) ih = rw (ne-eqb (byNumber (ss k) r) 0 (link-ne k r a), link-no k r a, same-place k (r .place) x (a .at) hx, ne-eqb (r .code) 0 (a .some), ih)
 
+  weight-same : (k x : ℕ) → T (isIn x (ss k)) → (rs : List Link) → ((i : ℕ) → Points k (getD rs i noLink)) → weightAt x rs ≡ weight (indexIn x (ss k)) (map (byNumber (ss k)) rs)
+  unfolding weightAt weight
+  weight-same k x hx rs h = ap (λ (b : Bool). cond b 1 0) (names-same k x hx rs h)
+
   times-list : (k x : ℕ) → k < topOf bs → T (isIn x (ss k)) → (ts : List ℕ) → ((n : ℕ) → n < length ts → T (isIn (getD ts n 0) (ss (suc k))))
       → timesNamed (listAt bs (suc k)) ts x ≡ popularity (map (λ p. map (byNumber (ss k)) (links k p)) ts) (indexIn x (ss k))
   unfolding timesNamed popularity
   times-list k x h hx [] ht = refl
   times-list k x h hx (t ∷ ts) ht =
-      ap₂ (λ (b : Bool) (n : ℕ). cond b 1 0 + n) (names-same k x hx (links k t) (points k h t (ht 0 (omega arith)))) (times-list k x h hx ts (λ n l. ht (suc n) (omega arith)))
+      ap₂ (λ (a n : ℕ). a + n) (weight-same k x hx (links k t) (points k h t (ht 0 (omega arith)))) (times-list k x h hx ts (λ n l. ht (suc n) (omega arith)))
 
   -- record number q of list k
   popular-same : (k q : ℕ) → k < topOf bs → q < length (ss k) → popularAt bs k (getD (ss k) q 0) ≡ popularity (cellsAt G (suc k)) q

@@ -9,7 +9,7 @@ use lib.ListN.{getD}
 use Rattle.paper.specs.Numbers.{bytes, flatten}
 use Rattle.paper.specs.Store.{Cell, cellAt}
 use Rattle.paper.specs.Pack.{header, pointerBytes, recordBytes, leafBytes}
-use Rattle.placing.specs.Placing.{placesIn}
+use Rattle.scratch.specs.Parts.{placesIn}
 use Rattle.writing.specs.Writing.{recordIn, listIn, bodyIn, sizesIn, bodyLength}
 
 -- a record

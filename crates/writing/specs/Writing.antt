@@ -11,7 +11,7 @@ use Rattle.paper.specs.Packed.{packedFront, packedHead}
 use Rattle.paper.specs.Pack.{recordBytes, leafBytes}
 use Rattle.paper.specs.Calls.{over}
 use Rattle.paper.specs.Answers.{Outcome, outcome, told}
-use Rattle.placing.specs.Placing.{placesIn, orderIn}
+use Rattle.scratch.specs.Parts.{orderIn, placesIn}
 
 -- the record of cell q of list k
 unfoldable pub recordIn : List (List Cell) → ℕ → ℕ → List ℕ → ℕ → List ℕ

@@ -8,7 +8,8 @@ ghost use Rattle.paper.specs.Numbers.{flatten};
 ghost use Rattle.paper.specs.Store.{heights, capacityOf, keptCount, keptOf, cellNo, storeOk};
 ghost use Rattle.paper.specs.Pack.{pointerBytes};
 ghost use Rattle.numbers.specs.Laid.{reached, writing};
-ghost use Rattle.placing.specs.Placing.{placesIn, Room, Below, Kept};
+ghost use Rattle.scratch.specs.Parts.{Room, placesIn};
+ghost use Rattle.placing.specs.Placing.{Below, Kept};
 ghost use Rattle.writing.specs.Writing.{recordIn, listIn, bodyIn, sizesIn, fileLength};
 use limits::CHILDREN;
 use limits::FARTHEST_SHORT;
@@ -19,10 +20,9 @@ use limits::PACKED_HEAD;
 use limits::SHORT_PLACES;
 use numbers::wider;
 use numbers::write_number;
-use order::ORDERS;
 use placing::codes_of;
-use placing::place_of;
-use placing::word_of;
+use scratch::ordered;
+use scratch::place;
 use store::capacity;
 use store::cell_at;
 use store::cell_number;
@@ -66,11 +66,11 @@ fn write_pointer(c: u32, k: u32, p: u32, scratch: &[u32], out: &mut [u8], at: us
         return at;
     }
     let mirror = wider(tag(p));
-    let place = place_of(c, k, cell_number(p), scratch);
-    if place <= FARTHEST_SHORT {
-        return write_number(out, at, SHORT_BYTES, mirror * SHORT_TAG + wider(place));
+    let to = place(c, k, cell_number(p), scratch);
+    if to <= FARTHEST_SHORT {
+        return write_number(out, at, SHORT_BYTES, mirror * SHORT_TAG + wider(to));
     }
-    write_number(out, at, LONG_BYTES, mirror * LONG_TAG + wider(place))
+    write_number(out, at, LONG_BYTES, mirror * LONG_TAG + wider(to))
 }
 
 // Writes a cell's pointers into list k; answers the position after them.
@@ -126,14 +126,7 @@ fn write_list(store: &[u32], k: u32, n: u32, scratch: &[u32], out: &mut [u8], at
     let mut next = at;
     let mut i = 0u32;
     while i < n {
-        next = write_record(
-            store,
-            k,
-            word_of(c, ORDERS, k, i, scratch),
-            scratch,
-            out,
-            next,
-        );
+        next = write_record(store, k, ordered(c, k, i, scratch), scratch, out, next);
         i += 1;
     }
     next

@@ -5,7 +5,8 @@ use Prim.Native.Nat.{ℕ, _+_, _-_, _*_, _≤_, _<_}
 use native.Mathlib.Omega.{arith}
 use lib.ListN.{length, drop}
 use borrow.Author.Needs.{needs}
-use Rattle.placing.specs.Placing.{placesIn, digits}
+use Rattle.scratch.specs.Parts.{placesIn}
+use Rattle.placing.specs.Placing.{digits}
 use Rattle.placing.proofs.Codes.{digits-none, digits-down, digits-small}
 use Rattle.placing.proofs.codes_of.Statement.{statement}
 use Rattle.placing.proofs.codes_of.Tie as tie

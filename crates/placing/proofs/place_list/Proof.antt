@@ -1,14 +1,14 @@
 -- `placing::place_list` meets its contract. The invariant: the first i cells of the order are placed. Assumes nothing.
 use mathlib.Core.Path.{_≡_, sym, ap, subst, _∙_}
+use mathlib.Core.List.{List}
 use Prim.Native.Nat.{ℕ, _+_, _-_, _<_}
 use native.Mathlib.Omega.{arith}
-use lib.ListN.{length, getD, set}
+use lib.ListN.{getD}
 use borrow.Author.Needs.{needs}
 use Rattle.paper.specs.Store.{capacityOf, keptCount, keptOf}
 use Rattle.laws.proofs.Undamaged.{headed, store-header}
-use Rattle.order.specs.Scratch.{orderPlace, placePlace}
-use Rattle.placing.specs.Placing.{orderIn, Room}
-use Rattle.placing.proofs.Bounds.{part-room, order-at}
+use Rattle.scratch.specs.Parts.{orders, places, wordIn, withWord, Room, orderIn}
+use Rattle.scratch.proofs.Words.{only-room, words-at}
 use Rattle.placing.proofs.Runs.{Run, run-first, run-next, run-on, run-last}
 use Rattle.placing.proofs.place_list.Statement.{statement}
 use Rattle.placing.proofs.place_list.Tie as tie
@@ -33,38 +33,40 @@ loop-holds c =
 
 -- room for the list in scratch as it is
 room-now : (c : tie.At-loop Inv-loop μ-loop) → (let s = c .before .before .before .before in Room (C s) (s .args .k) (c .loop .scratch))
-room-now c = let r = c .before .before .before .before .pre .1 .0 in record { most = r .most; list = r .list; long = rw (c .loop .inv .long) (r .long) }
+room-now c =
+    let s = c .before .before .before .before in
+    only-room (C s) (s .args .k) (λ p. p ≡ places (s .args .k)) (s .args .scratch .now) (c .loop .scratch) (c .loop .inv .frame) (s .pre .1 .0)
 
-word-of-requires : tie.Need-word-of-requires Inv-loop μ-loop
-word-of-requires c κs =
+ordered-requires : tie.Need-ordered-requires Inv-loop μ-loop
+ordered-requires c κs =
     let l = c .before .before in
     let e = l .before .capacity .ensures in
     let s = l .before .before .before .before in
-    (rw e (room-now l), (omega arith, omega (arith, e, s .pre .1 .1 .few, c .before .loop-test .taken)))
+    (rw e (room-now l), omega (arith, e, s .pre .1 .1 .few, c .before .loop-test .taken))
 
 -- the cell that is read is the next of the order, and kept
-abbrev loop : tie.After-word-of Inv-loop μ-loop → tie.At-loop Inv-loop μ-loop
+abbrev loop : tie.After-ordered Inv-loop μ-loop → tie.At-loop Inv-loop μ-loop
 loop c = c .before .before .before
 
-abbrev start : tie.After-word-of Inv-loop μ-loop → tie.Start Inv-loop μ-loop
+abbrev start : tie.After-ordered Inv-loop μ-loop → tie.Start Inv-loop μ-loop
 start c = c .before .before .before .before .before .before .before
 
-next : (c : tie.After-word-of Inv-loop μ-loop) → c .word-of .result ≡ getD (orderIn (C (start c)) (start c .args .k) (start c .args .n) (start c .args .scratch .now)) (loop c .loop .i) 0
+next : (c : tie.After-ordered Inv-loop μ-loop) → c .ordered .result ≡ getD (orderIn (C (start c)) (start c .args .k) (start c .args .n) (start c .args .scratch .now)) (loop c .loop .i) 0
 next c =
     let a = start c .args in
     let l = loop c .loop in
-    c .word-of .ensures ∙ ap (λ (x : ℕ). getD (l .scratch) (orderPlace x (a .k) (l .i)) 0) (loop c .before .capacity .ensures)
-    ∙ run-next (keptOf (a .store .now)) (C (start c)) (a .k) (a .n) (a .scratch .now) (l .scratch) (l .at) (l .i) (l .inv) (c .before .before .loop-test .taken) (start c .pre .1 .1 .few)
+    c .ordered .ensures ∙ ap (λ (x : ℕ). wordIn x (orders (a .k)) (l .scratch) (l .i)) (loop c .before .capacity .ensures)
+    ∙ run-next (keptOf (a .store .now)) (C (start c)) (a .k) (a .n) (a .scratch .now) (start c .pre .1 .0 .list) (l .scratch) (l .at) (l .i) (l .inv) (c .before .before .loop-test .taken) (start c .pre .1 .1 .few)
 
-is-kept : (c : tie.After-word-of Inv-loop μ-loop) → c .word-of .result < keptCount (start c .args .store .now) (start c .args .k)
+is-kept : (c : tie.After-ordered Inv-loop μ-loop) → c .ordered .result < keptCount (start c .args .store .now) (start c .args .k)
 is-kept c =
     let s = start c in
     let a = s .args in
     let i = loop c .loop .i in
     let t = c .before .before .loop-test .taken in
-    subst (λ (q : ℕ). q < keptCount (a .store .now) (a .k)) (sym (next c ∙ order-at (C s) (a .k) (a .n) (a .scratch .now) i t)) (s .pre .1 .1 .kept i t)
+    subst (λ (q : ℕ). q < keptCount (a .store .now) (a .k)) (sym (next c ∙ words-at (C s) (orders (a .k)) (a .n) (a .scratch .now) i t)) (s .pre .1 .1 .kept i t)
 
-below : (c : tie.After-word-of Inv-loop μ-loop) → c .word-of .result < C (start c)
+below : (c : tie.After-ordered Inv-loop μ-loop) → c .ordered .result < C (start c)
 below c =
     let s = start c in
     omega (arith, is-kept c, headed (s .args .store .now) (store-header (s .args .store .now) (s .pre .0)) .few (s .args .k) (s .pre .1 .0 .list))
@@ -72,49 +74,38 @@ below c =
 span-of-requires : tie.Need-span-of-requires Inv-loop μ-loop
 span-of-requires c κs = let o = c .before in (start o .pre .0, (room-now (loop o), is-kept o))
 
-word-place-requires : tie.Need-word-place-requires Inv-loop μ-loop
-word-place-requires c κs =
-    let o = c .before .before in
-    let s = start o in
-    (omega (arith, loop o .before .capacity .ensures, s .pre .1 .0 .most), s .pre .1 .0 .list, omega arith)
+put-place-requires : tie.Need-put-place-requires Inv-loop μ-loop
+put-place-requires c κs =
+    let o = c .before .before .before in
+    let e = loop o .before .capacity .ensures in
+    (rw e (room-now (loop o)), omega (arith, e, below o))
 
--- where its place goes
-abbrev read : tie.After-word-place Inv-loop μ-loop → tie.After-word-of Inv-loop μ-loop
-read c = c .before .before .before
-
-goes : (c : tie.After-word-place Inv-loop μ-loop) → c .word-place .result ≡ placePlace (C (start (read c))) (start (read c) .args .k) (read c .word-of .result)
-goes c =
-    let o = read c in
-    c .word-place .ensures ∙ ap (λ (x : ℕ). placePlace x (start o .args .k) (o .word-of .result)) (loop o .before .capacity .ensures)
-
-within : (c : tie.After-word-place Inv-loop μ-loop) → c .word-place .result < length (loop (read c) .loop .scratch)
-within c =
-    let o = read c in
-    omega (arith, goes c, part-room (C (start o)) (start o .args .k) (loop o .loop .scratch) (room-now (loop o)) 30 (o .word-of .result) (omega arith) (below o))
-
-mul-scratch : tie.Need-mul-scratch Inv-loop μ-loop
-mul-scratch c = omega (arith, within c, start (read c) .good .1 .1 .1 .0, loop (read c) .loop .inv .long)
-
-slice-write-scratch : tie.Need-slice-write-scratch Inv-loop μ-loop
-slice-write-scratch c = omega (arith, within c)
+-- its place is put
+abbrev read : tie.After-put-place Inv-loop μ-loop → tie.After-ordered Inv-loop μ-loop
+read c = c .before .before .before .before
 
 add-at : tie.Need-add-at Inv-loop μ-loop
 add-at c =
-    let o = read c in
-    omega (arith, c .before .span-of .ensures .1, loop o .loop .inv .low, o .before .before .loop-test .taken, start o .pre .1 .1 .few, start o .pre .1 .0 .most)
+    let w = c .before .before in
+    let o = read w in
+    omega (arith, w .before .before .span-of .ensures .1, loop o .loop .inv .low, o .before .before .loop-test .taken, start o .pre .1 .1 .few, start o .pre .1 .0 .lent .most)
 
 loop-again : tie.Need-loop-again Inv-loop μ-loop
 loop-again c =
-    let o = read c in
+    let p = c .before .before in
+    let o = read p in
     let s = start o in
     let a = s .args in
     let l = loop o .loop in
-    let w = c .before .span-of in
-    let done = run-on (keptOf (a .store .now)) (C s) (a .k) (a .n) (a .scratch .now) (l .scratch) (l .at) (l .i) (o .word-of .result) (w .result) (l .inv) (o .before .before .loop-test .taken) (next o) (w .ensures .0) (w .ensures .1) in
-    subst (λ (p : ℕ). Run (keptOf (a .store .now)) (C s) (a .k) (a .n) (a .scratch .now) (set (l .scratch) p (l .at)) (l .at + w .result) (l .i + 1)) (sym (goes c)) done
+    let w = p .before .before .span-of in
+    let q = o .ordered .result in
+    let done = run-on (keptOf (a .store .now)) (C s) (a .k) (a .n) (a .scratch .now) (s .pre .1 .0 .list) (l .scratch) (l .at) (l .i) q (w .result) (l .inv) (o .before .before .loop-test .taken) (below o) (next o) (w .ensures .0) (w .ensures .1) in
+    let is : withWord (C s) (places (a .k)) q (l .at) (l .scratch) ≡ p .put-place .last .1 .1 .1 .1 .0 =
+    ap (λ (x : ℕ). withWord x (places (a .k)) q (l .at) (l .scratch)) (sym (loop o .before .capacity .ensures)) ∙ sym (p .put-place .ensures) in
+    subst (λ (t : List ℕ). Run (keptOf (a .store .now)) (C s) (a .k) (a .n) (a .scratch .now) t (l .at + w .result) (l .i + 1)) is done
 
 same-length : tie.Need-same-length Inv-loop μ-loop
-same-length c = c .before .loop .inv .long
+same-length c = c .before .loop .inv .frame .long
 
 returns : tie.Need-returns Inv-loop μ-loop
 returns c =
@@ -131,11 +122,9 @@ place-list-spec =
     μ-loop
     capacity-requires
     loop-holds
-    word-of-requires
+    ordered-requires
     span-of-requires
-    word-place-requires
-    mul-scratch
-    slice-write-scratch
+    put-place-requires
     add-at
     (λ c. search needs)
     (λ c. search needs)

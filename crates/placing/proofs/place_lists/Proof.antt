@@ -1,12 +1,13 @@
 -- `placing::place_lists` meets its contract. The invariant: the first k lists are placed, and the order is as it was. Assumes nothing.
 use mathlib.Core.Path.{_≡_, refl, ap, _∙_}
-use Prim.Native.Nat.{ℕ, _+_, _-_}
+use Prim.Native.Nat.{ℕ, _+_, _-_, _<_}
 use native.Mathlib.Omega.{arith}
 use lib.ListN.{getD}
 use borrow.Author.Needs.{needs}
-use Rattle.paper.specs.Store.{capacityOf, keptOf}
-use Rattle.placing.specs.Placing.{placedLists}
-use Rattle.placing.proofs.Runs.{Lists, lists-first, lists-on, kept-still}
+use Rattle.paper.specs.Store.{heights, capacityOf, keptOf}
+use Rattle.scratch.proofs.Words.{only-lent}
+use Rattle.placing.specs.Placing.{placedLists, Kept}
+use Rattle.placing.proofs.Runs.{Places, Lists, lists-first, lists-on, kept-still, kept-below}
 use Rattle.placing.proofs.place_lists.Statement.{statement}
 use Rattle.placing.proofs.place_lists.Tie as tie
 
@@ -36,8 +37,8 @@ place-list-requires c κs =
     let r = s .pre .1 .0 in (
       s .pre .0,
       (
-        record { most = r .most; list = omega (arith, t, r .list); long = rw (l .inv .long) (r .long) },
-        kept-still (a .store .now) (l .k) (getD (a .t3) (l .k) 0) (a .scratch .now) (l .scratch) (omega (arith, t, r .list)) (s .pre .1 .1 (l .k) t) (l .inv .before),
+        record { lent = only-lent (capacityOf (a .store .now)) Places (a .scratch .now) (l .scratch) (l .inv .frame) (r .lent); list = omega (arith, t, r .list) },
+        kept-still (a .store .now) (l .k) (getD (a .t3) (l .k) 0) (a .scratch .now) (l .scratch) (omega (arith, t, r .list)) (s .pre .1 .1 (l .k) t) (l .inv .frame),
       ),
     )
 
@@ -61,12 +62,16 @@ loop-again c =
     let p = c .before .before in
     let t = p .before .before in
     let l = t .before .loop in
-    let a = t .before .before .before .before .args in
-    lists-on (keptOf (a .store .now)) (capacityOf (a .store .now)) (a .t3) (a .top) (a .scratch .now) (l .sizes) (l .scratch) (l .k) (getD (a .t3) (l .k) 0)
-    (p .place-list .result) (p .place-list .last .1 .1 .1 .0) (l .inv) (t .loop-test .taken) refl (p .place-list .ensures)
+    let s = t .before .before .before .before in
+    let a = s .args in
+    let n = getD (a .t3) (l .k) 0 in
+    let list : l .k < heights = omega (arith, t .loop-test .taken, s .pre .1 .0 .list) in
+    let still : Kept (a .store .now) (l .k) n (l .scratch) = kept-still (a .store .now) (l .k) n (a .scratch .now) (l .scratch) list (s .pre .1 .1 (l .k) (t .loop-test .taken)) (l .inv .frame) in
+    lists-on (keptOf (a .store .now)) (capacityOf (a .store .now)) (a .t3) (a .top) (a .scratch .now) (l .sizes) (l .scratch) (l .k) n
+    (p .place-list .result) (p .place-list .last .1 .1 .1 .0) (l .inv) (t .loop-test .taken) list (kept-below (a .store .now) (l .k) n (l .scratch) (s .pre .0) list still) refl (p .place-list .ensures)
 
 same-length : tie.Need-same-length Inv-loop μ-loop
-same-length c = c .before .loop .inv .long
+same-length c = c .before .loop .inv .frame .long
 
 returns : tie.Need-returns Inv-loop μ-loop
 returns c =

@@ -6,8 +6,8 @@ use borrow.Author.Needs.{needs}
 use Rattle.paper.specs.Store.{capacityOf, keptOf}
 use Rattle.paper.specs.Pack.{width}
 use Rattle.laws.proofs.Undamaged.{store-header}
-use Rattle.placing.specs.Placing.{placesIn}
-use Rattle.placing.proofs.Bounds.{room-below}
+use Rattle.scratch.specs.Parts.{placesIn}
+use Rattle.scratch.proofs.Words.{room-below}
 use Rattle.placing.proofs.Codes.{digits-width}
 use Rattle.laws.proofs.RecordSizes.{width-le}
 use Rattle.placing.proofs.Runs.{cell-below, span-leaf, span-cell}

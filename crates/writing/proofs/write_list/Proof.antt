@@ -9,10 +9,9 @@ use borrow.Author.Needs.{needs}
 use Rattle.paper.specs.Numbers.{flatten}
 use Rattle.paper.specs.Store.{capacityOf, keptCount, keptOf}
 use Rattle.laws.proofs.Undamaged.{store-header}
-use Rattle.order.specs.Scratch.{orderPlace}
-use Rattle.placing.specs.Placing.{orderIn}
+use Rattle.scratch.specs.Parts.{orders, wordIn, orderIn}
+use Rattle.scratch.proofs.Words.{words-at, words-length}
 use Rattle.writing.specs.Writing.{recordIn, listIn}
-use Rattle.placing.proofs.Bounds.{order-at, order-length}
 use Rattle.writing.proofs.Behind.{Going, going-first, going-room, going-on, going-none, parts-from, parts-none}
 use Rattle.writing.proofs.write_list.Statement.{statement}
 use Rattle.writing.proofs.write_list.Tie as tie
@@ -48,37 +47,37 @@ capacity-requires c κs = let s = c .before .before .before in store-header (s .
 loop-holds : tie.Need-loop-holds Inv-loop μ-loop
 loop-holds c = let s = c .before .before .before .before in (omega arith, going-first (from s 0) (s .args .at) (s .args .out .now) (room s))
 
-word-of-requires : tie.Need-word-of-requires Inv-loop μ-loop
-word-of-requires c κs =
+ordered-requires : tie.Need-ordered-requires Inv-loop μ-loop
+ordered-requires c κs =
     let p = c .before .before in
     let s = p .before .before .before .before in
-    (rw (p .capacity .ensures) (s .pre .1 .0), (omega arith, omega (arith, p .capacity .ensures, s .pre .1 .1 .0 .few, c .loop-test .taken)))
+    (rw (p .capacity .ensures) (s .pre .1 .0), omega (arith, p .capacity .ensures, s .pre .1 .1 .0 .few, c .loop-test .taken))
 
 -- the cell that is read is the i-th of the order, and kept
-abbrev start : tie.After-word-of Inv-loop μ-loop → tie.Start Inv-loop μ-loop
+abbrev start : tie.After-ordered Inv-loop μ-loop → tie.Start Inv-loop μ-loop
 start c = c .before .before .before .before .before .before .before
 
-there : (c : tie.After-word-of Inv-loop μ-loop) → c .word-of .result ≡ getD (start c .args .scratch .now) (orderPlace (C (start c)) (start c .args .k) (c .before .before .loop .i)) 0
+there : (c : tie.After-ordered Inv-loop μ-loop) → c .ordered .result ≡ wordIn (C (start c)) (orders (start c .args .k)) (start c .args .scratch .now) (c .before .before .loop .i)
 there c =
     let a = start c .args in
-    c .word-of .ensures ∙ ap (λ (x : ℕ). getD (a .scratch .now) (orderPlace x (a .k) (c .before .before .loop .i)) 0) (c .before .before .before .capacity .ensures)
+    c .ordered .ensures ∙ ap (λ (x : ℕ). wordIn x (orders (a .k)) (a .scratch .now) (c .before .before .loop .i)) (c .before .before .before .capacity .ensures)
 
-told : (c : tie.After-word-of Inv-loop μ-loop) → c .word-of .result ≡ getD (order (start c)) (c .before .before .loop .i) 0
+told : (c : tie.After-ordered Inv-loop μ-loop) → c .ordered .result ≡ getD (order (start c)) (c .before .before .loop .i) 0
 told c =
     let a = start c .args in
-    there c ∙ sym (order-at (C (start c)) (a .k) (a .n) (a .scratch .now) (c .before .before .loop .i) (c .before .loop-test .taken))
+    there c ∙ sym (words-at (C (start c)) (orders (a .k)) (a .n) (a .scratch .now) (c .before .before .loop .i) (c .before .loop-test .taken))
 
-is-kept : (c : tie.After-word-of Inv-loop μ-loop) → c .word-of .result < keptCount (start c .args .store .now) (start c .args .k)
+is-kept : (c : tie.After-ordered Inv-loop μ-loop) → c .ordered .result < keptCount (start c .args .store .now) (start c .args .k)
 is-kept c =
     let s = start c in
     subst (λ (q : ℕ). q < keptCount (s .args .store .now) (s .args .k)) (sym (there c)) (s .pre .1 .1 .0 .kept (c .before .before .loop .i) (c .before .loop-test .taken))
 
 -- its record, and those behind it
-next : (c : tie.After-word-of Inv-loop μ-loop) → (let s = start c in let i = c .before .before .loop .i in from s i ≡ one s (c .word-of .result) ++ from s (suc i))
+next : (c : tie.After-ordered Inv-loop μ-loop) → (let s = start c in let i = c .before .before .loop .i in from s i ≡ one s (c .ordered .result) ++ from s (suc i))
 next c =
     let s = start c in
     let i = c .before .before .loop .i in
-    parts-from (one s) (order s) i 0 (rw (order-length (C s) (s .args .k) (s .args .n) (s .args .scratch .now)) (c .before .loop-test .taken))
+    parts-from (one s) (order s) i 0 (rw (words-length (C s) (orders (s .args .k)) (s .args .n) (s .args .scratch .now)) (c .before .loop-test .taken))
     ∙ ap (λ (q : ℕ). one s q ++ from s (suc i)) (sym (told c))
 
 write-record-requires : tie.Need-write-record-requires Inv-loop μ-loop
@@ -91,7 +90,7 @@ write-record-requires c κs =
         s .pre .1 .0,
         (
           is-kept o,
-          going-room (one s (o .word-of .result)) (from s (suc (l .i))) (from s (l .i)) (l .next) (l .out) (from s 0) (s .args .at) (s .args .out .now) (next o) (l .inv .1),
+          going-room (one s (o .ordered .result)) (from s (suc (l .i))) (from s (l .i)) (l .next) (l .out) (from s 0) (s .args .at) (s .args .out .now) (next o) (l .inv .1),
         ),
       ),
     )
@@ -105,7 +104,7 @@ loop-again c =
     let a = s .args in
     let n = w .write-record .result in
     let out = w .write-record .last .1 .1 .1 .1 .0 in
-    let g = going-on (from s 0) (a .at) (a .out .now) (one s (o .word-of .result)) (l .next) (l .out) n out (w .write-record .ensures) (from s (suc (l .i))) (from s (l .i)) (next o) (l .inv .1) in
+    let g = going-on (from s 0) (a .at) (a .out .now) (one s (o .ordered .result)) (l .next) (l .out) n out (w .write-record .ensures) (from s (suc (l .i))) (from s (l .i)) (next o) (l .inv .1) in
     (omega (arith, o .before .loop-test .taken), subst (λ (j : ℕ). Going (from s j) n out (from s 0) (a .at) (a .out .now)) (sym (add-one (l .i))) g)
 
 same-length : tie.Need-same-length Inv-loop μ-loop
@@ -118,7 +117,7 @@ returns c =
     let s = c .before .before .before .before .before .before in
     let a = s .args in
     let end : l .i ≡ a .n = omega (arith, l .inv .0, c .loop-test .left) in
-    going-none (from s 0) (a .at) (a .out .now) (l .next) (l .out) (from s (l .i)) (parts-none (one s) (order s) (l .i) (end ∙ sym (order-length (C s) (a .k) (a .n) (a .scratch .now)))) (l .inv .1)
+    going-none (from s 0) (a .at) (a .out .now) (l .next) (l .out) (from s (l .i)) (parts-none (one s) (order s) (l .i) (end ∙ sym (words-length (C s) (orders (a .k)) (a .n) (a .scratch .now)))) (l .inv .1)
 
 pub write-list-spec : {M : Type 1} → statement M
 write-list-spec =
@@ -128,7 +127,7 @@ write-list-spec =
     μ-loop
     capacity-requires
     loop-holds
-    word-of-requires
+    ordered-requires
     write-record-requires
     (λ c. search needs)
     (λ c. search needs)

@@ -7,7 +7,7 @@ use native.Mathlib.Omega.{arith}
 use lib.ListN.{getD}
 use borrow.Author.Needs.{needs}
 use Rattle.paper.specs.Store.{capacityOf, keptOf}
-use Rattle.placing.specs.Placing.{Room}
+use Rattle.scratch.specs.Parts.{Room}
 use Rattle.writing.specs.Writing.{listIn, bodyIn}
 use Rattle.writing.proofs.Behind.{Going, going-first, going-room, going-on, going-none}
 use Rattle.writing.proofs.Pieces.{body-down, body-none}
@@ -32,7 +32,7 @@ abbrev all : tie.Start Inv-loop μ-loop → List ℕ
 all c = from c (suc (c .args .top))
 
 room : (c : tie.Start Inv-loop μ-loop) (k : ℕ) → k ≤ c .args .top → Room (capacityOf (c .args .store .now)) k (c .args .scratch .now)
-room c k h = let r = c .pre .1 .0 in record { most = r .most; list = omega (arith, r .list); long = r .long }
+room c k h = let r = c .pre .1 .0 in record { lent = r .lent; list = omega (arith, r .list) }
 
 loop-holds : tie.Need-loop-holds Inv-loop μ-loop
 loop-holds c =

@@ -3,13 +3,15 @@ use mathlib.Core.Path.{_≡_, sym, ap, _∙_}
 use mathlib.Core.List.{List}
 use Prim.Native.Nat.{ℕ, _+_, _*_, _<_}
 use native.Mathlib.Omega.{arith}
-use lib.ListN.{length, getD}
+use lib.ListN.{length}
 use borrow.Author.Needs.{needs}
 use Rattle.paper.specs.Numbers.{bytes}
+use Rattle.paper.specs.Store.{cellNo}
 use Rattle.paper.specs.Pack.{pointerBytes, placeOf}
 use Rattle.numbers.specs.Laid.{writing}
 use Rattle.numbers.proofs.Laying.{writing-none}
-use Rattle.placing.specs.Placing.{placesIn}
+use Rattle.scratch.specs.Parts.{places, wordIn, placesIn}
+use Rattle.scratch.proofs.Words.{words-at}
 use Rattle.laws.proofs.RecordSizes.{no-bytes, bytes-short, bytes-long}
 use Rattle.writing.proofs.Behind.{number-room}
 use Rattle.writing.proofs.write_pointer.Statement.{statement}
@@ -23,17 +25,21 @@ returns c =
     let s = c .before .before .before in
     writing-none (s .args .at) (s .args .out .now) ∙ ap (λ (bs : List ℕ). writing bs (s .args .at) (s .args .out .now)) (sym (no-bytes (ps s) (s .args .p) (c .if1 .taken)))
 
-place-of-requires : tie.Need-place-of-requires
-place-of-requires c κs =
+place-requires : tie.Need-place-requires
+place-requires c κs =
     let s = c .before .before .before .before .before .before in
     (s .pre .0, rw (c .cell-number .ensures) (s .pre .1 .0 (c .before .before .before .if1 .left)))
 
 -- the place that is read
-abbrev entry : tie.After-place-of → tie.Start
+abbrev entry : tie.After-place → tie.Start
 entry c = c .before .before .before .before .before .before .before
 
-there : (c : tie.After-place-of) → c .place-of .result ≡ placeOf (ps (entry c)) (entry c .args .p)
-there c = c .place-of .ensures ∙ ap (λ (q : ℕ). getD (ps (entry c)) q 0) (c .before .cell-number .ensures)
+there : (c : tie.After-place) → c .place .result ≡ placeOf (ps (entry c)) (entry c .args .p)
+there c =
+    let s = entry c in
+    let a = s .args in
+    c .place .ensures ∙ ap (λ (q : ℕ). wordIn (a .c) (places (a .k)) (a .scratch .now) q) (c .before .cell-number .ensures)
+    ∙ sym (words-at (a .c) (places (a .k)) (a .c) (a .scratch .now) (cellNo (a .p)) (s .pre .1 .0 (c .before .before .before .before .if1 .left)))
 
 mirror-low : (c : tie.After-wider) → c .wider .result < 8
 mirror-low c = omega (arith, c .wider .ensures .0, c .before .tag .ensures)
@@ -96,7 +102,7 @@ write-pointer-spec =
     (λ c κs. search needs)
     (λ c κs. search needs)
     (λ c κs. search needs)
-    place-of-requires
+    place-requires
     mul-write-number
     (λ c κs. search needs)
     add-write-number

@@ -8,7 +8,7 @@ use lib.ListN.{length, getD, drop}
 use borrow.Author.Needs.{needs}
 use Rattle.paper.specs.Numbers.{flatten}
 use Rattle.paper.specs.Pack.{pointerBytes}
-use Rattle.placing.specs.Placing.{placesIn}
+use Rattle.scratch.specs.Parts.{placesIn}
 use Rattle.writing.proofs.Behind.{Going, going-first, going-room, going-on, going-none, parts-from, parts-none}
 use Rattle.writing.proofs.write_pointers.Statement.{statement}
 use Rattle.writing.proofs.write_pointers.Tie as tie

@@ -10,9 +10,10 @@ use Rattle.paper.specs.Store.{capacityOf, keptCount, keptOf}
 use Rattle.paper.specs.Pack.{pointerBytes}
 use Rattle.laws.proofs.Undamaged.{store-header}
 use Rattle.numbers.specs.Laid.{writing}
-use Rattle.placing.specs.Placing.{placesIn, Room, Below}
+use Rattle.scratch.specs.Parts.{Room, placesIn}
+use Rattle.scratch.proofs.Words.{room-below}
+use Rattle.placing.specs.Placing.{Below}
 use Rattle.writing.specs.Writing.{recordIn}
-use Rattle.placing.proofs.Bounds.{room-below}
 use Rattle.placing.proofs.Codes.{digits-header}
 use Rattle.writing.proofs.Behind.{Going, going-first, number-room, number-first, going-on, going-last, last-long}
 use Rattle.placing.proofs.Runs.{cell-below}

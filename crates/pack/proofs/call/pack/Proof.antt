@@ -53,22 +53,22 @@ held c = there-held (start c .args .store .now) (start c .args .scene) (sym (c .
 ok : (c : tie.Else2) → T (storeOk (start c .args .store .now))
 ok c = true-T (sound (c .before .before))
 
-scratch-words-requires : tie.Need-scratch-words-requires
-scratch-words-requires c κs = store-header (start c .args .store .now) (ok c)
+words-needed-requires : tie.Need-words-needed-requires
+words-needed-requires c κs = store-header (start c .args .store .now) (ok c)
 
 returns-3 : tie.Need-returns-3
 returns-3 c =
     let w = c .before in
     let h = w .before in
     let a = start h .args in
-    scratch-short (a .store .now) (a .scene) (a .scratch .now) (a .out .now) (sound (h .before .before)) (held h) (omega (arith, w .scratch-words .ensures, c .if3 .taken))
+    scratch-short (a .store .now) (a .scene) (a .scratch .now) (a .out .now) (sound (h .before .before)) (held h) (omega (arith, w .words-needed .ensures, c .if3 .taken))
 
 -- and scratch is long enough
 abbrev entry : tie.Else3 → tie.Start
 entry c = start (c .before .before)
 
 room : (c : tie.Else3) → scratchFor (entry c .args .store .now) ≤ length (entry c .args .scratch .now)
-room c = omega (arith, c .before .scratch-words .ensures, c .if3 .left)
+room c = omega (arith, c .before .words-needed .ensures, c .if3 .left)
 
 clear-requires : tie.Need-clear-requires
 clear-requires c κs = omega (arith, c .before .if3 .left)
@@ -81,7 +81,7 @@ abbrev given : tie.After-clear → tie.Start
 given c = entry (passed c)
 
 clean : (c : tie.After-clear) → c .clear .last .0 ≡ cleared (scratchFor (given c .args .store .now)) (given c .args .scratch .now)
-clean c = c .clear .ensures ∙ ap (λ (n : ℕ). cleared n (given c .args .scratch .now)) (passed c .before .scratch-words .ensures)
+clean c = c .clear .ensures ∙ ap (λ (n : ℕ). cleared n (given c .args .scratch .now)) (passed c .before .words-needed .ensures)
 
 few : (c : tie.After-clear) → given c .args .scene < mostScenes
 few c =
@@ -191,7 +191,7 @@ clean-again c =
     let l = opened (rooted p) in
     let a = given l .args in
     let n : ℕ = scratchFor (a .store .now) in
-    c .clear2 .ensures ∙ ap (λ (m : ℕ). cleared m (dirty p)) (passed l .before .scratch-words .ensures)
+    c .clear2 .ensures ∙ ap (λ (m : ℕ). cleared m (dirty p)) (passed l .before .words-needed .ensures)
     ∙ cleared-again n (a .scratch .now) (dirty p) (p .pack-root .ensures .1 .1 ∙ ap (drop n) (clean l))
 
 same-length-3 : tie.Need-same-length-3
@@ -223,7 +223,7 @@ pack-spec =
     returns
     not-held-requires
     returns-2
-    scratch-words-requires
+    words-needed-requires
     returns-3
     clear-requires
     scene-depth-requires

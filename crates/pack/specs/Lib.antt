@@ -1,0 +1,2 @@
+-- Definitions that the contracts cite: what is ready once a scene is prepared.
+pub mod Ready
