@@ -7,11 +7,11 @@ use lib.Seq.{sets}
 use Rattle.paper.specs.Calls.{nextScene}
 use Rattle.paper.specs.Store.{Cell, heights, capacityOf, scenesHeld, keptCount, scenePlace, stride, cellPlace}
 
--- 'kept as it stands under the next number': list k's count grows by one, and the cell's words stand behind those of the others
+-- a cell more in list k ('as it stands'): its count grows by one, and the cell's words follow those of the others
 unfoldable pub keepIn : ℕ → Cell → List ℕ → List ℕ
 keepIn k c ws = sets (set ws (2 + k) (suc (keptCount ws k))) (cellPlace (capacityOf ws) k (keptCount ws k)) c
 
--- 'the scene number is the count of scenes before': word 1 grows by one, and the scene's depth and root pointer stand at that number's place
+-- a scene more ('the scene number'): word 1 grows by one, and the scene's depth and root pointer stand at the place of the next number
 unfoldable pub holdIn : Cell → List ℕ → List ℕ
 holdIn c ws = sets (set ws 1 (suc (scenesHeld ws))) (scenePlace (nextScene ws)) c
 

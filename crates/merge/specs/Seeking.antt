@@ -18,7 +18,7 @@ use Rattle.merge.specs.declared.keep.Placed.the-variants.{At, Full}
 pub data Placing : Type 0 where
   placing : Placed → List ℕ → Placing
 
--- 'kept as it stands under the next number, mirror 0', with its mask, if list k has room
+-- kept ('as it stands') behind the others, untagged, with its mask, if list k has room
 unfoldable pub keptWith : ℕ → ℕ → Cell → List ℕ → Placing
 keptWith mask k c ws =
     let r = placing (At (pointer 0 (keptCount ws k)) mask) (keepIn k c ws) in

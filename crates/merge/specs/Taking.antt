@@ -1,4 +1,4 @@
--- A file's records taken into the words of a store, by positions: 'adding works from the leaves up in outline order'. Definitions only.
+-- A file's records taken into the words of a store, by positions ('outline order'). Definitions only.
 -- The laws in proofs/Standing.antt say that this is the paper's adding of the tree that is read.
 use mathlib.Core.Bool.{cond}
 use mathlib.Core.List.{List}

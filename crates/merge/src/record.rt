@@ -1,5 +1,5 @@
-// A file's records taken into the store, each cell sought or kept: a cell's record calls for its children's records, and
-// each child's again for a cell's. Height and children left fall. The file was read before, so nothing is tested again.
+// A file's records taken into the store, each cell sought or kept: the function for a record and the one for its children call
+// each other ('calls for'). Height and children left fall. The file was read before, so nothing is tested again.
 ghost use mathlib.Core.Path.{_≡_};
 ghost use mathlib.Core.List.{List};
 ghost use Prim.Native.Nat.{ℕ, _-_, _≤_, _<_};

@@ -16,7 +16,7 @@ toldBy h = told (h .number) (h .depth ∷ h .starts)
 abbrev pub openTold : List ℕ → Told
 openTold file = told (openOutcome file .number) (openOutcome file .values)
 
--- the part held: 'a refusal holding an empty part'
+-- the part held ('an empty part'): nothing where the opening is refused
 unfoldable pub partOf : List ℕ → ℕ → List ℕ
 partOf file number = cond (eqb number 0) file []
 

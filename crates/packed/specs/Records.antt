@@ -12,6 +12,6 @@ codeAt i h = h / 4 ^ i % 4
 abbrev pub linkIs : Pointer → Link
 linkIs p = record { code = p .code; tag = p .tag; place = p .place }
 
--- 'the pointer taken (place inside the next list, width)'
+-- the test of a pointer that is followed ('pointer taken'): it leads into the next list and is as wide as its place calls for
 abbrev pub takenOk : ℕ → Link → Bool
 takenOk size q = ltb (q .place) size && eqb (q .code) (codeFor (q .place))

@@ -1,6 +1,6 @@
 -- One outcome: for each public call, two results that meet its promise on the same input are equal, the answer and every slice lent for writing.
--- The promise is the one that the call's `ensures` cites. An answer can be read back from its number and values, so that equal outcomes come from equal answers; the thirteen theorems follow in the order of
--- the calls. Assumes nothing.
+-- The promise is the one that the call's `ensures` cites. An answer can be read back from its number and values, so that equal outcomes come from
+-- equal answers; the thirteen theorems follow in the order of the calls. Assumes nothing.
 use mathlib.Core.Path.{_≡_, refl, sym, ap, _∙_}
 use mathlib.Core.List.{List, [], _∷_}
 use Prim.Native.Nat.{ℕ, zero, suc}

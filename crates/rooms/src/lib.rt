@@ -48,7 +48,7 @@ pub fn cell(store: &[u32], scene: u32, height: u32, x: u32, y: u32, z: u32) -> O
     walk::cell(store, scene, height, x, y, z)
 }
 
-// Box: how many solid voxels v have low <= v < high on each axis; refused as voxel.
+// Box: the number of solid voxels from the low corner up to the high one, which is outside; refused as voxel.
 pub fn box_count(
     store: &[u32],
     scene: u32,

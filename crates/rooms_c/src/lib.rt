@@ -1,7 +1,7 @@
 // The public calls for C. A slice is a pointer and a length, the answer is document 01's number, 0 where the call is accepted, and the
 // values are written through the last parameters, zeros on a refusal. Each promise stands in specs/Exports.antt, by name, as one equation,
 // on the same outcome as the call of `rooms`; where C passes numbers in the place of a struct or of a wish, that file says which. No
-// call asks anything of its caller.
+// call asks anything of the values it is given; what it asks of pointers and memory is in the header.
 ghost use mathlib.Core.Path.{_≡_};
 ghost use mathlib.Core.List.{_∷_};
 ghost use Prim.Native.Nat.{_≤_};
@@ -71,7 +71,7 @@ pub extern "C" fn rooms_cell(
     answer.number()
 }
 
-// Box: how many solid voxels v have low <= v < high on each axis.
+// Box: the number of solid voxels from the low corner up to the high one, which is outside.
 #[no_mangle]
 pub extern "C" fn rooms_box(
     store: &[u32],
