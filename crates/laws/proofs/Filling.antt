@@ -2,7 +2,7 @@
 -- cell occurring in a scene held. From what adding a tree gives, and that kept cells and scenes stay. Assumes nothing.
 use mathlib.Core.Path.{_≡_, refl, sym, _∙_, ap, subst}
 use mathlib.Core.Bool.{false, cond}
-use mathlib.Core.List.{List, [], _∷_, _++_}
+use mathlib.Core.List.{List, [], _∷_}
 use mathlib.Core.Option.{some, Option·some-ne-none}
 use mathlib.Core.Option as O
 use mathlib.Core.Logic.{inl, inr}

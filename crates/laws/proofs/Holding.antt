@@ -5,17 +5,14 @@ use mathlib.Core.Bool.{Bool, true, false}
 use mathlib.Core.List.{List}
 use mathlib.Core.Option.{some, Option·some-injective, Option·some-ne-none}
 use mathlib.Core.Option as O
-use Prim.Native.Nat.{ℕ, suc, _+_, _-_, _*_, _<_, _≤_, _^_}
-use native.Mathlib.Decide.{decLt}
+use Prim.Native.Nat.{ℕ, suc, _+_, _-_, _*_, _<_, _^_}
 use native.Mathlib.Omega.{arith}
-use borrow.Author.Tests.{leb-false, lt-leb}
 use lib.Dec.{T}
 use lib.ListN.{length}
 use lib.Pow.{pow-add}
-use Rattle.paper.specs.Numbers.{allBelow}
 use Rattle.paper.specs.Rooms.{Room, Inside, Same, cellOf, NonEmpty, Image, depthOk}
 use Rattle.paper.specs.Outline.{edge, fileDepth, fileRoom}
-use Rattle.paper.specs.Store.{Cell, cellsAt, cellAt, heights, capacityOf, isHeld, keptOf, sceneDepth, sceneRoot, headerOk, sceneOk, storeOk}
+use Rattle.paper.specs.Store.{Cell, cellsAt, cellAt, capacityOf, isHeld, keptOf, sceneDepth, sceneRoot, headerOk, sceneOk, storeOk}
 use Rattle.paper.specs.Meaning.{pointerVoxel, cellVoxel, rootRoom}
 use Rattle.paper.specs.Calls.{noScene}
 use Rattle.paper.specs.Runs.{Bytes, Scene, sceneOf, Held, State, Occurs, Reached}

@@ -13,7 +13,7 @@ use lib.ListN.{length, drop, getD, set, replicate, replicate-append-replicate}
 use lib.Seq.{drop-at}
 use Rattle.paper.specs.Numbers.{flatten}
 use Rattle.paper.specs.Outline.{fileDepth, outlineTree}
-use Rattle.paper.specs.Store.{Cell, Store, mostScenes, heights, firstScene, sceneWords, stride, firstList, used, freePlace, capacityOk, scenesHeld, padded, listRegions, headerRow, wordsOf, emptyStore}
+use Rattle.paper.specs.Store.{Cell, mostScenes, heights, firstScene, sceneWords, stride, firstList, used, freePlace, capacityOk, scenesHeld, padded, listRegions, headerRow, wordsOf, emptyStore}
 use Rattle.paper.specs.Match.{Adding, full, added, addTree}
 use Rattle.paper.specs.Answers.{Outcome, told, outcome}
 use Rattle.paper.specs.Order.{firstOf}

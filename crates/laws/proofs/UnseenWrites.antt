@@ -10,8 +10,8 @@ use lib.Dec.{T, eqb, leb}
 use lib.ListN.{length, drop, getD, set, replicate, length-append, length-drop, length-set, length-replicate}
 use lib.Seq.{drop-append-le, set-append-left}
 use Rattle.paper.specs.Outline.{fileDepth, outlineTree}
-use Rattle.paper.specs.Store.{Cell, Store, mostScenes, used, capacityOf, storeOf, wordsOf, capacityOk, headerOk, storeOk}
-use Rattle.paper.specs.Match.{Adding, addTree}
+use Rattle.paper.specs.Store.{Cell, mostScenes, used, capacityOf, storeOf, wordsOf, capacityOk, headerOk, storeOk}
+use Rattle.paper.specs.Match.{addTree}
 use Rattle.paper.specs.Answers.{Outcome}
 use Rattle.paper.specs.Order.{when, firstOf, settled}
 use Rattle.paper.specs.Calls.{over, cleared, badSize, newOrder, newWords, newOutcome, nextScene, scenesFull, adding, cellsFull, isFull, outlineOrder, addOrder, withScene, addWords, addOutcome}

@@ -7,7 +7,6 @@ use lib.Dec.{leb}
 use Rattle.paper.specs.Store.{scenesHeld}
 use Rattle.laws.proofs.Tests.{ltb-not, not-not}
 use Rattle.store.proofs.HeaderFacts.{header-front}
-use borrow.Author.Needs.{needs}
 use Rattle.store.proofs.header.not_held.Statement.{statement}
 use Rattle.store.proofs.header.not_held.Tie as tie
 

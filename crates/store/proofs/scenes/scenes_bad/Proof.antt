@@ -2,7 +2,7 @@
 -- The measure is n. Assumes nothing.
 use mathlib.Core.Path.{_≡_, refl, sym, ap}
 use mathlib.Core.Bool.{not}
-use Prim.Native.Nat.{ℕ, _≤_}
+use Prim.Native.Nat.{_≤_}
 use native.Mathlib.Omega.{arith}
 use Rattle.paper.specs.Numbers.{allBelow}
 use Rattle.paper.specs.Store.{mostScenes, placeOk}
