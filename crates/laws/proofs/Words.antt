@@ -181,7 +181,6 @@ module _ (C N : ℕ) (S : List Cell) (Ks : List (List Cell)) (f : Fine C N S Ks)
   unfolding wordsOf regionPlace
   list-words k X j c h e fit =
       let row′ : List ℕ = set row (2 + k) (length X) in
-      let H′ : Region = region firstScene (row′ ∷ []) in
       let hk : k < length Ks = omega (arith, f .lists) in
       let there : regionAt L k ≡ region (stride k * C) (getD Ks k []) = list-region C 0 Ks k hk ∙ ap (λ (i : ℕ). region (stride i * C) (getD Ks k [])) (zero-add k) in
       let counts : C ∷ N ∷ map (length {A = Cell}) (set Ks k X) ≡ row′ = rw (two-add k) (ap (λ (r : List ℕ). C ∷ N ∷ r) (map-set length Ks k X)) in

@@ -89,7 +89,7 @@ keptCount ws k = getD ws (2 + k) 0
 abbrev pub zerosPlace : ℕ
 zerosPlace = 17
 
--- where the two words of scene n are ('64 scenes of two'), its depth first, then its root pointer
+-- how many words a scene has, and where those of scene n are ('64 scenes of two'), its depth first, then its root pointer
 abbrev pub sceneWords : ℕ
 sceneWords = 2
 
@@ -208,10 +208,11 @@ headerOk ws =
 unfoldable pub sceneOk : List ℕ → ℕ → Bool
 sceneOk ws n = depthOk (sceneDepth ws n) && not (badPointer (keptCount ws (sceneDepth ws n - 2)) (sceneRoot ws n))
 
--- neither place n of the scenes: a scene held is not damaged, any other place is two zeros
+-- place n of the scenes is two zeros
 abbrev pub isFree : List ℕ → ℕ → Bool
 isFree ws n = eqb (sceneDepth ws n) 0 && eqb (sceneRoot ws n) 0
 
+-- it is not damaged: a scene held is not, any other place is free
 unfoldable pub placeOk : List ℕ → ℕ → Bool
 placeOk ws n = cond (isHeld ws n) (sceneOk ws n) (isFree ws n)
 
