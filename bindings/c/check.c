@@ -177,7 +177,19 @@ static void judge(bool holds, const char *what, uint32_t got, uint32_t due)
         return;
     }
     failed++;
-    printf("FAILED: %s, %s: answers %" PRIu32 ", due %" PRIu32 "\n", called, what, got, due);
+    printf("FAILED: %s, %s: ", called, what);
+    if (got == due) {
+        printf("lent memory holds something else than it must\n");
+    } else {
+        printf("%" PRIu32 ", due %" PRIu32 "\n", got, due);
+    }
+}
+
+/* Ends the check where a call can't be made. */
+static void stop(const char *why, const char *parameter)
+{
+    printf("FAILED: %s, %s: %s\n%lu passed, %lu failed\n", called, parameter, why, passed, failed + 1);
+    exit(1);
 }
 
 /* Whether a call on these arguments answers this number and leaves memory as it must be. */
@@ -224,25 +236,30 @@ static size_t place_of(const char *name)
     return count;
 }
 
-/* Gives the call its arguments: so many, the last `out` of which are out parameters. Each goes where the header has its name. */
+/* Gives the call its arguments: so many, in the order of their types, the last `out` of which are out parameters. Each goes where the
+   header has its name. */
 static void give(size_t out, size_t many, ...)
 {
+    enum kind kinds[10];
     va_list list;
     count = many;
     outs = out;
-    memset(given, 0, sizeof given);
     va_start(list, many);
     for (size_t i = 0; i < many; i++) {
         struct argument argument = va_arg(list, struct argument);
         size_t place = place_of(argument.name);
         if (place >= many) {
-            judge(false, argument.name, 0, 0);
-            printf("the header has no such parameter\n");
-            exit(1);
+            stop("the header has no such parameter", argument.name);
         }
+        kinds[i] = argument.kind;
         given[place] = argument;
     }
     va_end(list);
+    for (size_t i = 0; i < many; i++) {
+        if (given[i].kind != kinds[i]) {
+            stop("the header has this parameter where its type doesn't fit", given[i].name);
+        }
+    }
     memcpy(&after, &before, sizeof after);
 }
 
@@ -368,7 +385,7 @@ static void orders(void)
         }
         tried = alike = 0;
         reorder(a, places, many, 0, false);
-        judge(differ && alike == 0, kind_names[kind], (uint32_t)alike, 0);
+        judge(differ && alike == 0, kind_names[kind], (uint32_t)alike + !differ, 0);
         printf("  %zu %s, %lu other orders, %lu with the same end", many, kind_names[kind], tried, alike);
     }
     printf("\n");
