@@ -1,74 +1,30 @@
 -- The pointer that a cell question ends at: the cell asked for is what it means, mirrored, so on lists as they should be it is none exactly where
 -- the cell is empty. By going down with the cell's place and any voxel in it, both mirrored and moved into the child. Assumes nothing.
 use mathlib.Core.Path.{_≡_, refl, sym, _∙_, ap, ap₂, subst}
-use mathlib.Core.Bool.{Bool, true, false, not}
+use mathlib.Core.Bool.{false, not}
 use mathlib.Core.List.{List}
 use mathlib.Core.Logic.{inl, inr}
-use Prim.Native.Nat.{ℕ, zero, suc, _+_, _-_, _*_, _/_, _%_, _<_, _^_}
-use native.Mathlib.Nat.{add-zero, add-suc, pow-succ', div-add-mod', mod-lt, mul-le-mul-right}
+use Prim.Native.Nat.{ℕ, zero, suc, _+_, _-_, _*_, _<_, _^_}
+use native.Mathlib.Nat.{add-zero, add-suc, pow-succ'}
 use native.Mathlib.Omega.{arith}
 use borrow.Author.Tests.{eq-eqb, ne-eqb, le-leb, lt-leb}
-use lib.Arith.{digits-div, digits-mod}
 use lib.Bits.{bitXor}
 use lib.Dec.{eqb, lit<}
 use lib.Pow.{pow-add, pow-pos}
 use lib.ListN.{length, getD}
-use Rattle.paper.specs.Rooms.{Point, point, Room, Inside, cellOf, childNo, inChild, childRoom, flip, markX, markY, markZ, mirror, mirrored, Same, NonEmpty, nonEmpty}
+use Rattle.paper.specs.Rooms.{Point, Room, Inside, cellOf, childNo, inChild, childRoom, mirror, mirrored, Same, NonEmpty, nonEmpty}
 use Rattle.paper.specs.Outline.{edge}
 use Rattle.paper.specs.Store.{Cell, cellsAt, tagOf, cellNo}
 use Rattle.paper.specs.Meaning.{pointerVoxel, cellVoxel}
 use Rattle.paper.specs.Questions.{taken, below, pointerTo}
 use Rattle.laws.proofs.Eight.{xor8-lt}
+use Rattle.laws.proofs.CellPlaces.{placeAt, mirror-place, childNo-place, inChild-place}
 use Rattle.laws.proofs.Mirrors.{mirror-inside, mirror-twice, mirrored-trans, childNo-lt, inChild-inside}
 use Rattle.laws.proofs.Matching.{tag-lt}
 use Rattle.laws.proofs.Occurring.{cell-down, cell-whole, same-cell}
 use Rattle.laws.proofs.Invariant.{OkPointer, Names, OkCells, names-lt, names-ne, pointer-none, pointer-at, pointer-solid, cell-child}
 use Rattle.laws.proofs.Adding.{Invs}
 use Rattle.laws.proofs.OutlineCells.{some-nonEmpty, nonEmpty-same, no-voxel-empty}
-
--- ---- voxel u of the cell of edge H at place c
-
-abbrev pub placeAt : ℕ → Point → Point → Point
-placeAt H c u = point (c .x * H + u .x) (c .y * H + u .y) (c .z * H + u .z)
-
--- on one axis: mirrored, and in the child of edge H * D
-flip-place : (b : Bool) (H M c u : ℕ) → c < M → u < H → flip b (H * M) (c * H + u) ≡ flip b M c * H + flip b H u
-flip-place false H M c u hc hu = refl
-flip-place true H M c u hc hu =
-    let m : ℕ = M - 1 - c in
-    let e : M ≡ c + suc m = omega arith in
-    let p : H * M ≡ c * H + m * H + H = ap (λ (n : ℕ). H * n) e ∙ omega arith in
-    omega arith
-
-place-parts : (H D c u : ℕ) → c * H + u ≡ c / D * (H * D) + (c % D * H + u)
-place-parts H D c u = ap (λ (n : ℕ). n * H + u) (sym (div-add-mod' c D)) ∙ spread H D (c / D) (c % D) u
-  where
-    spread : (H D q r u : ℕ) → (q * D + r) * H + u ≡ q * (H * D) + (r * H + u)
-    spread H D q r u = omega arith
-
-place-lt : (H D r u : ℕ) → r < D → u < H → r * H + u < H * D
-place-lt H D r u hr hu = omega (arith, mul-le-mul-right H hr)
-
-place-div : (H D c u : ℕ) → 0 < D → u < H → (c * H + u) / (H * D) ≡ c / D
-place-div H D c u hD hu =
-    ap (λ (n : ℕ). n / (H * D)) (place-parts H D c u) ∙ digits-div (c / D) (place-lt H D (c % D) u (mod-lt c hD) hu)
-
-place-mod : (H D c u : ℕ) → 0 < D → u < H → (c * H + u) % (H * D) ≡ c % D * H + u
-place-mod H D c u hD hu =
-    ap (λ (n : ℕ). n % (H * D)) (place-parts H D c u) ∙ digits-mod (c / D) (place-lt H D (c % D) u (mod-lt c hD) hu)
-
-mirror-place : (t H M : ℕ) (c u : Point) → Inside M c → Inside H u → mirror t (H * M) (placeAt H c u) ≡ placeAt H (mirror t M c) (mirror t H u)
-mirror-place t H M c u lc lu =
-    λ i. point (flip-place (markX t) H M (c .x) (u .x) (lc .inX) (lu .inX) i) (flip-place (markY t) H M (c .y) (u .y) (lc .inY) (lu .inY) i)
-    (flip-place (markZ t) H M (c .z) (u .z) (lc .inZ) (lu .inZ) i)
-
-childNo-place : (H D : ℕ) (c u : Point) → 0 < D → Inside H u → childNo (H * D) (placeAt H c u) ≡ childNo D c
-childNo-place H D c u hD lu =
-    λ i. place-div H D (c .x) (u .x) hD (lu .inX) i + 2 * place-div H D (c .y) (u .y) hD (lu .inY) i + 4 * place-div H D (c .z) (u .z) hD (lu .inZ) i
-
-inChild-place : (H D : ℕ) (c u : Point) → 0 < D → Inside H u → inChild (H * D) (placeAt H c u) ≡ placeAt H (inChild D c) u
-inChild-place H D c u hD lu =
-    λ i. point (place-mod H D (c .x) (u .x) hD (lu .inX) i) (place-mod H D (c .y) (u .y) hD (lu .inY) i) (place-mod H D (c .z) (u .z) hD (lu .inZ) i)
 
 -- ---- the way down
 

@@ -9,6 +9,7 @@ pub mod Eight
 pub mod Mirrors
 pub mod Leaves
 pub mod Trees
+pub mod CellPlaces
 -- outlines
 pub mod Orders
 pub mod OutlineCells
@@ -23,6 +24,9 @@ pub mod Padded
 pub mod Words
 pub mod Undamaged
 pub mod SoundWords
+-- walks
+pub mod Walking
+pub mod CellVoxels
 -- matching and adding
 pub mod Matching
 pub mod Invariant

@@ -1,125 +1,113 @@
--- The walk of a packed voxel question where records and pointers are sound: never broken, it ends at the graph's voxel and reads as many records as
--- the graph's path has cells. It goes by places, the graph by numbers; both read the same record. By induction on the height. Assumes nothing.
-use mathlib.Core.Path.{_≡_, refl, subst, ap}
+-- The walk of a packed voxel question where records and pointers are sound is the walk over the graph: it goes by places, the graph by numbers, and
+-- both read the same record. Since the two readings agree. Assumes nothing.
+use mathlib.Core.Path.{_≡_, refl, sym, subst, ap, _∙_}
 use mathlib.Core.Bool.{Bool, true, false, cond, _&&_}
 use mathlib.Core.List.{List, [], _∷_}
 use Prim.Native.Nat.{ℕ, zero, suc, _+_, _*_, _^_, _<_, _≤_}
 use native.Mathlib.Nat.{not-suc-le-zero}
 use native.Mathlib.Omega.{arith}
-use borrow.Author.Tests.{ne-eqb, eqb-false, lt-ltb}
-use lib.Dec.{T, eqb, ltb, eqb→eq}
+use borrow.Author.Tests.{ne-eqb, eqb-true, eqb-false, lt-ltb}
+use lib.Dec.{T, eqb, ltb, eqb→eq, leb→le}
 use lib.ListN.{length, getD, drop, List·getD-map}
 use Rattle.paper.specs.Numbers.{num, count, allIn, isIn, indexIn}
-use Rattle.paper.specs.Rooms.{Point, mirror, childNo, inChild}
-use Rattle.paper.specs.Outline.{edge, lengthOk}
-use Rattle.paper.specs.Store.{Cell, cellNo, tagOf, pointer, cellsAt, cellAt}
-use Rattle.paper.specs.Meaning.{pointerVoxel, cellVoxel}
-use Rattle.paper.specs.Questions.{taken, below, inBelow, entered}
-use Rattle.paper.specs.Packed.{packedHead, topOf, sizeAt, tailAt, listAt, headerAt, halves, Link, noLink, linksAt, recordOk, leafOk, codeFor, startsFrom, placesAt, byNumber, graphOf, sizesOk, topOk, wholeAt, linkOk, linksOk, listsOk, Step, Way, ended, after, unless, packedWay}
+use Rattle.paper.specs.Rooms.{Point, Inside, depthOk}
+use Rattle.paper.specs.Outline.{fileDepth, lengthOk}
+use Rattle.paper.specs.Store.{Cell, leafNo, pointer, cellAt}
+use Rattle.paper.specs.Walk.{absent, unless, none, wrong, to, walkIn, rootWalk}
+use Rattle.paper.specs.Questions.{childFor, graphReading}
+use Rattle.paper.specs.Packed.{packedHead, emptyMark, rootTag, isEmpty, topOf, sizeAt, tailAt, listAt, headerAt, halves, Link, noLink, linksAt, leafAt, recordOk, leafOk, codeFor, startsFrom, placesAt, byNumber, graphOf, sizesOk, topOk, wholeAt, linkOk, linksOk, listsOk, headOk, rootOf, linkTo, entryOk, fileReading, fileWalk}
 use Rattle.paper.specs.Runs.{Bytes}
-use Rattle.laws.proofs.Tests.{T-true, and-left, and-right, all-at}
+use Rattle.laws.proofs.Tests.{T-true, true-T, and-left, and-right, all-at}
 use Rattle.laws.proofs.Lists.{allIn-at, allIn-isIn}
 use Rattle.laws.proofs.Bytes.{bytes-drop}
 use Rattle.laws.proofs.Adding.{pointer-cell, pointer-tag}
+use Rattle.laws.proofs.Walking.{Mirrors, Seen, OneCell, SameChild, Agree, SameWalk, walks-same, seen-damaged, root-absent, root-seen}
+use Rattle.laws.proofs.CellVoxels.{tagTaken}
 use Rattle.laws.proofs.PackedLists.{num4-lt, Fits, links-fit, list-bytes, sizes-whole, tail-in, start-inside, start-small, link-some, record-cell, leaf-cell}
 
--- ---- how long a path is
+module _ (bs : List ℕ) (by : Bytes bs) where
+  -- ---- a pointer's tag is a mirror
 
-abbrev pub pathLength : List (List Cell) → ℕ → Cell → Point → ℕ
-pathLength K k c v = length (entered K k c v)
+  link-at : (k p i : ℕ) → Fits (getD (linksAt (listAt bs (suc k)) p) i noLink)
+  unfolding linksAt
+  link-at k p i =
+      let l : List ℕ = listAt bs (suc k) in
+      links-fit 8 (headerAt l p) (drop (2 * p + 2) l) (bytes-drop (2 * p + 2) l (list-bytes bs by (suc k))) i
 
-pub path-next : (K : List (List Cell)) (k : ℕ) (c : Cell) (v : Point)
-    → pathLength K (suc k) c v ≡ cond (eqb (taken k c v) 0) 1 (suc (pathLength K k (below K k (taken k c v)) (inBelow k (taken k c v) v)))
-unfolding entered
-path-next K k c v = go (eqb (taken k c v) 0)
-  where
-    on : List Cell
-    on = entered K k (below K k (taken k c v)) (inBelow k (taken k c v) v)
+  link-tag : (k : ℕ) (l : Link) → Fits l → (t q : ℕ) → linkTo bs k l ≡ to t q → t < 8
+  unfolding linkTo
+  link-tag k l f t q e = go (eqb (l .code) 0) (ltb (l .place) (sizeAt bs k)) (eqb (l .code) (codeFor (l .place))) refl e
+    where
+      go : (a b c : Bool) → eqb (l .code) (codeFor (l .place)) ≡ c → cond a none (cond (b && c) (to (l .tag) (l .place)) wrong) ≡ to t q → t < 8
+      go true b c w r = omega (arith, ap tagTaken r)
+      go false true true w r = omega (arith, ap tagTaken r, f (eqb-true (l .code) (codeFor (l .place)) w) .0)
+      go false true false w r = omega (arith, ap tagTaken r)
+      go false false c w r = omega (arith, ap tagTaken r)
 
-    go : (b : Bool) → length (cond b (c ∷ []) (c ∷ on)) ≡ cond b 1 (suc (length on))
-    go true = refl
-    go false = refl
-
--- ---- a walk that ends there, after n records
-
-pub record Right (w : Way) (solid : Bool) (n : ℕ) : Type 0 where
-  pub path : List Step
-  pub is : w ≡ ended solid path
-  pub long : length path ≡ n
-
-after-right : (s : Step) (w : Way) (b : Bool) (n : ℕ) → Right w b n → Right (after s w) b (suc n)
-after-right s w b n r = record { path = s ∷ r .path; is = ap (after s) (r .is); long = ap suc (r .long) }
+  pub file-mirrors : Mirrors (fileReading bs)
+  file-mirrors k p i t q e = link-tag k (getD (linksAt (listAt bs (suc k)) p) i noLink) (link-at k p i) t q e
 
 module _ (bs : List ℕ) (by : Bytes bs) (few : 8 * sizeAt bs 0 + 8 < 2 ^ 32) (whole : (k : ℕ) → k ≤ topOf bs → T (wholeAt bs k))
     (linked : (k : ℕ) → k < topOf bs → T (linksOk bs k)) where
   abbrev G : List (List Cell)
   G = graphOf bs
 
-  abbrev recordAt : ℕ → ℕ → Cell
-  recordAt k p = cellAt G k (indexIn p (placesAt bs k))
+  -- the record that starts at place p, by its number
+  pub record Record (k p n : ℕ) : Type 0 where
+    pub low : k ≤ topOf bs
+    pub starts : T (isIn p (placesAt bs k))
+    pub number : n ≡ indexIn p (placesAt bs k)
 
-  -- the walk from the start p of list k, under tag t
-  abbrev RightAt : ℕ → Type 0
-  RightAt k = (p t : ℕ) (v : Point) → T (isIn p (placesAt bs k))
-      → Right (packedWay bs k p t v) (cellVoxel G k (recordAt k p) (mirror t (edge k) v)) (pathLength G k (recordAt k p) (mirror t (edge k) v))
-
-  leaf-right : RightAt 0
-  unfolding packedWay cellVoxel entered wholeAt
-  leaf-right p t v h =
-      let o : T (leafOk (listAt bs 0) p) = allIn-isIn (leafOk (listAt bs 0)) (placesAt bs 0) p (whole 0 (omega arith)) h in
-      record { path = record { list = 0; place = p; tag = t } ∷ []; is = rw (leaf-cell bs p h, T-true {b = leafOk (listAt bs 0) p} o); long = refl }
-
-  -- from a pointer on, if the walk below is right
-  link-right : (k : ℕ) → k < topOf bs → RightAt k → (here : Step) (l : Link) → Fits l → T (linkOk (placesAt bs k) l) → (u : Point)
-      → Right (cond (eqb (l .code) 0) (ended false (here ∷ []))
-      (unless (ltb (l .place) (sizeAt bs k) && eqb (l .code) (codeFor (l .place))) (after here (packedWay bs k (l .place) (l .tag) u))))
-      (pointerVoxel (cellVoxel G k) (cellsAt G k) (edge k) (byNumber (placesAt bs k) l) u)
-      (cond (eqb (byNumber (placesAt bs k) l) 0) 1
-      (suc (pathLength G k (cellAt G k (cellNo (byNumber (placesAt bs k) l))) (mirror (tagOf (byNumber (placesAt bs k) l)) (edge k) u))))
-  unfolding linkOk
-  link-right k h ih here l f t u = go (eqb (l .code) 0) refl t
+  link-same : (k : ℕ) → k ≤ topOf bs → (l : Link) → Fits l → T (linkOk (placesAt bs k) l) → SameChild (Record k) (linkTo bs k l) (childFor (byNumber (placesAt bs k) l))
+  unfolding linkOk linkTo
+  link-same k h l f t = go (eqb (l .code) 0) refl t
     where
       ps : List ℕ
       ps = placesAt bs k
 
       go : (b : Bool) → eqb (l .code) 0 ≡ b → T (cond b true (isIn (l .place) ps && eqb (l .code) (codeFor (l .place))))
-          → Right (cond b (ended false (here ∷ []))
-          (unless (ltb (l .place) (sizeAt bs k) && eqb (l .code) (codeFor (l .place))) (after here (packedWay bs k (l .place) (l .tag) u))))
-          (pointerVoxel (cellVoxel G k) (cellsAt G k) (edge k) (byNumber ps l) u)
-          (cond (eqb (byNumber ps l) 0) 1 (suc (pathLength G k (cellAt G k (cellNo (byNumber ps l))) (mirror (tagOf (byNumber ps l)) (edge k) u))))
-      go true e s = rw e (record { path = here ∷ []; is = refl; long = refl })
+          → SameChild (Record k) (cond b none (cond (ltb (l .place) (sizeAt bs k) && eqb (l .code) (codeFor (l .place))) (to (l .tag) (l .place)) wrong)) (childFor (byNumber ps l))
+      go true e s = rw e tt
       go false e s =
           let i : T (isIn (l .place) ps) = search and-left in
           let w : T (eqb (l .code) (codeFor (l .place))) = search (and-left, and-right) in
           let fit : (l .tag < 8) × (l .place < 2 ^ 29) = f (eqb→eq (l .code) (codeFor (l .place)) w) in
           let n : ℕ = indexIn (l .place) ps in
-          let small : suc n < 2 ^ 29 = start-small bs by whole few k (l .place) (omega arith) i (fit .1) in
+          let small : suc n < 2 ^ 29 = start-small bs by whole few k (l .place) h i (fit .1) in
           rw (
             link-some ps l (eqb-false (l .code) 0 e),
             ne-eqb (pointer (l .tag) n) 0 (λ q. omega arith),
             pointer-cell (l .tag) n small,
             pointer-tag (l .tag) n (fit .0) small,
-            lt-ltb (l .place) (sizeAt bs k) (start-inside bs by whole k (l .place) (omega arith) i),
+            lt-ltb (l .place) (sizeAt bs k) (start-inside bs by whole k (l .place) h i),
             T-true {b = eqb (l .code) (codeFor (l .place))} w,
-          ) (after-right here (packedWay bs k (l .place) (l .tag) u) _ _ (ih (l .place) (l .tag) u i))
+          ) (refl, record { low = h; starts = i; number = refl })
 
-  inner-right : (k : ℕ) → k < topOf bs → RightAt k → RightAt (suc k)
-  unfolding packedWay cellVoxel wholeAt linksOk linksAt linkOk
-  inner-right k h ih p t v m =
-      let ps : List ℕ = placesAt bs (suc k) in
+  file-oks : (k p n : ℕ) → Record k p n → entryOk bs k p ≡ true
+  unfolding wholeAt
+  file-oks zero p n r = T-true {b = leafOk (listAt bs 0) p} (allIn-isIn (leafOk (listAt bs 0)) (placesAt bs 0) p (whole 0 (r .low)) (r .starts))
+  file-oks (suc k) p n r =
       let l : List ℕ = listAt bs (suc k) in
-      let w : Point = mirror t (edge (suc k)) v in
-      let i : ℕ = childNo (edge k) w in
-      let o : T (recordOk l p) = allIn-isIn (recordOk l) ps p (whole (suc k) h) m in
-      let os : T (allIn (linkOk (placesAt bs k)) (linksAt l p)) = allIn-isIn (λ q. allIn (linkOk (placesAt bs k)) (linksAt l q)) ps p (linked k h) m in
-      rw (path-next G k (recordAt (suc k) p) w, record-cell bs k p h m, T-true {b = recordOk l p} o, List·getD-map (byNumber (placesAt bs k)) (linksAt l p) i noLink)
-      (link-right k h ih (record { list = suc k; place = p; tag = t }) (getD (linksAt l p) i noLink)
-      (links-fit 8 (headerAt l p) (drop (2 * p + 2) l) (bytes-drop (2 * p + 2) l (list-bytes bs by (suc k))) i)
-      (allIn-at (linkOk (placesAt bs k)) noLink tt (linksAt l p) os i) (inChild (edge k) w))
+      T-true {b = recordOk l p} (allIn-isIn (recordOk l) (placesAt bs (suc k)) p (whole (suc k) (r .low)) (r .starts))
 
-  pub walk-right : (k : ℕ) → k ≤ topOf bs → RightAt k
-  walk-right zero h = leaf-right
-  walk-right (suc k) h = inner-right k h (walk-right k (omega arith))
+  file-leaves : (p n : ℕ) → Record 0 p n → leafNo (leafAt (listAt bs 0) p) ≡ leafNo (cellAt G 0 n)
+  file-leaves p n r = ap leafNo (sym (ap (cellAt G 0) (r .number) ∙ leaf-cell bs p (r .starts)))
+
+  file-children : (k p n i : ℕ) → Record (suc k) p n
+      → SameChild (Record k) (linkTo bs k (getD (linksAt (listAt bs (suc k)) p) i noLink)) (childFor (getD (cellAt G (suc k) n) i 0))
+  unfolding linksOk linkOk
+  file-children k p n i r =
+      let l : List ℕ = listAt bs (suc k) in
+      let ps : List ℕ = placesAt bs (suc k) in
+      let os : T (allIn (linkOk (placesAt bs k)) (linksAt l p)) = allIn-isIn (λ q. allIn (linkOk (placesAt bs k)) (linksAt l q)) ps p (linked k (r .low)) (r .starts) in
+      let is : getD (cellAt G (suc k) n) i 0 ≡ byNumber (placesAt bs k) (getD (linksAt l p) i noLink) =
+      ap (λ (c : Cell). getD c i 0) (ap (cellAt G (suc k)) (r .number) ∙ record-cell bs k p (r .low) (r .starts)) ∙ List·getD-map (byNumber (placesAt bs k)) (linksAt l p) i noLink in
+      subst (λ (q : ℕ). SameChild (Record k) (linkTo bs k (getD (linksAt l p) i noLink)) (childFor q)) (sym is)
+      (link-same k (omega (arith, r .low)) (getD (linksAt l p) i noLink) (link-at bs by k p i) (allIn-at (linkOk (placesAt bs k)) noLink tt (linksAt l p) os i))
+
+  -- records by place and cells of the graph by number
+  pub file-agrees : Agree (fileReading bs) (graphReading G) Record
+  file-agrees = record { oks = file-oks; leaves = file-leaves; children = file-children }
 
 -- ---- from the root
 
@@ -180,12 +168,42 @@ module _ (bs : List ℕ) (by : Bytes bs) (long : T (lengthOk packedHead bs)) (p 
       let one : length (placesAt bs (topOf bs)) ≡ 1 = eqb→eq (length (placesAt bs (topOf bs))) 1 (p .top) in
       first bs (topOf bs) (omega arith)
 
-  pub root-right : (t : ℕ) (v : Point)
-      → Right (packedWay bs (topOf bs) 0 t v) (cellVoxel (graphOf bs) (topOf bs) (cellAt (graphOf bs) (topOf bs) 0) (mirror t (edge (topOf bs)) v))
-      (pathLength (graphOf bs) (topOf bs) (cellAt (graphOf bs) (topOf bs) 0) (mirror t (edge (topOf bs)) v))
-  root-right t v =
-      let k : ℕ = topOf bs in
-      let w : Point = mirror t (edge k) v in
-      let f : First (placesAt bs k) = root-first in
-      subst (λ (n : ℕ). Right (packedWay bs k 0 t v) (cellVoxel (graphOf bs) k (cellAt (graphOf bs) k n) w) (pathLength (graphOf bs) k (cellAt (graphOf bs) k n) w)) (f .number)
-      (walk-right bs by few-leaves (p .whole) (p .linked) k (omega arith) 0 t v (f .there))
+  pub top-same : (t : ℕ) (v : Point) → SameWalk (walkIn (fileReading bs) (topOf bs) 0 t v) (walkIn (graphReading (graphOf bs)) (topOf bs) 0 t v)
+  top-same t v =
+      let f : First (placesAt bs (topOf bs)) = root-first in
+      walks-same (fileReading bs) (graphReading (graphOf bs)) (Record bs by few-leaves (p .whole) (p .linked)) (file-agrees bs by few-leaves (p .whole) (p .linked)) (topOf bs) 0 0 t v
+      (record { low = omega arith; starts = f .there; number = sym (f .number) })
+
+-- ---- a packed voxel question on any bytes
+
+-- the root's mirror
+root-tag : (bs : List ℕ) → T (headOk bs) → (t p : ℕ) → rootOf bs ≡ to t p → t < 8
+unfolding headOk
+root-tag bs h t p e = go (isEmpty bs) refl e
+  where
+    most : rootTag bs ≤ emptyMark
+    most = leb→le (rootTag bs) emptyMark (search and-left)
+
+    go : (b : Bool) → isEmpty bs ≡ b → cond b none (to (rootTag bs) 0) ≡ to t p → t < 8
+    go true q f = omega (arith, ap tagTaken f)
+    go false q f = let other : ¬ (rootTag bs ≡ emptyMark) = eqb-false (rootTag bs) emptyMark q in omega (arith, most, other, ap tagTaken f)
+
+module _ (bs : List ℕ) (deep : T (depthOk (fileDepth bs))) where
+  -- the voxels of an absent child have one walk
+  pub file-absent : (v w : Point) (h : ℕ) → Inside (2 ^ fileDepth bs) v → fileWalk bs v .end ≡ absent h → OneCell h v w → fileWalk bs w ≡ fileWalk bs v
+  unfolding fileWalk
+  file-absent v w h l e s = go (headOk bs) e
+    where
+      go : (b : Bool) → unless b (rootWalk (fileReading bs) (fileDepth bs) (rootOf bs) v) .end ≡ absent h
+          → unless b (rootWalk (fileReading bs) (fileDepth bs) (rootOf bs) w) ≡ unless b (rootWalk (fileReading bs) (fileDepth bs) (rootOf bs) v)
+      go true f = root-absent (fileReading bs) (fileDepth bs) deep (rootOf bs) v w h l f s
+      go false f = refl
+
+  -- in a leaf it is at the voxel mirrored once, by the mirror in force
+  pub file-seen : Bytes bs → (v : Point) → Inside (2 ^ fileDepth bs) v → Seen v (fileWalk bs v)
+  unfolding fileWalk
+  file-seen by v l = go (headOk bs) refl
+    where
+      go : (b : Bool) → headOk bs ≡ b → Seen v (unless b (rootWalk (fileReading bs) (fileDepth bs) (rootOf bs) v))
+      go true h = root-seen (fileReading bs) (fileDepth bs) deep (file-mirrors bs by) (rootOf bs) (root-tag bs (true-T h)) v l
+      go false h = seen-damaged v

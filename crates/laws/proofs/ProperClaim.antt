@@ -1,6 +1,6 @@
 -- Proper files, for claim C7: check answers 0 exactly on proper files; on one the packed voxel refuses no point inside, gives the voxel of the file's
 -- room, and counts the records of its path. By the tests of the two orders, and by the walk on sound lists. Assumes nothing.
-use mathlib.Core.Path.{_≡_, refl, sym, _∙_, subst, ap, ap₂}
+use mathlib.Core.Path.{_≡_, refl, sym, _∙_, ap, ap₂}
 use mathlib.Core.Bool.{Bool, true, false, false≢true, cond, not, _&&_}
 use mathlib.Core.List.{List, [], _∷_}
 use Prim.Native.Nat.{ℕ, _-_, _^_, _≤_}
@@ -13,7 +13,9 @@ use Rattle.paper.specs.Rooms.{Point, Inside, depthOk, mirror}
 use Rattle.paper.specs.Outline.{fileDepth, frontOk, lengthOk}
 use Rattle.paper.specs.Store.{Cell, cellAt}
 use Rattle.paper.specs.Meaning.{cellVoxel}
-use Rattle.paper.specs.Packed.{packedFront, packedHead, rootTag, isEmpty, topOf, graphOf, sizesOk, listsOk, graphOk, rootOk, headOk, packedRules, proper, packedRoom, packedPath, ended, solid, records, packedWay, wayIn}
+use Rattle.paper.specs.Walk.{none, to, isDamaged, solidAt, rootWalk}
+use Rattle.paper.specs.Questions.{graphReading}
+use Rattle.paper.specs.Packed.{packedFront, packedHead, rootTag, isEmpty, topOf, graphOf, sizesOk, listsOk, graphOk, rootOk, headOk, packedRules, proper, packedRoom, packedPath, rootOf, fileReading, fileWalk}
 use Rattle.paper.specs.Answers.{told, outcome}
 use Rattle.paper.specs.Order.{when, firstOf}
 use Rattle.paper.specs.Calls.{cleared, checkOrder, checkOutcome, packedOutside, packedBroken, packedVoxelOrder, packedValues, packedVoxelOutcome}
@@ -21,7 +23,9 @@ use Rattle.paper.specs.Runs.{Bytes}
 use Rattle.laws.proofs.Tests.{T-true, true-T, and-left, and-right}
 use Rattle.laws.proofs.Outlines.{depth-two}
 use Rattle.laws.proofs.Refusals.{settled-accepted, settled-number}
-use Rattle.laws.proofs.PackedWalk.{pathLength, Right, lists-of, root-right}
+use Rattle.laws.proofs.Walking.{SameWalk, same-length}
+use Rattle.laws.proofs.CellVoxels.{graph-voxel, graph-sound}
+use Rattle.laws.proofs.PackedWalk.{lists-of, top-same}
 
 -- ---- check
 
@@ -92,27 +96,44 @@ pub head-sizes : (bs : List ℕ) → T (headOk bs) → T (cond (isEmpty bs) true
 unfolding headOk
 head-sizes bs t = and-right (rootOk bs) (cond (isEmpty bs) true (sizesOk bs)) t
 
--- the walk from the root of a proper file
-pub proper-way : (bs : List ℕ) → Bytes bs → Proper bs → (v : Point) → Right (wayIn bs v) (packedRoom bs v) (packedPath bs v)
-unfolding wayIn packedRoom packedPath
-proper-way bs by p v = rw (T-true {b = headOk bs} (p .head)) (go (isEmpty bs) (p .rules) (head-sizes bs (p .head)))
+-- the walk from the root of a proper file is the walk over its graph
+pub proper-walk : (bs : List ℕ) → Bytes bs → Proper bs → (v : Point) → SameWalk (fileWalk bs v) (rootWalk (graphReading (graphOf bs)) (fileDepth bs) (rootOf bs) v)
+unfolding fileWalk
+proper-walk bs by p v = rw (T-true {b = headOk bs} (p .head)) (go (isEmpty bs) (p .rules) (head-sizes bs (p .head)))
   where
-    u : Point
-    u = mirror (rootTag bs) (2 ^ fileDepth bs) v
+    k : ℕ
+    k = topOf bs
+
+    go : (b : Bool) → T (cond b true (listsOk bs && graphOk k (rootTag bs) (graphOf bs))) → T (cond b true (sizesOk bs))
+        → SameWalk (rootWalk (fileReading bs) (fileDepth bs) (cond b none (to (rootTag bs) 0)) v) (rootWalk (graphReading (graphOf bs)) (fileDepth bs) (cond b none (to (rootTag bs) 0)) v)
+    go true s z = record { ends = refl; tags = refl }
+    go false s z = top-same bs by (p .long) (lists-of bs z (and-left (listsOk bs) (graphOk k (rootTag bs) (graphOf bs)) s)) (rootTag bs) v
+
+-- so it isn't damaged, and ends at the voxel of the room that the file means
+pub proper-sound : (bs : List ℕ) → Bytes bs → Proper bs → (v : Point) → isDamaged (fileWalk bs v .end) ≡ false
+proper-sound bs by p v = ap isDamaged (proper-walk bs by p v .ends) ∙ go (isEmpty bs)
+  where
+    go : (b : Bool) → isDamaged (rootWalk (graphReading (graphOf bs)) (fileDepth bs) (cond b none (to (rootTag bs) 0)) v .end) ≡ false
+    go true = refl
+    go false = graph-sound (graphOf bs) (topOf bs) 0 (rootTag bs) v
+
+pub proper-means : (bs : List ℕ) → Bytes bs → Proper bs → (v : Point) → solidAt (fileWalk bs v .end) ≡ packedRoom bs v
+unfolding packedRoom
+proper-means bs by p v = ap solidAt (proper-walk bs by p v .ends) ∙ go (isEmpty bs)
+  where
+    G : List (List Cell)
+    G = graphOf bs
 
     k : ℕ
     k = topOf bs
 
-    top : Cell
-    top = cellAt (graphOf bs) k 0
+    go : (b : Bool) → solidAt (rootWalk (graphReading G) (fileDepth bs) (cond b none (to (rootTag bs) 0)) v .end) ≡ cond b false (cellVoxel G k (cellAt G k 0) (mirror (rootTag bs) (2 ^ fileDepth bs) v))
+    go true = refl
+    go false = graph-voxel G k 0 (rootTag bs) v ∙ ap (λ (h : ℕ). cellVoxel G k (cellAt G k 0) (mirror (rootTag bs) (2 ^ h) v)) (depth-two (fileDepth bs) (p .deep))
 
-    go : (b : Bool) → T (cond b true (listsOk bs && graphOk k (rootTag bs) (graphOf bs))) → T (cond b true (sizesOk bs))
-        → Right (cond b (ended false []) (packedWay bs k 0 (rootTag bs) v)) (cond b false (cellVoxel (graphOf bs) k top u)) (cond b 0 (pathLength (graphOf bs) k top u))
-    go true s z = record { path = []; is = refl; long = refl }
-    go false s z =
-        subst (λ (h : ℕ). Right (packedWay bs k 0 (rootTag bs) v) (cellVoxel (graphOf bs) k top (mirror (rootTag bs) (2 ^ h) v)) (pathLength (graphOf bs) k top (mirror (rootTag bs) (2 ^ h) v)))
-        (depth-two (fileDepth bs) (p .deep))
-        (root-right bs by (p .long) (lists-of bs z (and-left (listsOk bs) (graphOk k (rootTag bs) (graphOf bs)) s)) (rootTag bs) v)
+pub proper-path : (bs : List ℕ) → Bytes bs → Proper bs → (v : Point) → length (fileWalk bs v .path) ≡ packedPath bs v
+unfolding packedPath
+proper-path bs by p v = same-length (fileWalk bs v) _ (proper-walk bs by p v)
 
 -- at every point inside
 pub proper-voxel : (bs : List ℕ) (v : Point) → Bytes bs → proper bs ≡ true → Inside (2 ^ fileDepth bs) v
@@ -120,7 +141,6 @@ pub proper-voxel : (bs : List ℕ) (v : Point) → Bytes bs → proper bs ≡ tr
 unfolding packedVoxelOutcome packedOutside packedBroken firstOf
 proper-voxel bs v by e l =
     let p : Proper bs = proper-passes bs (true-T e) in
-    let w : Right (wayIn bs v) (packedRoom bs v) (packedPath bs v) = proper-way bs by p v in
     let none : firstOf (packedVoxelOrder bs v) ≡ 0 =
     rw (
       T-true {b = frontOk packedFront bs} (p .front),
@@ -129,7 +149,7 @@ proper-voxel bs v by e l =
       lt-ltb (v .x) (2 ^ fileDepth bs) (l .inX),
       lt-ltb (v .y) (2 ^ fileDepth bs) (l .inY),
       lt-ltb (v .z) (2 ^ fileDepth bs) (l .inZ),
-      w .is,
+      proper-sound bs by p v,
     ) in
     settled-accepted (firstOf (packedVoxelOrder bs v)) (packedValues bs v) [] [] none
-    ∙ ap₂ (λ (b : Bool) (n : ℕ). outcome (told 0 (bitFor b ∷ n ∷ [])) []) (ap solid (w .is)) (ap records (w .is) ∙ w .long)
+    ∙ ap₂ (λ (b : Bool) (n : ℕ). outcome (told 0 (bitFor b ∷ n ∷ [])) []) (proper-means bs by p v) (proper-path bs by p v)

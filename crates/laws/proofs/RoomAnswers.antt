@@ -15,7 +15,8 @@ use Rattle.paper.specs.Rooms.{Point, point, Room, Inside, inside, depthOk, cell
 use Rattle.paper.specs.Outline.{edge, longest, outlineOf, fileDepth, fileRoom}
 use Rattle.paper.specs.Store.{Cell, cellsAt, keptOf, sceneDepth, sceneRoot, storeOk}
 use Rattle.paper.specs.Meaning.{rootRoom, pointerVoxel, cellVoxel}
-use Rattle.paper.specs.Questions.{corner, pointerTo, cellFull}
+use Rattle.paper.specs.Walk.{Walk, solidAt}
+use Rattle.paper.specs.Questions.{voxelWalk, corner, pointerTo, cellFull}
 use Rattle.paper.specs.Answers.{told, outcome}
 use Rattle.paper.specs.Order.{firstOf}
 use Rattle.paper.specs.Calls.{over, questionOrder, voxelOutside, voxelDamaged, voxelOutcome, cellOutside, cellDamaged, cellOutcome, axisOutside, boxOutside, boxDamaged, boxOutcome, outlineBytes, outlineShort, outlineOutOrder, outlineOutcome}
@@ -30,7 +31,9 @@ use Rattle.laws.proofs.Refusals.{settled-accepted, question-accepted}
 use Rattle.laws.proofs.Boxes.{box-same}
 use Rattle.laws.proofs.Holding.{Holds, HeldAt, header-ok, scene-ok, below-there, root-room}
 use Rattle.laws.proofs.NoDamage.{voxel-undamaged, cell-undamaged, box-undamaged}
-use Rattle.laws.proofs.CellWalk.{placeAt, Ends, leads, ends-full}
+use Rattle.laws.proofs.CellVoxels.{voxel-means}
+use Rattle.laws.proofs.CellPlaces.{placeAt}
+use Rattle.laws.proofs.CellWalk.{Ends, leads, ends-full}
 
 -- ---- tests passed
 
@@ -87,12 +90,14 @@ module _ {ws : List ℕ} {held : Held} (s : Holds ws held) (n : ℕ) {sc : Scene
 
   -- (d) the voxel
   pub voxel-answer : (v : Point) → Inside (2 ^ sc .depth) v → voxelOutcome ws n v ≡ outcome (told 0 (bitFor (sc .room v) ∷ [])) []
-  unfolding voxelOutcome voxelOutside
+  unfolding voxelOutcome voxelOutside voxelDamaged
   voxel-answer v l =
       let m : Inside (2 ^ sceneDepth ws n) v = subst (λ (d : ℕ). Inside (2 ^ d) v) depth-is l in
-      settled-accepted (firstOf (questionOrder ws n (voxelOutside ws n v) (voxelDamaged ws n v))) (bitFor (R v) ∷ []) [] []
-      (question-0 (voxelOutside ws n v) (voxelDamaged ws n v) (ap not (inside-passes (2 ^ sceneDepth ws n) v m)) (voxel-undamaged s n v (below-there s n (a .below))))
-      ∙ ap (λ (b : Bool). outcome (told 0 (bitFor b ∷ [])) []) (room-is v m)
+      let W : Walk = voxelWalk (keptOf ws) (sceneDepth ws n) (sceneRoot ws n) v in
+      let sound : voxelDamaged ws n v ≡ false = voxel-undamaged s n v (below-there s n (a .below)) in
+      settled-accepted (firstOf (questionOrder ws n (voxelOutside ws n v) (voxelDamaged ws n v))) (bitFor (solidAt (W .end)) ∷ []) [] []
+      (question-0 (voxelOutside ws n v) (voxelDamaged ws n v) (ap not (inside-passes (2 ^ sceneDepth ws n) v m)) sound)
+      ∙ ap (λ (b : Bool). outcome (told 0 (bitFor b ∷ [])) []) (voxel-means (keptOf ws) (sceneDepth ws n) (sceneRoot ws n) deep v sound ∙ room-is v m)
 
   -- the cell of height h at c
   pub cell-answer : (h : ℕ) (c : Point) → h ≤ sc .depth → Inside (2 ^ (sc .depth - h)) c

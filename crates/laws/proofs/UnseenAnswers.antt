@@ -12,7 +12,8 @@ use Rattle.paper.specs.Rooms.{Point, depthOk, inside}
 use Rattle.paper.specs.Outline.{longest, outlineOf}
 use Rattle.paper.specs.Store.{Cell, used, capacityOf, scenesHeld, keptCount, headerOk, sceneOk, storeOk}
 use Rattle.paper.specs.Meaning.{rootRoom}
-use Rattle.paper.specs.Questions.{voxelSolid, voxelWay, cellFull, cellWay, boxSolid, boxWay}
+use Rattle.paper.specs.Walk.{isDamaged, solidAt}
+use Rattle.paper.specs.Questions.{voxelWalk, cellFull, cellWay, boxSolid, boxWay}
 use Rattle.paper.specs.Pack.{packedFile}
 use Rattle.paper.specs.Answers.{Outcome}
 use Rattle.paper.specs.Order.{when, firstOf, settled}
@@ -94,7 +95,7 @@ module _ (f r : List ℕ) (whole : used (capacityOf f) ≤ length f) where
 
   pub voxel-unseen : (n : ℕ) (v : Point) → voxelOutcome (f ++ r) n v ≡ voxelOutcome f n v
   unfolding voxelOutcome voxelOutside voxelDamaged
-  voxel-unseen n v = question-unseen n (λ K D p. not (inside (2 ^ D) v)) (λ K D p. voxelWay K D p v) (λ K D p. bitFor (voxelSolid K D p v))
+  voxel-unseen n v = question-unseen n (λ K D p. not (inside (2 ^ D) v)) (λ K D p. isDamaged (voxelWalk K D p v .end)) (λ K D p. bitFor (solidAt (voxelWalk K D p v .end)))
 
   pub cell-unseen : (n h : ℕ) (c : Point) → cellOutcome (f ++ r) n h c ≡ cellOutcome f n h c
   unfolding cellOutcome cellOutside cellDamaged

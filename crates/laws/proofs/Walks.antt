@@ -1,7 +1,7 @@
 -- On lists as they should be no walk meets a bad pointer, whatever the voxel: every pointer of a kept cell is none or names a kept cell, so what is
 -- entered is kept. By induction on the height. Assumes nothing.
-use mathlib.Core.Path.{_≡_, refl, ap}
-use mathlib.Core.Bool.{Bool, true, false, cond}
+use mathlib.Core.Path.{_≡_, refl, ap, subst, _∙_}
+use mathlib.Core.Bool.{Bool, true, false, cond, not}
 use mathlib.Core.List.{List}
 use mathlib.Core.Logic.{inl, inr}
 use Prim.Native.Nat.{ℕ, zero, suc, _-_, _<_, _^_}
@@ -11,12 +11,15 @@ use borrow.Author.Tests.{eqb-false}
 use lib.Dec.{eqb, leb, ltb}
 use lib.ListN.{length, getD, List·getD-eq-default}
 use Rattle.paper.specs.Rooms.{Point}
-use Rattle.paper.specs.Store.{Cell, cellsAt, cellAt, cellNo, badPointer, anyBad}
-use Rattle.paper.specs.Questions.{taken, below, inBelow, wayDamaged, takenBad, fromRoot, voxelWay, cellWay, boxWay}
+use Rattle.paper.specs.Store.{Cell, cellsAt, cellAt, tagOf, cellNo, badPointer, anyBad}
+use Rattle.paper.specs.Walk.{isDamaged, none, to, rootWalk}
+use Rattle.paper.specs.Questions.{childFor, graphReading, keptReading, voxelWalk, taken, below, inBelow, wayDamaged, takenBad, fromRoot, cellWay, boxWay}
 use Rattle.laws.proofs.Invariant.{Names, OkPointer, names-lt, ok-not-bad}
 use Rattle.laws.proofs.Adding.{Invs}
 use Rattle.laws.proofs.Filled.{none-bad}
 use Rattle.laws.proofs.Boxes.{box-clear as count-clear}
+use Rattle.laws.proofs.Walking.{SameChild, Agree, walks-same}
+use Rattle.laws.proofs.CellVoxels.{graph-sound}
 
 -- ---- cells as a walk enters them
 
@@ -30,9 +33,9 @@ named {n} {p} (inl e) h = absurd (eqb-false p 0 h e)
 named (inr m) h = m
 
 -- no bad pointer here, and no damage behind a pointer that is not none
-quiet : (stop bad none rest : Bool) → bad ≡ false → (none ≡ false → rest ≡ false) → cond stop false (cond bad true (cond none false rest)) ≡ false
-quiet true bad none rest b r = refl
-quiet false true none rest b r = b
+quiet : (stop bad gone rest : Bool) → bad ≡ false → (gone ≡ false → rest ≡ false) → cond stop false (cond bad true (cond gone false rest)) ≡ false
+quiet true bad gone rest b r = refl
+quiet false true gone rest b r = b
 quiet false false true rest b r = refl
 quiet false false false rest b r = r refl
 
@@ -44,6 +47,29 @@ module _ (K : List (List Cell)) (I : Invs K) where
       go : (i : ℕ) → Dec (i < 8) → OkPointer (length (cellsAt K k)) (getD (cellAt K (suc k) q) i 0)
       go i (yes l) = I (suc k) .ok q h i l
       go i (no n) = inl (List·getD-eq-default (cellAt K (suc k) q) 0 {n = i} (omega (arith, I (suc k) .shape q h .0)))
+
+  -- the same kept cell, for a walk with tests and one without
+  abbrev One : ℕ → ℕ → ℕ → Type 0
+  One k p q = (p ≡ q) × (p < length (cellsAt K k))
+
+  one-child : (k p : ℕ) → OkPointer (length (cellsAt K k)) p → SameChild (One k) (childFor p) (childFor p)
+  one-child k p ok = go (eqb p 0) refl
+    where
+      go : (b : Bool) → eqb p 0 ≡ b → SameChild (One k) (cond b none (to (tagOf p) (cellNo p))) (cond b none (to (tagOf p) (cellNo p)))
+      go true e = tt
+      go false e = (refl, (refl, names-lt (named ok e)))
+
+  kept-agrees : Agree (keptReading K) (graphReading K) One
+  kept-agrees = record {
+    oks = oks;
+    leaves = λ p q s. ap (λ (n : ℕ). graphReading K .leaf n) (s .0);
+    children = λ k p q i s.
+        subst (λ (n : ℕ). SameChild (One k) (keptReading K .child k p i) (graphReading K .child k n i)) (s .0) (one-child k (getD (cellAt K (suc k) p) i 0) (kept-sure (suc k) p (s .1) i));
+  }
+    where
+      oks : (k p q : ℕ) → One k p q → keptReading K .ok k p ≡ true
+      oks zero p q s = refl
+      oks (suc k) p q s = ap not (none-bad (length (cellsAt K k)) (cellAt K (suc k) p) (λ i h. kept-sure (suc k) p (s .1) i))
 
   way-clear : (stop k : ℕ) (c : Cell) (v : Point) → Sure K k c → wayDamaged K stop k c v ≡ false
   unfolding wayDamaged
@@ -70,8 +96,15 @@ module _ (K : List (List Cell)) (I : Invs K) where
         quiet false false (eqb p 0) (way (D - 2) (below K (D - 2) p) _) refl
         (λ e. clear (below K (D - 2) p) _ (kept-sure (D - 2) (cellNo p) (names-lt (named ok e))))
 
-    pub voxel-clear : (v : Point) → voxelWay K D p v ≡ false
-    voxel-clear v = root-clear (wayDamaged K 0) (way-clear 0 (D - 2)) v
+    pub voxel-clear : (v : Point) → isDamaged (voxelWalk K D p v .end) ≡ false
+    unfolding voxelWalk
+    voxel-clear v = go (eqb p 0) refl
+      where
+        go : (b : Bool) → eqb p 0 ≡ b → isDamaged (rootWalk (keptReading K) D (cond b none (to (tagOf p) (cellNo p))) v .end) ≡ false
+        go true e = refl
+        go false e =
+            ap isDamaged (walks-same (keptReading K) (graphReading K) One kept-agrees (D - 2) (cellNo p) (cellNo p) (tagOf p) v (refl, names-lt (named ok e)) .ends)
+            ∙ graph-sound K (D - 2) (cellNo p) (tagOf p) v
 
     pub cell-clear : (h : ℕ) (c : Point) → cellWay K D p h c ≡ false
     cell-clear h c = root-clear (wayDamaged K (h - 2)) (way-clear (h - 2) (D - 2)) _
