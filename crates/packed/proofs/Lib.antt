@@ -4,5 +4,3 @@ pub mod Header
 pub mod Records
 pub mod CodeSums
 pub mod Steps
-pub mod Lists
-pub mod Ways
