@@ -4,3 +4,5 @@ pub mod Header
 pub mod Records
 pub mod CodeSums
 pub mod Steps
+pub mod Lists
+pub mod Ways

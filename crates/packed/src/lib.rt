@@ -335,16 +335,16 @@ fn in_leaf(leaves: &[u8], place: u32, mirror: u32, read: u32) -> Ended
 pub fn walk(
     inner: &[u8],
     leaves: &[u8],
-    starts: &[u32; 15],
+    starts: [u32; 15],
     top: u32,
     mirror: u32,
     x: u32,
     y: u32,
     z: u32,
 ) -> Ended
-    requires { ⌜ Parts (now inner) (now leaves) (now starts) top ⌝ }
+    requires { ⌜ Parts (now inner) (now leaves) starts top ⌝ }
     requires { ⌜ mirror < 8 ⌝ }
-    ensures { λ r. ⌜ ending (point x y z) r ≡ endingOf (partsWalk (now (inner .entry)) (now (leaves .entry)) (now (starts .entry)) top mirror (point x y z)) ⌝ }
+    ensures { λ r. ⌜ ending (point x y z) r ≡ endingOf (partsWalk (now (inner .entry)) (now (leaves .entry)) starts top mirror (point x y z)) ⌝ }
 {
     let mut k = top;
     let mut start = starts[k as usize] as usize;
@@ -395,9 +395,9 @@ fn answer(end: Ended, x: u32, y: u32, z: u32) -> Found
 }
 
 // The walk to a point inside a file whose lists start here; an empty scene reads nothing.
-fn found_in(file: &[u8], starts: &[u32; 15], x: u32, y: u32, z: u32) -> Found
+fn found_in(file: &[u8], starts: [u32; 15], x: u32, y: u32, z: u32) -> Found
     requires { ⌜ Opens (now file) ⌝ }
-    requires { ⌜ now starts ≡ startsOf (now file) ⌝ }
+    requires { ⌜ starts ≡ startsOf (now file) ⌝ }
     requires { ⌜ packedOutside (now file) (point x y z) ≡ false ⌝ }
     ensures { λ r. ⌜ r ≡ foundAt (endingOf (fileWalk (now (file .entry)) (point x y z))) ⌝ }
 {
@@ -431,14 +431,14 @@ pub fn packed_voxel(file: &[u8], x: u32, y: u32, z: u32) -> Found
     if lists_bad(file, &mut starts) {
         return Found::Refused(Refusal::BrokenRules);
     }
-    found_in(file, &starts, x, y, z)
+    found_in(file, starts, x, y, z)
 }
 
 // The same for a file whose header is tested and whose lists start here: refused by 10, 6.
-pub fn voxel_in(file: &[u8], starts: &[u32; 15], x: u32, y: u32, z: u32) -> Found
+pub fn voxel_in(file: &[u8], starts: [u32; 15], x: u32, y: u32, z: u32) -> Found
     requires { ⌜ Opens (now file) ⌝ }
     requires { ⌜ (frontOk packedFront (now file) ≡ true) × (lengthOk packedHead (now file) ≡ true) ⌝ }
-    requires { ⌜ now starts ≡ startsOf (now file) ⌝ }
+    requires { ⌜ starts ≡ startsOf (now file) ⌝ }
     ensures { λ r. ⌜ outcome (found r) [] ≡ packedVoxelOutcome (now (file .entry)) (point x y z) ⌝ }
 {
     if point_outside(file, x, y, z) {

@@ -1,0 +1,98 @@
+-- The ways through a packed voxel question, in the code's words: refused by its first bytes, by 10, by 6, and the walk's end.
+-- Each by the value of the tests of `packedVoxelOrder`, at which the outcome computes. Assumes nothing.
+use mathlib.Core.Path.{_≡_, refl, sym, _∙_, ap, ap₂, subst}
+use mathlib.Core.Bool.{Bool, true, false}
+use mathlib.Core.List.{List, [], _∷_}
+use Prim.Native.Nat.{ℕ, _^_, _<_}
+use lib.Dec.{eqb, leb, leb→le, eqb→eq}
+use lib.ListN.{length, drop}
+use Rattle.paper.specs.Numbers.{bitFor, num}
+use Rattle.paper.specs.Rooms.{Point, least, deepest}
+use Rattle.paper.specs.Outline.{fileDepth}
+use Rattle.paper.specs.Leaf.{leafVoxel}
+use Rattle.paper.specs.Walk.{End, damaged, absent, inLeaf, isDamaged, solidAt}
+use Rattle.paper.specs.Packed.{packedFront, packedHead, headOk, fileWalk}
+use Rattle.paper.specs.Answers.{Outcome, told, outcome, numberOf, found}
+use Rattle.paper.specs.Order.{Test, when, firstOf, settled}
+use Rattle.paper.specs.Calls.{packedOutside, packedBroken, packedVoxelOrder, packedValues, packedVoxelOutcome}
+use Rattle.paper.specs.Runs.{Bytes}
+use Rattle.paper.specs.declared.Refusal.{Refusal}
+use Rattle.paper.specs.declared.Refusal.the-variants.{BrokenRules, Outside}
+use Rattle.paper.specs.declared.Found.{Found}
+use Rattle.paper.specs.declared.Found.the-variants.{Refused}
+use Rattle.laws.proofs.Tests.{true-T, and-left, and-right}
+use Rattle.laws.proofs.Bytes.{bytes-drop}
+use Rattle.laws.proofs.PackedLists.{num4-lt}
+use Rattle.laws.proofs.Refusals.{settled-refused}
+use Rattle.outline.specs.Heads.{headNumber}
+use Rattle.outline.proofs.HeadTests.{Headed, head-stops, head-goes-on}
+use Rattle.packed.specs.Header.{Tested}
+use Rattle.packed.specs.Walk.{solidOr, foundBy, endingOf, foundAt}
+
+-- ---- what the first three tests say
+
+pub tested : (bs : List ℕ) → Bytes bs → Headed packedFront packedHead bs → Tested bs
+tested bs h ok =
+    let a : Bool = leb packedHead (length bs) in
+    let b : Bool = eqb (num 4 (drop 1 bs)) (length bs) in
+    let f : num 4 (drop 1 bs) ≡ length bs = eqb→eq (num 4 (drop 1 bs)) (length bs) (and-right a b (true-T (ok .length-ok))) in
+    let low : Bool = leb least (fileDepth bs) in
+    let high : Bool = leb (fileDepth bs) deepest in
+    record {
+      long = leb→le packedHead (length bs) (and-left a b (true-T (ok .length-ok)));
+      short = subst (λ (n : ℕ). n < 2 ^ 32) f (num4-lt (drop 1 bs) (bytes-drop 1 bs h));
+      deep = leb→le least (fileDepth bs) (and-left low high (true-T (ok .depth-ok)));
+      flat = leb→le (fileDepth bs) deepest (and-right low high (true-T (ok .depth-ok)));
+    }
+
+-- ---- the outcome by the tests: outside; broken
+
+abbrev by-tests : ℕ → ℕ → Bool → Bool → Outcome
+by-tests s n o w = settled (firstOf (when o (numberOf Outside) ∷ when w (numberOf BrokenRules) ∷ [])) (s ∷ n ∷ []) [] []
+
+end-found : (e : End) (n : ℕ) → outcome (found (foundBy e n)) [] ≡ by-tests (bitFor (solidAt e)) n false (isDamaged e)
+unfolding firstOf settled
+end-found damaged n = refl
+end-found (absent h) n = refl
+end-found (inLeaf b u) n = go (leafVoxel b u)
+  where
+    go : (t : Bool) → outcome (found (solidOr t n)) [] ≡ by-tests (bitFor t) n false false
+    go true = refl
+    go false = refl
+
+module _ (bs : List ℕ) (v : Point) where
+  -- the tests after those of the first bytes
+  abbrev later : List Test
+  later = when (packedOutside bs v) 10 ∷ when (packedBroken bs v) 6 ∷ []
+
+  pub bad-bytes : (r : Refusal) (n : ℕ) → numberOf r ≡ n → n ≡ headNumber packedFront packedHead bs → (n ≡ 0 → ⊥) → outcome (found (Refused r)) [] ≡ packedVoxelOutcome bs v
+  unfolding packedVoxelOutcome
+  bad-bytes r n e f ne =
+      let stops : firstOf (packedVoxelOrder bs v) ≡ headNumber packedFront packedHead bs = head-stops packedFront packedHead bs later (λ z. ne (f ∙ z)) in
+      ap (λ (m : ℕ). outcome (told m (0 ∷ 0 ∷ [])) []) (e ∙ f ∙ sym stops)
+      ∙ sym (settled-refused (firstOf (packedVoxelOrder bs v)) (packedValues bs v) [] [] (λ z. ne (f ∙ sym stops ∙ z)))
+
+  module _ (h : Headed packedFront packedHead bs) where
+    abbrev solid : ℕ
+    solid = bitFor (solidAt (fileWalk bs v .end))
+
+    abbrev records : ℕ
+    records = length (fileWalk bs v .path)
+
+    rest : (o w : Bool) → packedOutside bs v ≡ o → packedBroken bs v ≡ w → by-tests solid records o w ≡ packedVoxelOutcome bs v
+    unfolding packedVoxelOutcome
+    rest o w eo ew =
+        ap₂ (by-tests solid records) (sym eo) (sym ew)
+        ∙ ap (λ (n : ℕ). settled n (packedValues bs v) [] []) (sym (head-goes-on packedFront packedHead bs later h))
+
+    pub far-out : packedOutside bs v ≡ true → outcome (found (Refused Outside)) [] ≡ packedVoxelOutcome bs v
+    unfolding firstOf settled
+    far-out o = rest true (packedBroken bs v) o refl
+
+    pub bad-head : packedOutside bs v ≡ false → headOk bs ≡ false → outcome (found (Refused BrokenRules)) [] ≡ packedVoxelOutcome bs v
+    unfolding firstOf settled packedBroken fileWalk
+    bad-head o e = rest false true o (rw e refl)
+
+    pub walked : packedOutside bs v ≡ false → (r : Found) → r ≡ foundAt (endingOf (fileWalk bs v)) → outcome (found r) [] ≡ packedVoxelOutcome bs v
+    unfolding packedBroken
+    walked o r e = ap (λ (x : Found). outcome (found x) []) e ∙ end-found (fileWalk bs v .end) records ∙ rest false (isDamaged (fileWalk bs v .end)) o refl
