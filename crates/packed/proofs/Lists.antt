@@ -166,7 +166,7 @@ inside-top bs deep v out =
     subst (λ (n : ℕ). Inside (2 ^ n) v) e i
 
 -- byte 6 of a file that is not empty is a mirror
-root-small : (bs : List ℕ) → T (rootOk bs) → (rootTag bs ≡ emptyMark → ⊥) → rootTag bs < 8
+pub root-small : (bs : List ℕ) → T (rootOk bs) → (rootTag bs ≡ emptyMark → ⊥) → rootTag bs < 8
 root-small bs t n =
     let l : rootTag bs ≤ 8 = leb→le (rootTag bs) emptyMark (and-left (leb (rootTag bs) emptyMark) (cond (isEmpty bs) (eqb (length bs) 7) true) t) in
     omega (arith, l, n)
