@@ -153,26 +153,30 @@ module _ (file : List ℕ) where
 
   -- ---- bytes that don't open to numbers
 
-  module _ (h : Header) (D : ℕ) (starts : List ℕ) (e : toldBy h ≡ openTold file) where
-    opens-by : eqb (h .number) 0 && sameList (h .depth ∷ h .starts) (D ∷ starts) ≡ opensTo file D starts
+  module _ (D : ℕ) (starts : List ℕ) where
+    pub not-open : (firstOf (openOrder file) ≡ 0 → ⊥) → opensTo file D starts ≡ false
+    not-open n = go (opensTo file D starts) refl
+      where
+        go : (b : Bool) → opensTo file D starts ≡ b → b ≡ false
+        go true e = absurd (n (opens-number file starts D e))
+        go false e = refl
+
+    opens-same : firstOf (openOrder file) ≡ 0 → opensTo file D starts ≡ sameList (fileDepth file ∷ startsOf file) (D ∷ starts)
     unfolding opensTo
-    opens-by = ap (λ (t : Told). eqb (t .number) 0 && sameList (t .values) (D ∷ starts)) e
+    opens-same e = ap (λ (o : Outcome). eqb (o .number) 0 && sameList (o .values) (D ∷ starts)) (accepted-is e)
 
-    pub number-bad : (h .number ≡ 0 → ⊥) → true ≡ not (opensTo file D starts)
-    number-bad n = ap not (ap (λ (b : Bool). b && sameList (h .depth ∷ h .starts) (D ∷ starts)) (sym (ne-eqb (h .number) 0 n)) ∙ opens-by)
+    pub other-depth : (fileDepth file ≡ D → ⊥) → opensTo file D starts ≡ false
+    unfolding sameList
+    other-depth n = go (opensTo file D starts) refl
+      where
+        go : (b : Bool) → opensTo file D starts ≡ b → b ≡ false
+        go true e =
+            sym e ∙ opens-same (opens-number file starts D e) ∙ ap (λ (b : Bool). cond b (sameList (startsOf file) starts) false) (ne-eqb (fileDepth file) D n)
+        go false e = refl
 
-    module _ (z : h .number ≡ 0) where
-      pub depth-differs : (h .depth ≡ D → ⊥) → true ≡ not (opensTo file D starts)
-      unfolding sameList
-      depth-differs n =
-          ap₂ (λ (a b : Bool). not (a && cond b (sameList (h .starts) starts) false)) (sym (eq-eqb (h .number) 0 z)) (sym (ne-eqb (h .depth) D n))
-          ∙ ap not opens-by
-
-      pub starts-decide : h .depth ≡ D → not (sameList (h .starts) starts) ≡ not (opensTo file D starts)
-      unfolding sameList
-      starts-decide d =
-          ap₂ (λ (a b : Bool). not (a && cond b (sameList (h .starts) starts) false)) (sym (eq-eqb (h .number) 0 z)) (sym (eq-eqb (h .depth) D d))
-          ∙ ap not opens-by
+    pub starts-decide : firstOf (openOrder file) ≡ 0 → fileDepth file ≡ D → opensTo file D starts ≡ sameList (startsOf file) starts
+    unfolding sameList
+    starts-decide e d = opens-same e ∙ ap (λ (b : Bool). cond b (sameList (startsOf file) starts) false) (eq-eqb (fileDepth file) D d)
 
   -- 'A question on an opened scene: 6 (its bytes don't open to its numbers)'
   pub ask-refused : (D : ℕ) (starts : List ℕ) (v : Point) → opensTo file D starts ≡ false → outcome (found (Refused BrokenRules)) [] ≡ askOutcome file D starts v

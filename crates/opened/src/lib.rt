@@ -7,7 +7,7 @@ ghost use Rattle.paper.specs.Numbers.{sameList};
 ghost use Rattle.paper.specs.Rooms.{point};
 ghost use Rattle.paper.specs.Order.{firstOf};
 ghost use Rattle.paper.specs.Answers.{outcome, found};
-ghost use Rattle.paper.specs.Calls.{openOrder, openOutcome, opensTo};
+ghost use Rattle.paper.specs.Calls.{openOrder, openOutcome};
 ghost use Rattle.paper.specs.Promises.{OpenPromise, AskPromise};
 ghost use Rattle.opened.specs.Opens.{toldBy, openTold, partOf, askedOf};
 use limits::PACKED_FRONT;
@@ -15,7 +15,9 @@ use limits::PACKED_HEAD;
 use outline::depth;
 use outline::head_number;
 use packed::head_bad;
+use packed::lists_bad;
 use packed::starts;
+use packed::voxel_in;
 use paper::Found;
 use paper::Opened;
 use paper::Opening;
@@ -87,29 +89,25 @@ fn differ(a: [u32; 15], b: [u32; 15]) -> bool
     found
 }
 
-// Whether bytes don't open to these numbers.
-pub fn opens_bad(bytes: &[u8], depth: u32, starts: [u32; 15]) -> bool
-    ensures { λ r. ⌜ r ≡ not (opensTo (now (bytes .entry)) depth starts) ⌝ }
-{
-    let header = read_header(bytes);
-    if header.number != 0 {
-        return true;
-    }
-    if header.depth != depth {
-        return true;
-    }
-    let begins = header.starts;
-    differ(begins, starts)
-}
-
-// A question on bytes held beside numbers: 6 where they don't open to them, then as packed voxel.
+// A question on bytes held beside numbers: 6 where they don't open to them, then as packed voxel. The sizes are read once, for
+// the test and the walk.
 pub fn ask_bytes(bytes: &[u8], depth: u32, starts: [u32; 15], x: u32, y: u32, z: u32) -> Found
     ensures { λ r. ⌜ AskPromise (now (bytes .entry)) depth starts (point x y z) r ⌝ }
 {
-    if opens_bad(bytes, depth, starts) {
+    if head_number(bytes, PACKED_FRONT, PACKED_HEAD) != 0 {
         return Found::Refused(Refusal::BrokenRules);
     }
-    packed::voxel_in(bytes, x, y, z)
+    if outline::depth(bytes) != depth {
+        return Found::Refused(Refusal::BrokenRules);
+    }
+    let mut begins = [0u32; 15];
+    if lists_bad(bytes, &mut begins) {
+        return Found::Refused(Refusal::BrokenRules);
+    }
+    if differ(begins, starts) {
+        return Found::Refused(Refusal::BrokenRules);
+    }
+    voxel_in(bytes, begins, x, y, z)
 }
 
 // ---- over the structs that hold a slice

@@ -1,53 +1,106 @@
--- The header's tests and the sizes, one law for each way through the code: what each test says of the file, and that the lists end the file.
--- By cases of the tests, and by adding one list at a time. Assumes nothing.
-use mathlib.Core.Path.{_≡_, refl, sym, _∙_, ap, ap₂}
+-- The header's tests and the list starts, one law for each way through the code: what each test says of the file, and that the starts counted from
+-- the top down are those of the file where its sizes add up. By cases of the tests, and by adding one list at a time. Assumes nothing.
+use mathlib.Core.Path.{_≡_, refl, sym, _∙_, ap, subst}
 use mathlib.Core.Bool.{Bool, true, false, not, cond}
 use mathlib.Core.List.{List}
-use Prim.Native.Nat.{ℕ, zero, suc, _+_, _-_, _*_, _≤_, _<_}
-use native.Mathlib.Nat.{zero-add}
-use native.Mathlib.Decide.{decLt}
-use native.Mathlib.Numerals.{add-one}
+use Prim.Native.Nat.{ℕ, zero, suc, _+_, _-_, _*_, _%_, _≤_, _<_, _^_}
+use native.Mathlib.Nat.{zero-add, not-suc-le-zero, mod-eq-of-lt}
+use native.Mathlib.Decide.{ℕ-discrete}
 use native.Mathlib.Omega.{arith}
-use borrow.Author.Tests.{lt-ltb, le-ltb, le-leb, lt-leb, eq-eqb, ne-eqb, eqb-true, eqb-false}
-use lib.Dec.{T, eqb, leb, ltb, eqb·suc-zero}
-use lib.ListN.{length, getD, set, replicate}
+use borrow.Author.Tests.{le-leb, lt-leb, ne-eqb, leb-true, leb-false}
+use lib.Dec.{T, eqb, leb}
+use lib.ListN.{length, drop, getD, set, replicate, length-set}
 use lib.Seq.{getD-set-same, getD-set-other, ext-getD}
-use Rattle.paper.specs.Numbers.{tabulate}
+use Rattle.paper.specs.Numbers.{num, tabulate}
 use Rattle.paper.specs.Rooms.{least}
 use Rattle.paper.specs.Outline.{fileDepth}
 use Rattle.paper.specs.Store.{heights}
 use Rattle.paper.specs.Packed.{packedHead, emptyMark, rootTag, isEmpty, topOf, sizeAt, tailAt, startAt, sizesOk, rootOk, headOk, startsOf}
 use Rattle.laws.proofs.Tests.{and-true, and-right}
 use Rattle.laws.proofs.Lists.{getD-tabulate, length-tabulate, zeros-at}
-use Rattle.laws.proofs.PackedLists.{Whole, sizes-whole, tail-in}
-use Rattle.packed.specs.Header.{frontOf, shareAt, lastLists}
-use Rattle.packed.proofs.Reading.{ltb-suc}
+use Rattle.laws.proofs.PackedLists.{Whole, sizes-whole, tail-grows}
+use Rattle.packed.specs.Header.{frontOf, fromTop, laidStarts}
 
--- ---- the sizes
+pub less-one : (j : ℕ) → suc j - 1 ≡ j
+less-one j = omega arith
 
-pub share-leaves : (bs : List ℕ) (k n : ℕ) → k ≡ 0 → n ≡ sizeAt bs k → 8 * n ≡ shareAt bs k
-share-leaves bs k n e h = rw (eq-eqb k 0 e, h) refl
-
-pub share-inner : (bs : List ℕ) (k n : ℕ) → (k ≡ 0 → ⊥) → n ≡ sizeAt bs k → 2 * n ≡ shareAt bs k
-share-inner bs k n e h = rw (ne-eqb k 0 e, h) refl
-
-pub lists-none : (bs : List ℕ) → 0 ≡ lastLists bs 0
-unfolding lastLists
-lists-none bs = refl
-
-pub lists-more : (bs : List ℕ) (k n r : ℕ) → n ≡ lastLists bs k → r ≡ shareAt bs k → n + r ≡ lastLists bs (k + 1)
-unfolding lastLists
-lists-more bs k n r e f = rw (add-one k) (ap₂ _+_ e f)
-
--- list k and all that follow it
-pub lists-tail : (bs : List ℕ) (k : ℕ) → lastLists bs (suc k) ≡ tailAt bs k
-unfolding lastLists tailAt
-lists-tail bs zero = omega arith
-lists-tail bs (suc k) = rw (eqb·suc-zero k) (omega (arith, lists-tail bs k))
+-- ---- the starts, from the top down
 
 -- the list count
 pub lists-count : (bs : List ℕ) → least ≤ fileDepth bs → fileDepth bs - 1 ≡ suc (topOf bs)
 lists-count bs h = omega arith
+
+module _ (bs : List ℕ) where
+  pub from-top : fromTop bs (topOf bs) ≡ frontOf bs
+  from-top = omega arith
+
+  from-down : (k : ℕ) → suc k ≤ topOf bs → fromTop bs (suc k) + 2 * sizeAt bs (suc k) ≡ fromTop bs k
+  unfolding tailAt
+  from-down k h = omega (arith, tail-grows bs (suc k) (topOf bs) h)
+
+  -- the list below starts where this one ends
+  pub from-next : (k : ℕ) → 0 < k → k ≤ topOf bs → fromTop bs k + 2 * sizeAt bs k ≡ fromTop bs (k - 1)
+  from-next zero l h = absurd (not-suc-le-zero l)
+  from-next (suc k) l h = rw (less-one k) (from-down k h)
+
+  pub from-leaves : fromTop bs 0 + 8 * sizeAt bs 0 ≡ frontOf bs + tailAt bs (topOf bs)
+  unfolding tailAt
+  from-leaves = omega (arith, tail-grows bs 0 (topOf bs) (omega arith))
+
+  -- where the sizes add up
+  pub from-start : Whole bs → (k : ℕ) → k ≤ topOf bs → fromTop bs k ≡ startAt bs k
+  from-start sum k h = omega (arith, sum, tail-grows bs k (topOf bs) h)
+
+  -- the size at a position
+  pub size-read : (k at : ℕ) → at ≡ packedHead + 4 * (topOf bs - k) → num 4 (drop at bs) ≡ sizeAt bs k
+  unfolding sizeAt
+  size-read k at e = ap (λ (n : ℕ). num 4 (drop n bs)) e
+
+-- the starts of lists k up to the top are written, and nothing above
+pub record Laid (bs out : List ℕ) (k : ℕ) : Type 0 where
+  pub many : length out ≡ heights
+  pub here : (j : ℕ) → k ≤ j → j ≤ topOf bs → getD out j 0 ≡ fromTop bs j % 2 ^ 32
+  pub above : (j : ℕ) → topOf bs < j → getD out j 0 ≡ 0
+
+abbrev pub noStarts : List ℕ
+noStarts = replicate heights 0
+
+module _ (bs : List ℕ) where
+  pub laid-first : (out : List ℕ) (k s : ℕ) → out ≡ noStarts → k ≡ topOf bs → topOf bs < heights → s ≡ fromTop bs k → Laid bs (set out k (s % 2 ^ 32)) k
+  laid-first out k s e t h f = record {
+    many = length-set out k (s % 2 ^ 32) ∙ ap length e;
+    here = λ j l m. ap (λ (n : ℕ). getD (set out k (s % 2 ^ 32)) n 0) (omega arith) ∙ getD-set-same out k (s % 2 ^ 32) 0 (subst (λ (l : List ℕ). k < length l) (sym e) (omega arith)) ∙ ap (λ (n : ℕ). n % 2 ^ 32) (f ∙ ap (fromTop bs) (omega arith));
+    above = λ j l. getD-set-other out k j (s % 2 ^ 32) 0 (λ q. omega arith) ∙ ap (λ (l : List ℕ). getD l j 0) e ∙ zeros-at heights j;
+  }
+
+  pub laid-more : (out : List ℕ) (k s : ℕ) → 0 < k → k ≤ topOf bs → topOf bs < heights → s ≡ fromTop bs (k - 1) → Laid bs out k → Laid bs (set out (k - 1) (s % 2 ^ 32)) (k - 1)
+  laid-more out k s p h m f l = record {
+    many = length-set out (k - 1) (s % 2 ^ 32) ∙ l .many;
+    here = λ j a b. go j b (ℕ-discrete j (k - 1)) a;
+    above = λ j a. getD-set-other out (k - 1) j (s % 2 ^ 32) 0 (λ q. omega arith) ∙ l .above j a;
+  }
+    where
+      go : (j : ℕ) → j ≤ topOf bs → Dec (j ≡ k - 1) → k - 1 ≤ j → getD (set out (k - 1) (s % 2 ^ 32)) j 0 ≡ fromTop bs j % 2 ^ 32
+      go j b (yes q) a =
+          ap (λ (n : ℕ). getD (set out (k - 1) (s % 2 ^ 32)) n 0) q ∙ getD-set-same out (k - 1) (s % 2 ^ 32) 0 (omega (arith, l .many)) ∙ ap (λ (n : ℕ). n % 2 ^ 32) (f ∙ ap (fromTop bs) (sym q))
+      go j b (no q) a = getD-set-other out (k - 1) j (s % 2 ^ 32) 0 q ∙ l .here j (omega (arith, q, a, p)) b
+
+  -- a table of the starts
+  abbrev pub startFor : (ℕ → ℕ) → ℕ → ℕ
+  startFor f k = cond (leb k (topOf bs)) (f k) 0
+
+  pub tabled : (out : List ℕ) (f : ℕ → ℕ) → length out ≡ heights → ((i : ℕ) → i < heights → getD out i 0 ≡ startFor f i) → out ≡ tabulate 0 heights (startFor f)
+  tabled out f l e =
+      ext-getD 0 out (tabulate 0 heights (startFor f)) (l ∙ sym (length-tabulate heights 0 (startFor f)))
+      (λ i h. e i (omega arith) ∙ sym (getD-tabulate heights 0 i (startFor f) 0 (omega arith) ∙ ap (startFor f) (zero-add i)))
+
+  pub laid-all : (out : List ℕ) → Laid bs out 0 → out ≡ laidStarts bs
+  unfolding laidStarts
+  laid-all out l = tabled out (λ k. fromTop bs k % 2 ^ 32) (l .many) (λ i m. go i (leb i (topOf bs)) refl)
+    where
+      go : (i : ℕ) (b : Bool) → leb i (topOf bs) ≡ b → getD out i 0 ≡ cond b (fromTop bs i % 2 ^ 32) 0
+      go i true e = l .here i (omega arith) (leb-true i (topOf bs) e)
+      go i false e = l .above i (leb-false i (topOf bs) e)
 
 -- ---- byte 6 and the sizes: the ways through `head_bad`
 
@@ -71,11 +124,9 @@ module _ (bs : List ℕ) where
       let never : frontOf bs + tailAt bs (topOf bs) ≡ length bs → ⊥ = λ e. omega arith in
       ap not (sym (head-sizes n h ∙ ne-eqb (frontOf bs + tailAt bs (topOf bs)) (length bs) never))
 
-  pub head-sum : (rootTag bs ≡ emptyMark → ⊥) → rootTag bs ≤ emptyMark
-      → not (eqb (frontOf bs + lastLists bs (suc (topOf bs))) (length bs)) ≡ not (headOk bs)
+  pub head-sum : (rootTag bs ≡ emptyMark → ⊥) → rootTag bs ≤ emptyMark → not (eqb (frontOf bs + tailAt bs (topOf bs)) (length bs)) ≡ not (headOk bs)
   unfolding sizesOk
-  head-sum n h =
-      ap (λ (t : ℕ). not (eqb (frontOf bs + t) (length bs))) (lists-tail bs (topOf bs)) ∙ ap not (sym (head-sizes n h))
+  head-sum n h = ap not (sym (head-sizes n h))
 
 -- ---- the lists in the file
 
@@ -84,57 +135,23 @@ pub sizes-sum : (bs : List ℕ) → T (headOk bs) → (rootTag bs ≡ emptyMark 
 unfolding headOk
 sizes-sum bs t n = sizes-whole bs (rw (ne-eqb (rootTag bs) emptyMark n) at (and-right (rootOk bs) (cond (isEmpty bs) true (sizesOk bs)) t))
 
-module _ (bs : List ℕ) (sum : Whole bs) where
-  -- one list more, from the end of the file: where it starts
-  pub start-more : (k e : ℕ) → k ≤ topOf bs → e + lastLists bs k ≡ length bs → e - shareAt bs k ≡ startAt bs k
-  unfolding lastLists
-  start-more k e h p = omega (arith, lists-tail bs k, tail-in bs sum k h)
-
-  pub share-in : (k e : ℕ) → k ≤ topOf bs → e + lastLists bs k ≡ length bs → shareAt bs k ≤ e
-  unfolding lastLists
-  share-in k e h p = omega (arith, lists-tail bs k, tail-in bs sum k h)
-
-  pub rest-more : (k e : ℕ) → k ≤ topOf bs → e + lastLists bs k ≡ length bs → (e - shareAt bs k) + lastLists bs (k + 1) ≡ length bs
-  unfolding lastLists
-  rest-more k e h p = rw (add-one k) (omega (arith, share-in k e h p))
-
--- the starts of the first n lists, 0 beyond
-abbrev pub startsTo : List ℕ → ℕ → ℕ → ℕ
-startsTo bs n j = cond (ltb j n) (startAt bs j) 0
-
-abbrev pub noStarts : List ℕ
-noStarts = replicate heights 0
-
-pub starts-none : (bs : List ℕ) (j : ℕ) → getD noStarts j 0 ≡ startsTo bs 0 j
-starts-none bs j = rw (le-ltb j 0 (omega arith)) (zeros-at heights j)
-
-pub starts-more : (bs out : List ℕ) (k : ℕ) → k < length out → ((j : ℕ) → getD out j 0 ≡ startsTo bs k j) → (j : ℕ)
-    → getD (set out k (startAt bs k)) j 0 ≡ startsTo bs (k + 1) j
-starts-more bs out k h e j = go (eqb j k) refl
-  where
-    same : (j ≡ k → ⊥) → Dec (j < k) → ltb j k ≡ ltb j (k + 1)
-    same n (yes l) = lt-ltb j k l ∙ sym (lt-ltb j (k + 1) (omega arith))
-    same n (no m) = le-ltb j k (omega arith) ∙ sym (le-ltb j (k + 1) (omega (arith, n)))
-
-    go : (b : Bool) → eqb j k ≡ b → getD (set out k (startAt bs k)) j 0 ≡ startsTo bs (k + 1) j
-    go true p = rw (eqb-true j k p, lt-ltb k (k + 1) (omega arith)) (getD-set-same out k (startAt bs k) 0 h)
-    go false p =
-        let n : j ≡ k → ⊥ = eqb-false j k p in
-        getD-set-other out k j (startAt bs k) 0 n ∙ e j ∙ ap (λ (b : Bool). cond b (startAt bs j) 0) (same n (decLt j k))
-
-pub starts-all : (bs out : List ℕ) → least ≤ fileDepth bs → (rootTag bs ≡ emptyMark → ⊥) → length out ≡ heights
-    → ((j : ℕ) → getD out j 0 ≡ startsTo bs (suc (topOf bs)) j) → out ≡ startsOf bs
-unfolding startsOf
-starts-all bs out d n l e = rw (ne-eqb (rootTag bs) emptyMark n) (ext-getD 0 out table (l ∙ sym (length-tabulate heights 0 f)) at-each)
+-- of a file that opens and is not empty, they are where opening says
+pub laid-starts : (bs : List ℕ) → T (headOk bs) → (rootTag bs ≡ emptyMark → ⊥) → topOf bs < heights → length bs < 2 ^ 32 → laidStarts bs ≡ startsOf bs
+unfolding laidStarts startsOf
+laid-starts bs t n low short = rw (ne-eqb (rootTag bs) emptyMark n)
+    (tabled bs (tabulate 0 heights (startFor bs f)) (startAt bs) (length-tabulate heights 0 (startFor bs f)) at-each)
   where
     f : ℕ → ℕ
-    f k = cond (leb k (topOf bs)) (startAt bs k) 0
+    f k = fromTop bs k % 2 ^ 32
 
-    table : List ℕ
-    table = tabulate 0 heights f
+    same : (i : ℕ) (b : Bool) → leb i (topOf bs) ≡ b → cond b (f i) 0 ≡ cond b (startAt bs i) 0
+    same i true e =
+        let is : fromTop bs i ≡ startAt bs i = from-start bs (sizes-sum bs t n) i (leb-true i (topOf bs) e) in
+        mod-eq-of-lt (omega (arith, is)) ∙ is
+    same i false e = refl
 
-    at-each : (i : ℕ) → i < length out → getD out i 0 ≡ getD table i 0
-    at-each i h = e i ∙ ap (λ (b : Bool). cond b (startAt bs i) 0) (ltb-suc i (topOf bs)) ∙ sym (getD-tabulate heights 0 i f 0 (omega arith) ∙ ap f (zero-add i))
+    at-each : (i : ℕ) → i < heights → getD (tabulate 0 heights (startFor bs f)) i 0 ≡ startFor bs (startAt bs) i
+    at-each i l = getD-tabulate heights 0 i (startFor bs f) 0 l ∙ ap (startFor bs f) (zero-add i) ∙ same i (leb i (topOf bs)) refl
 
 pub starts-empty : (bs : List ℕ) → rootTag bs ≡ emptyMark → noStarts ≡ startsOf bs
 unfolding startsOf

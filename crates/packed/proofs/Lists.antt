@@ -1,64 +1,153 @@
--- The lists of a file that opens, as code cuts them: the walk over them, by numbers, is the paper's walk over the file.
--- By where the lists start, counted from the end of the file, and by induction on the list. Assumes nothing.
+-- The lists of a file that opens, as code cuts them: the walk over them is the paper's walk over the file; a pointer past its list leads to what fails its
+-- test. By where the lists start, and by induction on the list. Assumes nothing.
 use mathlib.Core.Path.{_≡_, refl, sym, _∙_, ap, ap₂, subst}
 use mathlib.Core.Bool.{Bool, true, false, cond, _&&_}
-use mathlib.Core.List.{List, [], _∷_}
+use mathlib.Core.List.{List, []}
 use Prim.Native.Nat.{ℕ, zero, suc, _+_, _-_, _*_, _%_, _^_, _<_, _≤_}
 use native.Mathlib.Nat.{mod-eq-of-lt, not-suc-le-zero}
-use native.Mathlib.Numerals.{one-add}
 use native.Mathlib.Omega.{arith}
-use borrow.Author.Tests.{ne-eqb, eq-eqb, not-false}
+use borrow.Author.Tests.{ne-eqb, eq-eqb, le-leb, lt-ltb, ltb-false, not-true, not-false}
 use lib.Dec.{T, eqb, leb, ltb, leb→le, ltb→lt}
 use lib.ListN.{length, take, drop, getD, length-drop}
 use lib.Seq.{take-all}
 use Rattle.paper.specs.Rooms.{Point, point, Inside, mirror, childNo, inChild, least}
 use Rattle.paper.specs.Outline.{edge, fileDepth}
-use Rattle.paper.specs.Leaf.{leafVoxel}
-use Rattle.paper.specs.Store.{leafNo}
-use Rattle.paper.specs.Packed.{emptyMark, rootTag, isEmpty, topOf, sizeAt, tailAt, startAt, listAt, headOk, rootOk, sizesOk, Link, noLink, linksAt, leafAt, recordOk, leafOk, Step, Way, broken, ended, after, unless, packedWay, wayIn}
+use Rattle.paper.specs.Store.{heights, leafNo}
+use Rattle.paper.specs.Walk.{absent, Walk, damagedWalk, unless, after, onward, Child, none, wrong, to, Step, walkIn}
+use Rattle.paper.specs.Packed.{emptyMark, rootTag, isEmpty, topOf, sizeAt, tailAt, startAt, listAt, headOk, rootOk, sizesOk, Link, noLink, linksAt, leafAt, recordOk, leafOk, codeFor, startsOf, linkTo, fileReading, fileWalk}
 use Rattle.paper.specs.Calls.{packedOutside}
 use Rattle.laws.proofs.Tests.{T-true, true-T, and-left, and-right}
-use Rattle.laws.proofs.PackedLists.{Whole, tail-in, leaves-length}
-use Rattle.packed.specs.declared.Reached.the-variants.{Solid, Empty}
+use Rattle.laws.proofs.Lists.{getD-tabulate}
+use Rattle.laws.proofs.PackedLists.{Whole, tail-in, tail-grows, leaves-length, inner-length}
 use Rattle.packed.specs.Header.{frontOf}
-use Rattle.packed.specs.Records.{takenOk}
-use Rattle.packed.specs.Walk.{reached, plus, if-ok, leafEnd, wayAt}
-use Rattle.points.specs.Seeing.{seenAt}
-use Rattle.packed.proofs.Steps.{less-one}
+use Rattle.packed.specs.Records.{childTo}
+use Rattle.packed.specs.Walk.{Parts, listIn, entryIn, listsReading, endingOf, partsWalk, foundAt}
+use Rattle.packed.proofs.Header.{less-one, sizes-sum}
+use Rattle.packed.proofs.Records.{leaf-none, record-outside}
 
--- ---- the paper's walk, as the code answers it
+-- ---- the lists of two parts
 
-reached-unless : (b : Bool) (w : Way) → reached (unless b w) ≡ if-ok b (reached w)
-reached-unless true w = refl
-reached-unless false w = refl
+module _ (inner leaves starts : List ℕ) (top : ℕ) (parts : Parts inner leaves starts top) where
+  pub falls : (k : ℕ) → 0 < k → k ≤ top → getD starts k 0 ≤ getD starts (k - 1) 0
+  falls zero l h = absurd (not-suc-le-zero l)
+  falls (suc k) l h = rw (less-one k) (parts .falling k h)
 
-reached-after : (s : Step) (w : Way) → reached (after s w) ≡ plus 1 (reached w)
-reached-after s broken = refl
-reached-after s (ended true path) = ap Solid (sym (one-add (length path)))
-reached-after s (ended false path) = ap Empty (sym (one-add (length path)))
+  pub starts-inside : (k : ℕ) → k ≤ top → getD starts k 0 ≤ length inner
+  starts-inside zero h = parts .inside
+  starts-inside (suc k) h = omega (arith, parts .falling k h, starts-inside k (omega arith))
 
-reached-cond : (b : Bool) (v w : Way) → reached (cond b v w) ≡ cond b (reached v) (reached w)
-reached-cond true v w = refl
-reached-cond false v w = refl
+  -- list k, as code cuts it
+  pub list-part : (k s e : ℕ) → 0 < k → s ≡ getD starts k 0 → e ≡ getD starts (k - 1) 0 → take (e - s) (drop s inner) ≡ listIn inner leaves starts k
+  list-part zero s e l p q = absurd (not-suc-le-zero l)
+  list-part (suc k) s e l p q = ap₂ (λ (a b : ℕ). take (a - b) (drop b inner)) (q ∙ ap (λ (n : ℕ). getD starts n 0) (less-one k)) p
 
-pub way-packed : (bs : List ℕ) (k p t : ℕ) (v : Point) → reached (packedWay bs k p t v) ≡ wayAt (listAt bs) (sizeAt bs) k p (mirror t (edge k) v)
-unfolding packedWay wayAt leafEnd
-way-packed bs zero p t v =
-    reached-unless (leafOk (listAt bs 0) p) (ended (leafVoxel (leafNo (leafAt (listAt bs 0) p)) (mirror t (edge 0) v)) (record { list = 0; place = p; tag = t } ∷ []))
-way-packed bs (suc k) p t v =
-    let here : Step = record { list = suc k; place = p; tag = t } in
-    let w : Point = mirror t (edge (suc k)) v in
-    let q : Link = getD (linksAt (listAt bs (suc k)) p) (childNo (edge k) w) noLink in
-    let on : Way = packedWay bs k (q .place) (q .tag) (inChild (edge k) w) in
-    let test : Bool = takenOk (sizeAt bs k) q in
-    reached-unless (recordOk (listAt bs (suc k)) p) (cond (eqb (q .code) 0) (ended false (here ∷ [])) (unless test (after here on)))
-    ∙ ap (if-ok (recordOk (listAt bs (suc k)) p))
-    (reached-cond (eqb (q .code) 0) (ended false (here ∷ [])) (unless test (after here on))
-    ∙ ap (cond (eqb (q .code) 0) (Empty 1))
-    (reached-unless test (after here on)
-    ∙ ap (if-ok test) (reached-after here on ∙ ap (plus 1) (way-packed bs k (q .place) (q .tag) (inChild (edge k) w)))))
+-- ---- lists that agree
 
--- ---- a point inside, as the root sees it
+module _ (L M : ℕ → List ℕ) where
+  abbrev on : (ℕ → List ℕ) → ℕ → Point → ℕ → ℕ → Walk
+  on N k w t p = walkIn (listsReading N) k p t (inChild (edge k) w)
+
+  onward-same : (h : ℕ) (f g : ℕ → ℕ → Walk) (c : Child) → ((t p : ℕ) → f t p ≡ g t p) → onward h f c ≡ onward h g c
+  onward-same h f g none below = refl
+  onward-same h f g wrong below = refl
+  onward-same h f g (to t p) below = below t p
+
+  pub lists-same : (k : ℕ) → ((j : ℕ) → j ≤ k → L j ≡ M j) → (p t : ℕ) (v : Point) → walkIn (listsReading L) k p t v ≡ walkIn (listsReading M) k p t v
+  unfolding walkIn
+  lists-same zero e p t v = rw (e 0 (omega arith)) refl
+  lists-same (suc k) e p t v =
+      let w : Point = mirror t (edge (suc k)) v in
+      let here : Step = record { list = suc k; place = p; tag = t } in
+      let rest : List ℕ → (ℕ → ℕ → Walk) → Walk = λ l f. unless (recordOk l p) (after here (onward (suc (suc k)) f (childTo (getD (linksAt l p) (childNo (edge k) w) noLink)))) in
+      ap (λ (l : List ℕ). rest l (on L k w)) (e (suc k) (omega arith))
+      ∙ ap (λ (r : Walk). unless (recordOk (M (suc k)) p) (after here r))
+      (onward-same (suc (suc k)) (on L k w) (on M k w) (childTo (getD (linksAt (M (suc k)) p) (childNo (edge k) w) noLink)) (λ u q. lists-same k (λ j h. e j (omega arith)) q u (inChild (edge k) w)))
+
+-- ---- the lists of a file
+
+module _ (bs : List ℕ) (sum : Whole bs) where
+  abbrev R : ℕ → ℕ → ℕ → Point → Walk
+  R k p t v = walkIn (listsReading (listAt bs)) k p t v
+
+  -- past its list a place fails its test
+  past-damaged : (k : ℕ) → k ≤ topOf bs → (p t : ℕ) (v : Point) → sizeAt bs k ≤ p → R k p t v ≡ damagedWalk
+  unfolding walkIn leafOk
+  past-damaged zero h p t v l = rw (sym (leaf-none (listAt bs 0) p (omega (arith, leaves-length bs sum)))) refl
+  past-damaged (suc k) h p t v l =
+      rw (not-true (recordOk (listAt bs (suc k)) p) (sym (record-outside (listAt bs (suc k)) p (omega (arith, inner-length bs sum k h))))) refl
+
+  onward-file : (k : ℕ) → k ≤ topOf bs → (h : ℕ) (f : ℕ → ℕ → Walk) (u : Point) (q : Link) → ((t p : ℕ) → f t p ≡ R k p t u) → onward h f (linkTo bs k q) ≡ onward h (λ t p. R k p t u) (childTo q)
+  unfolding linkTo
+  onward-file k low h f u q below = go (eqb (q .code) 0) (ltb (q .place) (sizeAt bs k)) refl (eqb (q .code) (codeFor (q .place)))
+    where
+      go : (a b : Bool) → ltb (q .place) (sizeAt bs k) ≡ b → (c : Bool)
+          → onward h f (cond a none (cond (b && c) (to (q .tag) (q .place)) wrong)) ≡ onward h (λ t p. R k p t u) (cond a none (cond c (to (q .tag) (q .place)) wrong))
+      go true b e c = refl
+      go false true e true = below (q .tag) (q .place)
+      go false true e false = refl
+      go false false e true = sym (past-damaged k low (q .place) (q .tag) u (ltb-false (q .place) (sizeAt bs k) e))
+      go false false e false = refl
+
+  -- the paper's walk over the file is that over its lists
+  pub file-lists : (k : ℕ) → k ≤ topOf bs → (p t : ℕ) (v : Point) → walkIn (fileReading bs) k p t v ≡ R k p t v
+  unfolding walkIn
+  file-lists zero h p t v = refl
+  file-lists (suc k) h p t v =
+      let w : Point = mirror t (edge (suc k)) v in
+      let here : Step = record { list = suc k; place = p; tag = t } in
+      ap (λ (r : Walk). unless (recordOk (listAt bs (suc k)) p) (after here r))
+      (onward-file k (omega arith) (suc (suc k)) (λ u q. walkIn (fileReading bs) k q u (inChild (edge k) w)) (inChild (edge k) w) (getD (linksAt (listAt bs (suc k)) p) (childNo (edge k) w) noLink)
+      (λ u q. file-lists k (omega arith) q u (inChild (edge k) w)))
+
+  -- ---- the file as two parts
+
+  next-start : (k : ℕ) → k < topOf bs → startAt bs (suc k) + 2 * sizeAt bs (suc k) ≡ startAt bs k
+  unfolding tailAt
+  next-start k h = omega (arith, tail-in bs sum (suc k) h)
+
+  module _ (starts : List ℕ) (is : starts ≡ startsOf bs) (some : rootTag bs ≡ emptyMark → ⊥) (low : topOf bs < heights) where
+    pub start-is : (k : ℕ) → k ≤ topOf bs → getD starts k 0 ≡ startAt bs k
+    unfolding startsOf
+    start-is k h =
+        let f : ℕ → ℕ = λ j. cond (leb j (topOf bs)) (startAt bs j) 0 in
+        ap (λ (l : List ℕ). getD l k 0) is
+        ∙ rw (ne-eqb (rootTag bs) emptyMark some) (getD-tabulate heights 0 k f 0 (omega arith) ∙ ap f (omega arith) ∙ ap (λ (b : Bool). cond b (startAt bs k) 0) (le-leb k (topOf bs) h))
+
+    -- the leaves, as code cuts them
+    pub leaves-cut : (s : ℕ) → s ≡ getD starts 0 0 → take (length bs - s) (drop s bs) ≡ listAt bs 0
+    unfolding listAt
+    leaves-cut s e = take-all (length bs - s) (drop s bs) (rw (length-drop s bs) (omega arith)) ∙ ap (λ (n : ℕ). drop n bs) (e ∙ start-is 0 (omega arith))
+
+    module _ (leaves : List ℕ) (e : leaves ≡ listAt bs 0) where
+      pub parts-are : Parts bs leaves starts (topOf bs)
+      parts-are = record {
+        low = low;
+        falling = λ k h. omega (arith, start-is k (omega arith), start-is (suc k) h, next-start k h);
+        inside = omega (arith, start-is 0 (omega arith));
+        eights = ap (λ (l : List ℕ). length l % 8) e ∙ omega (arith, leaves-length bs sum);
+      }
+
+      lists-are : (k : ℕ) → k ≤ topOf bs → listIn bs leaves starts k ≡ listAt bs k
+      unfolding listAt
+      lists-are zero h = e
+      lists-are (suc k) h =
+          let size : getD starts k 0 - getD starts (suc k) 0 ≡ 2 * sizeAt bs (suc k) = omega (arith, start-is k (omega arith), start-is (suc k) h, next-start k h) in
+          ap₂ (λ (a b : ℕ). take a (drop b bs)) size (start-is (suc k) h)
+
+      pub parts-walk : (v : Point) → Inside (edge (topOf bs)) v → T (headOk bs) → partsWalk bs leaves starts (topOf bs) (rootTag bs) v ≡ fileWalk bs v
+      unfolding fileWalk
+      parts-walk v i t =
+          let whole : inChild (edge (topOf bs)) v ≡ v = λ j. point (mod-eq-of-lt (i .inX) j) (mod-eq-of-lt (i .inY) j) (mod-eq-of-lt (i .inZ) j) in
+          ap (walkIn (listsReading (listIn bs leaves starts)) (topOf bs) 0 (rootTag bs)) whole
+          ∙ lists-same (listIn bs leaves starts) (listAt bs) (topOf bs) lists-are 0 (rootTag bs) v
+          ∙ sym (file-lists (topOf bs) (omega arith) 0 (rootTag bs) v)
+          ∙ rw (T-true {b = headOk bs} t, ne-eqb (rootTag bs) emptyMark some) refl
+
+pub walk-empty : (bs : List ℕ) (v : Point) → T (headOk bs) → rootTag bs ≡ emptyMark → fileWalk bs v ≡ record { end = absent (fileDepth bs); path = [] }
+unfolding fileWalk
+walk-empty bs v t e = rw (T-true {b = headOk bs} t, eq-eqb (rootTag bs) emptyMark e) refl
+
+-- ---- a point inside
 
 pub inside-top : (bs : List ℕ) → least ≤ fileDepth bs → (v : Point) → packedOutside bs v ≡ false → Inside (edge (topOf bs)) v
 unfolding packedOutside
@@ -75,57 +164,6 @@ inside-top bs deep v out =
       inZ = ltb→lt (v .z) (2 ^ D) (and-right (a && b) c t);
     } in
     subst (λ (n : ℕ). Inside (2 ^ n) v) e i
-
-pub seen-whole : (k m : ℕ) (v : Point) → Inside (edge k) v → seenAt k m v ≡ mirror m (edge k) v
-seen-whole k m v i =
-    let e : inChild (edge k) v ≡ v = λ j. point (mod-eq-of-lt (i .inX) j) (mod-eq-of-lt (i .inY) j) (mod-eq-of-lt (i .inZ) j) in
-    ap (mirror m (edge k)) e
-
--- ---- the lists in the file
-
-module _ (bs : List ℕ) (sum : Whole bs) where
-  -- the top list follows the sizes, each other starts where the one above it ends, and the leaves end the file
-  pub start-top : frontOf bs ≡ startAt bs (topOf bs)
-  start-top = omega (arith, sum)
-
-  next-start : (k : ℕ) → k < topOf bs → startAt bs (suc k) + 2 * sizeAt bs (suc k) ≡ startAt bs k
-  unfolding tailAt
-  next-start k h = omega (arith, tail-in bs sum (suc k) h)
-
-  pub start-next : (k : ℕ) → 0 < k → k ≤ topOf bs → startAt bs k + 2 * sizeAt bs k ≡ startAt bs (k - 1)
-  start-next zero l h = absurd (not-suc-le-zero l)
-  start-next (suc k) l h = rw (less-one k) (next-start k h)
-
-  pub start-in : (k : ℕ) → startAt bs k ≤ length bs
-  start-in k = omega arith
-
-  -- the bytes of a list, as code cuts them
-  pub list-cut : (k s n : ℕ) → 0 < k → s ≡ startAt bs k → n ≡ sizeAt bs k → take (s + 2 * n - s) (drop s bs) ≡ listAt bs k
-  unfolding listAt
-  list-cut zero s n l es en = absurd (not-suc-le-zero l)
-  list-cut (suc k) s n l es en =
-      let e : s + 2 * n - s ≡ 2 * sizeAt bs (suc k) = omega (arith, en) in
-      ap₂ (λ (a b : ℕ). take a (drop b bs)) e es
-
-  pub leaves-cut : (s : ℕ) → s ≡ startAt bs 0 → take (length bs - s) (drop s bs) ≡ listAt bs 0
-  unfolding listAt
-  leaves-cut s e = take-all (length bs - s) (drop s bs) (rw (length-drop s bs) (omega arith)) ∙ ap (λ (n : ℕ). drop n bs) e
-
-  pub leaves-eights : length (listAt bs 0) % 8 ≡ 0
-  leaves-eights = omega (arith, leaves-length bs sum)
-
--- the walk over the lists is the paper's
-pub lists-way : (bs : List ℕ) (v : Point) → least ≤ fileDepth bs → (rootTag bs ≡ emptyMark → ⊥) → T (headOk bs) → packedOutside bs v ≡ false
-    → wayAt (listAt bs) (sizeAt bs) (topOf bs) 0 (seenAt (topOf bs) (rootTag bs) v) ≡ reached (wayIn bs v)
-unfolding wayIn
-lists-way bs v deep some t out =
-    ap (wayAt (listAt bs) (sizeAt bs) (topOf bs) 0) (seen-whole (topOf bs) (rootTag bs) v (inside-top bs deep v out))
-    ∙ sym (way-packed bs (topOf bs) 0 (rootTag bs) v)
-    ∙ rw (T-true {b = headOk bs} t, ne-eqb (rootTag bs) emptyMark some) refl
-
-pub way-empty : (bs : List ℕ) (v : Point) → T (headOk bs) → rootTag bs ≡ emptyMark → Empty 0 ≡ reached (wayIn bs v)
-unfolding wayIn
-way-empty bs v t e = rw (T-true {b = headOk bs} t, eq-eqb (rootTag bs) emptyMark e) refl
 
 -- byte 6 of a file that is not empty is a mirror
 pub root-small : (bs : List ℕ) → T (rootOk bs) → (rootTag bs ≡ emptyMark → ⊥) → rootTag bs < 8

@@ -13,11 +13,12 @@ use lib.ListN.{length, drop, getD, drop-of-length-le}
 use lib.Seq.{drop-drop}
 use Rattle.paper.specs.Numbers.{be, num, bitFor}
 use Rattle.paper.specs.Store.{leafNo}
-use Rattle.paper.specs.Packed.{Link, linkOf, noLink, headerAt, halves, codesOk, readLinks, linksAt, recordOk, leafAt, codeFor}
-use Rattle.laws.proofs.Tests.{and-left, and-right, all-at, all-at2, ltb-not}
+use Rattle.paper.specs.Walk.{Child, none, wrong, to}
+use Rattle.paper.specs.Packed.{Link, linkOf, noLink, headerAt, halves, codesOk, readLinks, linksAt, recordOk, leafAt, codeFor, farthestShort}
+use Rattle.laws.proofs.Tests.{T-true, true-T, and-left, and-right, all-at, all-at2, ltb-not}
 use Rattle.laws.proofs.PackedLists.{halves-one}
 use Rattle.numbers.proofs.Sums.{eight-bytes}
-use Rattle.packed.specs.Records.{codeAt, takenOk}
+use Rattle.packed.specs.Records.{codeAt, headerOk, childTo}
 
 -- ---- codes and half-words
 
@@ -169,25 +170,36 @@ module _ (l : List ℕ) (p : ℕ) where
   record-outside m =
       rw (lt-leb (2 * (p + halves 8 (headerAt l p))) (length l) (omega (arith, halves-one 8 (headerAt l p))), and-false (ltb 0 (headerAt l p) && codesOk 8 (headerAt l p))) refl
 
-  pub record-zero : headerAt l p ≡ 0 → true ≡ not (recordOk l p)
+  pub record-header : headerOk (headerAt l p) ≡ false → true ≡ not (recordOk l p)
   unfolding recordOk
-  record-zero e = rw e refl
+  record-header e = rw e refl
 
-  pub record-code : codesOk 8 (headerAt l p) ≡ false → true ≡ not (recordOk l p)
+  pub record-roomy : 2 * p + 34 ≤ length l → not (headerOk (headerAt l p)) ≡ not (recordOk l p)
   unfolding recordOk
-  record-code e = rw (e, and-false (ltb 0 (headerAt l p))) refl
+  record-roomy m = go (headerOk (headerAt l p)) refl
+    where
+      h : ℕ
+      h = headerAt l p
 
-  pub record-roomy : (headerAt l p ≡ 0 → ⊥) → codesOk 8 (headerAt l p) ≡ true → 2 * p + 34 ≤ length l → false ≡ not (recordOk l p)
-  unfolding recordOk
-  record-roomy n e m =
-      let w : 2 * (p + halves 8 (headerAt l p)) ≤ length l = omega (arith, halves-most 8 (headerAt l p) e) in
-      rw (lt-ltb 0 (headerAt l p) (omega (arith, n)), e, le-leb (2 * (p + halves 8 (headerAt l p))) (length l) w) refl
+      go : (b : Bool) → headerOk h ≡ b → not b ≡ not (b && leb (2 * (p + halves 8 h)) (length l))
+      go false e = refl
+      go true e =
+          let w : 2 * (p + halves 8 h) ≤ length l = omega (arith, halves-most 8 h (T-true {b = codesOk 8 h} (and-right (ltb 0 h) (codesOk 8 h) (true-T e)))) in
+          rw (le-leb (2 * (p + halves 8 h)) (length l) w) refl
 
-  pub record-room : (headerAt l p ≡ 0 → ⊥) → codesOk 8 (headerAt l p) ≡ true → ltb (length l) (2 * p + 2 * halves 8 (headerAt l p)) ≡ not (recordOk l p)
+  pub record-room : headerOk (headerAt l p) ≡ true → ltb (length l) (2 * p + 2 * halves 8 (headerAt l p)) ≡ not (recordOk l p)
   unfolding recordOk
-  record-room n e =
+  record-room e =
       let s : 2 * p + 2 * halves 8 (headerAt l p) ≡ 2 * (p + halves 8 (headerAt l p)) = omega arith in
-      rw (lt-ltb 0 (headerAt l p) (omega (arith, n)), e, s) (ltb-not (length l) (2 * (p + halves 8 (headerAt l p))))
+      rw (e, s) (ltb-not (length l) (2 * (p + halves 8 (headerAt l p))))
+
+-- ---- a header by itself
+
+pub header-zero : (h : ℕ) → h ≡ 0 → true ≡ not (headerOk h)
+header-zero h e = rw e refl
+
+pub header-codes : (h : ℕ) → (h ≡ 0 → ⊥) → not (codesOk 8 h) ≡ not (headerOk h)
+header-codes h n = rw (lt-ltb 0 h (omega (arith, n))) refl
 
 -- ---- a pointer by its code: the ways through `pointer_from`
 
@@ -206,14 +218,30 @@ module _ (l : List ℕ) (from code : ℕ) where
   pub pointer-long : (v : ℕ) → code ≡ 2 → v ≡ num 4 (drop from l) → record { code = 2; tag = v / 536870912; place = v % 536870912 } ≡ there
   pointer-long v e f = rw (e, f) refl
 
--- ---- the pointer taken
+  -- ---- what it leads to
 
-module _ (size : ℕ) (q : Link) where
-  pub taken-outside : size ≤ q .place → true ≡ not (takenOk size q)
-  taken-outside h = rw (le-ltb (q .place) size h) refl
+  pub child-none : code ≡ 0 → none ≡ childTo there
+  child-none e = ap childTo (pointer-none e)
 
-  pub taken-inside : q .place < size → not (eqb (q .code) (codeFor (q .place))) ≡ not (takenOk size q)
-  taken-inside h = rw (lt-ltb (q .place) size h) refl
+  pub child-short : (v : ℕ) → code ≡ 1 → v ≡ num 2 (drop from l) → to (v / 8192) (v % 8192) ≡ childTo there
+  child-short v e f =
+      let low : codeFor (v % 8192) ≡ 1 = ap (λ (b : Bool). cond b 1 2) (le-leb (v % 8192) farthestShort (omega arith)) in
+      let is : to (v / 8192) (v % 8192) ≡ childTo (record { code = 1; tag = v / 8192; place = v % 8192 }) = rw low refl in
+      is ∙ ap childTo (pointer-short v e f)
+
+  pub child-wrong : (v : ℕ) → code ≡ 2 → v ≡ num 4 (drop from l) → codeFor (v % 536870912) ≡ 1 → wrong ≡ childTo there
+  child-wrong v e f w =
+      let is : wrong ≡ childTo (record { code = 2; tag = v / 536870912; place = v % 536870912 }) = rw w refl in
+      is ∙ ap childTo (pointer-long v e f)
+
+  pub child-long : (v : ℕ) → code ≡ 2 → v ≡ num 4 (drop from l) → (codeFor (v % 536870912) ≡ 1 → ⊥) → to (v / 536870912) (v % 536870912) ≡ childTo there
+  child-long v e f w =
+      let is : to (v / 536870912) (v % 536870912) ≡ childTo (record { code = 2; tag = v / 536870912; place = v % 536870912 }) = rw (other (leb (v % 536870912) farthestShort) w) refl in
+      is ∙ ap childTo (pointer-long v e f)
+    where
+      other : (b : Bool) → (_≡_ {A = ℕ} (cond b 1 2) 1 → ⊥) → _≡_ {A = ℕ} (cond b 1 2) 2
+      other true n = absurd (n refl)
+      other false n = refl
 
 -- ---- a leaf
 

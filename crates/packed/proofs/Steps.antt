@@ -1,80 +1,138 @@
 -- The ways through the walk, in the code's words: broken at a record, ended at an absent child, astray at a pointer, on to the next list; and the
--- ways through a leaf. By one step of `wayAt`, with the child's number and the tag mirrored as numbers. Assumes nothing.
+-- ways through a leaf. By one step of `wayAt`, the walk as a record sees the voxel, with the child's number and the tag mirrored as numbers. Assumes
+-- nothing.
 use mathlib.Core.Path.{_≡_, refl, sym, _∙_, ap, ap₂}
 use mathlib.Core.Bool.{Bool, true, false, cond}
-use mathlib.Core.List.{List}
+use mathlib.Core.List.{List, [], _∷_}
 use Prim.Native.Nat.{ℕ, zero, suc, _+_, _-_, _<_}
 use native.Mathlib.Nat.{not-suc-le-zero, add-assoc, zero-add}
+use native.Mathlib.Numerals.{one-add}
 use native.Mathlib.Omega.{arith}
-use borrow.Author.Tests.{eq-eqb, ne-eqb, lt-ltb}
+use borrow.Author.Tests.{ne-eqb, lt-ltb, eqb-true, eqb-false}
 use lib.Bits.{bitXor}
-use lib.Dec.{eqb}
-use lib.ListN.{getD}
-use Rattle.paper.specs.Rooms.{Point, mirror}
-use Rattle.paper.specs.Leaf.{leafVoxel}
+use lib.Dec.{eqb, ltb}
+use lib.ListN.{length, getD}
+use Rattle.paper.specs.Rooms.{Point, mirror, childNo, inChild}
 use Rattle.paper.specs.Outline.{edge}
 use Rattle.paper.specs.Store.{leafNo}
-use Rattle.paper.specs.Packed.{Link, noLink, linksAt, leafAt, recordOk, leafOk}
-use Rattle.packed.specs.declared.Reached.{Reached}
-use Rattle.packed.specs.declared.Reached.the-variants.{Broken, Solid, Empty}
-use Rattle.packed.specs.Records.{takenOk}
-use Rattle.packed.specs.Walk.{ends, plus, if-ok, leafEnd, wayAt}
+use Rattle.paper.specs.Walk.{End, damaged, absent, inLeaf, Step, Walk, unless, after, pathAfter, onward, Child, none, wrong, to, walkIn}
+use Rattle.paper.specs.Packed.{noLink, linksAt, leafAt, recordOk, leafOk}
+use Rattle.packed.specs.declared.Ended.{Ended}
+use Rattle.packed.specs.declared.Ended.the-variants.{Broken, InLeaf}
+use Rattle.packed.specs.Records.{childTo}
+use Rattle.packed.specs.Walk.{listsReading, Ending, endingOf, ending, leafEnding}
 use Rattle.points.specs.Seeing.{seenAt, octant}
 use Rattle.points.proofs.Seen.{child-seen, in-seen, tag-seen}
+use Rattle.packed.proofs.Header.{less-one}
 
-pub plus-one : (n : ℕ) (r : Reached) → plus (n + 1) r ≡ plus n (plus 1 r)
-plus-one n Broken = refl
-plus-one n (Solid m) = ap Solid (add-assoc n 1 m)
-plus-one n (Empty m) = ap Empty (add-assoc n 1 m)
+-- ---- an ending with records before it
 
-pub plus-none : (r : Reached) → plus 0 r ≡ r
-plus-none Broken = refl
-plus-none (Solid m) = ap Solid (zero-add m)
-plus-none (Empty m) = ap Empty (zero-add m)
+abbrev pub broken : Ending
+broken = record { end = damaged; records = 0 }
 
-plus-ends : (b : Bool) (n : ℕ) → ends b (n + 1) ≡ plus n (ends b 1)
-plus-ends true n = refl
-plus-ends false n = refl
+abbrev counted : End → ℕ → ℕ → ℕ
+counted damaged n m = 0
+counted (absent h) n m = n + m
+counted (inLeaf b u) n m = n + m
+
+abbrev pub plus : ℕ → Ending → Ending
+plus n e = record { end = e .end; records = counted (e .end) n (e .records) }
+
+counted-one : (e : End) (n m : ℕ) → counted e (n + 1) m ≡ counted e n (counted e 1 m)
+counted-one damaged n m = refl
+counted-one (absent h) n m = add-assoc n 1 m
+counted-one (inLeaf b u) n m = add-assoc n 1 m
+
+pub plus-one : (n : ℕ) (e : Ending) → plus (n + 1) e ≡ plus n (plus 1 e)
+plus-one n e = ap (λ (m : ℕ). record { end = e .end; records = m }) (counted-one (e .end) n (e .records))
+
+-- ---- the walk as a record sees the voxel
+
+abbrev if-ok : Bool → Ending → Ending
+if-ok true e = e
+if-ok false e = broken
+
+abbrev onEnd : ℕ → (ℕ → ℕ → Ending) → Child → Ending
+onEnd h go none = record { end = absent h; records = 1 }
+onEnd h go wrong = broken
+onEnd h go (to t p) = plus 1 (go t p)
+
+-- from place p of list k, w the voxel as what is there sees it
+unfoldable pub wayAt : (ℕ → List ℕ) → ℕ → ℕ → Point → Ending
+wayAt L zero p w = if-ok (leafOk (L 0) p) (record { end = inLeaf (leafNo (leafAt (L 0) p)) w; records = 1 })
+wayAt L (suc k) p w =
+    let go : ℕ → ℕ → Ending = λ t q. wayAt L k q (mirror t (edge k) (inChild (edge k) w)) in
+    if-ok (recordOk (L (suc k)) p) (onEnd (suc (suc k)) go (childTo (getD (linksAt (L (suc k)) p) (childNo (edge k) w) noLink)))
+
+after-length : (s : Step) (e : End) (path : List Step) → length (pathAfter s e path) ≡ counted e 1 (length path)
+after-length s damaged path = refl
+after-length s (absent h) path = sym (one-add (length path))
+after-length s (inLeaf b u) path = sym (one-add (length path))
+
+step-read : (b : Bool) (s : Step) (h : ℕ) (f : ℕ → ℕ → Walk) (g : ℕ → ℕ → Ending) (c : Child) → ((t p : ℕ) → endingOf (f t p) ≡ g t p)
+    → endingOf (unless b (after s (onward h f c))) ≡ if-ok b (onEnd h g c)
+step-read false s h f g c below = refl
+step-read true s h f g none below = refl
+step-read true s h f g wrong below = refl
+step-read true s h f g (to t p) below =
+    ap (λ (n : ℕ). record { end = f t p .end; records = n }) (after-length s (f t p .end) (f t p .path)) ∙ ap (plus 1) (below t p)
+
+leaf-read : (b : Bool) (n : ℕ) (u : Point) (s : Step) → endingOf (unless b (record { end = inLeaf n u; path = s ∷ [] })) ≡ if-ok b (record { end = inLeaf n u; records = 1 })
+leaf-read true n u s = refl
+leaf-read false n u s = refl
+
+-- it is the paper's walk over the lists
+pub way-read : (L : ℕ → List ℕ) (k p t : ℕ) (v : Point) → endingOf (walkIn (listsReading L) k p t v) ≡ wayAt L k p (mirror t (edge k) v)
+unfolding walkIn wayAt
+way-read L zero p t v = leaf-read (leafOk (L 0) p) (leafNo (leafAt (L 0) p)) (mirror t (edge 0) v) (record { list = 0; place = p; tag = t })
+way-read L (suc k) p t v =
+    let w : Point = mirror t (edge (suc k)) v in
+    step-read (recordOk (L (suc k)) p) (record { list = suc k; place = p; tag = t }) (suc (suc k)) (λ u q. walkIn (listsReading L) k q u (inChild (edge k) w)) (λ u q. wayAt L k q (mirror u (edge k) (inChild (edge k) w)))
+    (childTo (getD (linksAt (L (suc k)) p) (childNo (edge k) w) noLink)) (λ u q. way-read L k q u (inChild (edge k) w))
 
 -- ---- in a leaf
 
-module _ (l : List ℕ) (p n : ℕ) (w : Point) where
-  pub leaf-broken : leafNo (leafAt l p) ≡ 0 → Broken ≡ plus n (leafEnd l p w)
-  unfolding leafEnd leafOk
+module _ (l : List ℕ) (p m n : ℕ) where
+  pub leaf-broken : leafNo (leafAt l p) ≡ 0 → Broken ≡ leafEnding l p m n
   leaf-broken e = rw e refl
 
-  pub leaf-ends : (b : Bool) → (leafNo (leafAt l p) ≡ 0 → ⊥) → leafVoxel (leafNo (leafAt l p)) w ≡ b → ends b (n + 1) ≡ plus n (leafEnd l p w)
-  unfolding leafEnd leafOk
-  leaf-ends b e v = rw (lt-ltb 0 (leafNo (leafAt l p)) (omega (arith, e)), v) (plus-ends b n)
+  pub leaf-ends : (b : ℕ) → b ≡ leafNo (leafAt l p) → (b ≡ 0 → ⊥) → InLeaf b m (n + 1) ≡ leafEnding l p m n
+  leaf-ends b e z = rw (sym e, ne-eqb b 0 z) refl
+
+  pub leaf-ending : (v : Point) → ending v (leafEnding l p m n) ≡ plus n (if-ok (leafOk l p) (record { end = inLeaf (leafNo (leafAt l p)) (seenAt 0 m v); records = 1 }))
+  unfolding leafOk
+  leaf-ending v = go (eqb (leafNo (leafAt l p)) 0) refl
+    where
+      b : ℕ
+      b = leafNo (leafAt l p)
+
+      go : (c : Bool) → eqb b 0 ≡ c → ending v (cond c Broken (InLeaf b m (n + 1))) ≡ plus n (if-ok (ltb 0 b) (record { end = inLeaf b (seenAt 0 m v); records = 1 }))
+      go true e = rw (eqb-true b 0 e) refl
+      go false e = rw (lt-ltb 0 b (omega (arith, eqb-false b 0 e))) refl
 
 -- ---- one step of the walk
 
-pub less-one : (j : ℕ) → suc j - 1 ≡ j
-less-one j = omega arith
+module _ (L : ℕ → List ℕ) (p m : ℕ) (v : Point) (hm : m < 8) where
+  -- what follows a good record
+  abbrev on : ℕ → Child → Ending
+  on j c = onEnd (suc (suc j)) (λ t q. wayAt L j q (mirror t (edge j) (seenAt j m v))) c
 
-module _ (L : ℕ → List ℕ) (N : ℕ → ℕ) (p m : ℕ) (v : Point) (hm : m < 8) where
-  -- what follows a good record, q the pointer taken
-  abbrev on : ℕ → Link → Reached
-  on j q = cond (eqb (q .code) 0) (Empty 1) (if-ok (takenOk (N j) q) (plus 1 (wayAt L N j (q .place) (seenAt j (bitXor (q .tag) m) v))))
-
-  step-suc : (j : ℕ) (q : Link) → getD (linksAt (L (suc j)) p) (bitXor (octant j v) m) noLink ≡ q → q .tag < 8
-      → wayAt L N (suc j) p (seenAt (suc j) m v) ≡ if-ok (recordOk (L (suc j)) p) (on j q)
+  step-suc : (j : ℕ) (c : Child) → childTo (getD (linksAt (L (suc j)) p) (bitXor (octant j v) m) noLink) ≡ c
+      → wayAt L (suc j) p (seenAt (suc j) m v) ≡ if-ok (recordOk (L (suc j)) p) (on j c)
   unfolding wayAt
-  step-suc j q e ht =
-      let then : Link → Point → Reached = λ r u.
-      cond (eqb (r .code) 0) (Empty 1) (if-ok (takenOk (N j) r) (plus 1 (wayAt L N j (r .place) (mirror (r .tag) (edge j) u)))) in
+  step-suc j c e =
       ap (if-ok (recordOk (L (suc j)) p))
-      (ap₂ then (ap (λ (i : ℕ). getD (linksAt (L (suc j)) p) i noLink) (child-seen j m v hm) ∙ e) (in-seen j m v hm)
-      ∙ ap (λ (u : Point). cond (eqb (q .code) 0) (Empty 1) (if-ok (takenOk (N j) q) (plus 1 (wayAt L N j (q .place) u)))) (tag-seen j (q .tag) m v ht hm))
+      (ap₂ (λ (d : Child) (u : Point). onEnd (suc (suc j)) (λ t q. wayAt L j q (mirror t (edge j) u)) d)
+      (ap (λ (i : ℕ). childTo (getD (linksAt (L (suc j)) p) i noLink)) (child-seen j m v hm) ∙ e) (in-seen j m v hm))
 
-  pub step : (k : ℕ) → 0 < k → (q : Link) → q ≡ getD (linksAt (L k) p) (bitXor (octant (k - 1) v) m) noLink → q .tag < 8
-      → wayAt L N k p (seenAt k m v) ≡ if-ok (recordOk (L k) p) (on (k - 1) q)
-  step zero h q e ht = absurd (not-suc-le-zero h)
-  step (suc j) h q e ht =
-      step-suc j q (sym (e ∙ ap (λ (i : ℕ). getD (linksAt (L (suc j)) p) (bitXor (octant i v) m) noLink) (less-one j))) ht
-      ∙ ap (λ (i : ℕ). if-ok (recordOk (L (suc j)) p) (on i q)) (sym (less-one j))
+  pub step : (k : ℕ) → 0 < k → (c : Child) → c ≡ childTo (getD (linksAt (L k) p) (bitXor (octant (k - 1) v) m) noLink)
+      → wayAt L k p (seenAt k m v) ≡ if-ok (recordOk (L k) p) (on (k - 1) c)
+  step zero h c e = absurd (not-suc-le-zero h)
+  step (suc j) h c e =
+      step-suc j c (sym (e ∙ ap (λ (i : ℕ). childTo (getD (linksAt (L (suc j)) p) (bitXor (octant i v) m) noLink)) (less-one j)))
+      ∙ ap (λ (i : ℕ). if-ok (recordOk (L (suc j)) p) (on i c)) (sym (less-one j))
 
-  broken-at : (k : ℕ) (w : Point) → 0 < k → recordOk (L k) p ≡ false → wayAt L N k p w ≡ Broken
+  broken-at : (k : ℕ) (w : Point) → 0 < k → recordOk (L k) p ≡ false → wayAt L k p w ≡ broken
   unfolding wayAt
   broken-at zero w h e = absurd (not-suc-le-zero h)
   broken-at (suc j) w h e = rw e refl
@@ -82,32 +140,50 @@ module _ (L : ℕ → List ℕ) (N : ℕ → ℕ) (p m : ℕ) (v : Point) (hm : 
   -- ---- the ways through a turn of the walk, n records being read before
 
   module _ (n k : ℕ) (h : 0 < k) where
-    pub way-broken : recordOk (L k) p ≡ false → Broken ≡ plus n (wayAt L N k p (seenAt k m v))
+    pub way-broken : recordOk (L k) p ≡ false → broken ≡ plus n (wayAt L k p (seenAt k m v))
     way-broken e = ap (plus n) (sym (broken-at k (seenAt k m v) h e))
 
-    module _ (q : Link) (e : q ≡ getD (linksAt (L k) p) (bitXor (octant (k - 1) v) m) noLink) (ht : q .tag < 8) (good : recordOk (L k) p ≡ true) where
-      on-is : wayAt L N k p (seenAt k m v) ≡ on (k - 1) q
-      on-is = step k h q e ht ∙ ap (λ (b : Bool). if-ok b (on (k - 1) q)) good
+    module _ (c : Child) (e : c ≡ childTo (getD (linksAt (L k) p) (bitXor (octant (k - 1) v) m) noLink)) (good : recordOk (L k) p ≡ true) where
+      on-is : (d : Child) → c ≡ d → wayAt L k p (seenAt k m v) ≡ on (k - 1) d
+      on-is d q = step k h d (sym q ∙ e) ∙ ap (λ (b : Bool). if-ok b (on (k - 1) d)) good
 
-      pub way-absent : q .code ≡ 0 → Empty (n + 1) ≡ plus n (wayAt L N k p (seenAt k m v))
-      way-absent c =
-          let e : on (k - 1) q ≡ Empty 1 = rw (eq-eqb (q .code) 0 c) refl in
-          sym (ap (plus n) (on-is ∙ e))
+      pub way-absent : c ≡ none → record { end = absent (k + 1); records = n + 1 } ≡ plus n (wayAt L k p (seenAt k m v))
+      way-absent q =
+          let up : k + 1 ≡ suc (suc (k - 1)) = omega arith in
+          ap (λ (i : ℕ). record { end = absent i; records = n + 1 }) up ∙ sym (ap (plus n) (on-is none q))
 
-      pub way-astray : (q .code ≡ 0 → ⊥) → takenOk (N (k - 1)) q ≡ false → Broken ≡ plus n (wayAt L N k p (seenAt k m v))
-      way-astray c t =
-          let e : on (k - 1) q ≡ Broken = rw (ne-eqb (q .code) 0 c, t) refl in
-          sym (ap (plus n) (on-is ∙ e))
+      pub way-wrong : c ≡ wrong → broken ≡ plus n (wayAt L k p (seenAt k m v))
+      way-wrong q = sym (ap (plus n) (on-is wrong q))
 
-      pub way-on : (q .code ≡ 0 → ⊥) → takenOk (N (k - 1)) q ≡ true
-          → plus (n + 1) (wayAt L N (k - 1) (q .place) (seenAt (k - 1) (bitXor (q .tag) m) v)) ≡ plus n (wayAt L N k p (seenAt k m v))
-      way-on c t =
-          let r : Reached = wayAt L N (k - 1) (q .place) (seenAt (k - 1) (bitXor (q .tag) m) v) in
-          let e : on (k - 1) q ≡ plus 1 r = rw (ne-eqb (q .code) 0 c, t) refl in
-          plus-one n r ∙ sym (ap (plus n) (on-is ∙ e))
+      pub way-on : (t r : ℕ) → c ≡ to t r → t < 8 → plus (n + 1) (wayAt L (k - 1) r (seenAt (k - 1) (bitXor t m) v)) ≡ plus n (wayAt L k p (seenAt k m v))
+      way-on t r q ht =
+          plus-one n (wayAt L (k - 1) r (seenAt (k - 1) (bitXor t m) v))
+          ∙ ap (λ (u : Point). plus n (plus 1 (wayAt L (k - 1) r u))) (sym (tag-seen (k - 1) t m v ht hm))
+          ∙ sym (ap (plus n) (on-is (to t r) q))
+
+-- ---- before the first record
+
+zero-counted : (e : End) (m : ℕ) → counted e 0 (counted e 1 m) ≡ counted e 1 m
+zero-counted damaged m = refl
+zero-counted (absent h) m = zero-add (1 + m)
+zero-counted (inLeaf b u) m = zero-add (1 + m)
+
+zero-if : (b : Bool) (e : Ending) → plus 0 e ≡ e → plus 0 (if-ok b e) ≡ if-ok b e
+zero-if true e q = q
+zero-if false e q = refl
+
+zero-on : (h : ℕ) (go : ℕ → ℕ → Ending) (c : Child) → plus 0 (onEnd h go c) ≡ onEnd h go c
+zero-on h go none = refl
+zero-on h go wrong = refl
+zero-on h go (to t p) = ap (λ (n : ℕ). record { end = go t p .end; records = n }) (zero-counted (go t p .end) (go t p .records))
+
+pub way-zero : (L : ℕ → List ℕ) (k p : ℕ) (w : Point) → plus 0 (wayAt L k p w) ≡ wayAt L k p w
+unfolding wayAt
+way-zero L zero p w = zero-if (leafOk (L 0) p) (record { end = inLeaf (leafNo (leafAt (L 0) p)) w; records = 1 }) refl
+way-zero L (suc k) p w = zero-if (recordOk (L (suc k)) p) (onEnd (suc (suc k)) (λ t q. wayAt L k q (mirror t (edge k) (inChild (edge k) w))) (childTo (getD (linksAt (L (suc k)) p) (childNo (edge k) w) noLink))) (zero-on (suc (suc k)) (λ t q. wayAt L k q (mirror t (edge k) (inChild (edge k) w))) (childTo (getD (linksAt (L (suc k)) p) (childNo (edge k) w) noLink)))
 
 -- ---- at the leaves
 
-pub leaves-end : (L : ℕ → List ℕ) (N : ℕ → ℕ) (k p : ℕ) (m : ℕ) (v : Point) → k ≡ 0 → leafEnd (L 0) p (seenAt 0 m v) ≡ wayAt L N k p (seenAt k m v)
+pub leaves-end : (L : ℕ → List ℕ) (k p m n : ℕ) (v : Point) → k ≡ 0 → ending v (leafEnding (L 0) p m n) ≡ plus n (wayAt L k p (seenAt k m v))
 unfolding wayAt
-leaves-end L N k p m v e = rw e refl
+leaves-end L k p m n v e = rw e (leaf-ending (L 0) p m n v)

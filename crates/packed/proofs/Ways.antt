@@ -9,13 +9,16 @@ use lib.ListN.{length, drop}
 use Rattle.paper.specs.Numbers.{bitFor, num}
 use Rattle.paper.specs.Rooms.{Point, least, deepest}
 use Rattle.paper.specs.Outline.{fileDepth}
-use Rattle.paper.specs.Packed.{packedFront, packedHead, headOk, Way, broken, ended, solid, records, isBroken, wayIn}
+use Rattle.paper.specs.Leaf.{leafVoxel}
+use Rattle.paper.specs.Walk.{End, damaged, absent, inLeaf, isDamaged, solidAt}
+use Rattle.paper.specs.Packed.{packedFront, packedHead, headOk, fileWalk}
 use Rattle.paper.specs.Answers.{Outcome, told, outcome, numberOf, found}
 use Rattle.paper.specs.Order.{Test, when, firstOf, settled}
 use Rattle.paper.specs.Calls.{packedOutside, packedBroken, packedVoxelOrder, packedValues, packedVoxelOutcome}
 use Rattle.paper.specs.Runs.{Bytes}
 use Rattle.paper.specs.declared.Refusal.{Refusal}
 use Rattle.paper.specs.declared.Refusal.the-variants.{BrokenRules, Outside}
+use Rattle.paper.specs.declared.Found.{Found}
 use Rattle.paper.specs.declared.Found.the-variants.{Refused}
 use Rattle.laws.proofs.Tests.{true-T, and-left, and-right}
 use Rattle.laws.proofs.Bytes.{bytes-drop}
@@ -23,9 +26,8 @@ use Rattle.laws.proofs.PackedLists.{num4-lt}
 use Rattle.laws.proofs.Refusals.{settled-refused}
 use Rattle.outline.specs.Heads.{headNumber}
 use Rattle.outline.proofs.HeadTests.{Headed, head-stops, head-goes-on}
-use Rattle.packed.specs.declared.Reached.{Reached}
 use Rattle.packed.specs.Header.{Tested}
-use Rattle.packed.specs.Walk.{reached, foundAt}
+use Rattle.packed.specs.Walk.{solidOr, foundBy, endingOf, foundAt}
 
 -- ---- what the first three tests say
 
@@ -48,11 +50,15 @@ tested bs h ok =
 abbrev by-tests : ℕ → ℕ → Bool → Bool → Outcome
 by-tests s n o w = settled (firstOf (when o (numberOf Outside) ∷ when w (numberOf BrokenRules) ∷ [])) (s ∷ n ∷ []) [] []
 
-way-found : (w : Way) → outcome (found (foundAt (reached w))) [] ≡ by-tests (bitFor (solid w)) (records w) false (isBroken w)
+end-found : (e : End) (n : ℕ) → outcome (found (foundBy e n)) [] ≡ by-tests (bitFor (solidAt e)) n false (isDamaged e)
 unfolding firstOf settled
-way-found broken = refl
-way-found (ended true path) = refl
-way-found (ended false path) = refl
+end-found damaged n = refl
+end-found (absent h) n = refl
+end-found (inLeaf b u) n = go (leafVoxel b u)
+  where
+    go : (t : Bool) → outcome (found (solidOr t n)) [] ≡ by-tests (bitFor t) n false false
+    go true = refl
+    go false = refl
 
 module _ (bs : List ℕ) (v : Point) where
   -- the tests after those of the first bytes
@@ -67,10 +73,16 @@ module _ (bs : List ℕ) (v : Point) where
       ∙ sym (settled-refused (firstOf (packedVoxelOrder bs v)) (packedValues bs v) [] [] (λ z. ne (f ∙ sym stops ∙ z)))
 
   module _ (h : Headed packedFront packedHead bs) where
-    rest : (o w : Bool) → packedOutside bs v ≡ o → packedBroken bs v ≡ w → by-tests (bitFor (solid (wayIn bs v))) (records (wayIn bs v)) o w ≡ packedVoxelOutcome bs v
+    abbrev solid : ℕ
+    solid = bitFor (solidAt (fileWalk bs v .end))
+
+    abbrev records : ℕ
+    records = length (fileWalk bs v .path)
+
+    rest : (o w : Bool) → packedOutside bs v ≡ o → packedBroken bs v ≡ w → by-tests solid records o w ≡ packedVoxelOutcome bs v
     unfolding packedVoxelOutcome
     rest o w eo ew =
-        ap₂ (by-tests (bitFor (solid (wayIn bs v))) (records (wayIn bs v))) (sym eo) (sym ew)
+        ap₂ (by-tests solid records) (sym eo) (sym ew)
         ∙ ap (λ (n : ℕ). settled n (packedValues bs v) [] []) (sym (head-goes-on packedFront packedHead bs later h))
 
     pub far-out : packedOutside bs v ≡ true → outcome (found (Refused Outside)) [] ≡ packedVoxelOutcome bs v
@@ -78,9 +90,9 @@ module _ (bs : List ℕ) (v : Point) where
     far-out o = rest true (packedBroken bs v) o refl
 
     pub bad-head : packedOutside bs v ≡ false → headOk bs ≡ false → outcome (found (Refused BrokenRules)) [] ≡ packedVoxelOutcome bs v
-    unfolding firstOf settled packedBroken wayIn
+    unfolding firstOf settled packedBroken fileWalk
     bad-head o e = rest false true o (rw e refl)
 
-    pub walked : packedOutside bs v ≡ false → (r : Reached) → r ≡ reached (wayIn bs v) → outcome (found (foundAt r)) [] ≡ packedVoxelOutcome bs v
+    pub walked : packedOutside bs v ≡ false → (r : Found) → r ≡ foundAt (endingOf (fileWalk bs v)) → outcome (found r) [] ≡ packedVoxelOutcome bs v
     unfolding packedBroken
-    walked o r e = ap (λ (x : Reached). outcome (found (foundAt x)) []) e ∙ way-found (wayIn bs v) ∙ rest false (isBroken (wayIn bs v)) o refl
+    walked o r e = ap (λ (x : Found). outcome (found x) []) e ∙ end-found (fileWalk bs v .end) records ∙ rest false (isDamaged (fileWalk bs v .end)) o refl

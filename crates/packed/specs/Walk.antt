@@ -1,57 +1,83 @@
--- The packed walk as code does it: over the lists, by numbers. It reads no coordinate anew: a voxel is seen under the
--- mirror in force, and each link's tag joins that mirror. Definitions only.
+-- The packed walk over an inner part and a leaf part, as the list starts cut them, and how code answers its end. Definitions only.
+use mathlib.Core.Path.{_≡_}
 use mathlib.Core.Bool.{Bool, true, false, cond}
 use mathlib.Core.List.{List}
-use Prim.Native.Nat.{ℕ, zero, suc, _+_}
+use Prim.Native.Nat.{ℕ, zero, suc, _+_, _-_, _%_, _≤_, _<_}
 use lib.Dec.{eqb}
-use lib.ListN.{length, getD}
-use Rattle.paper.specs.Rooms.{Point, mirror, childNo, inChild}
+use lib.ListN.{length, take, drop, getD}
+use Rattle.paper.specs.Rooms.{Point, inChild}
 use Rattle.paper.specs.Leaf.{leafVoxel}
 use Rattle.paper.specs.Outline.{edge}
-use Rattle.paper.specs.Store.{leafNo}
-use Rattle.paper.specs.Packed.{Link, noLink, linksAt, leafAt, recordOk, leafOk, Way, broken, ended}
+use Rattle.paper.specs.Store.{heights, leafNo}
+use Rattle.paper.specs.Walk.{End, damaged, absent, inLeaf, Walk, Reading, walkIn}
+use Rattle.paper.specs.Packed.{noLink, linksAt, leafAt, recordOk, leafOk}
 use Rattle.paper.specs.declared.Refusal.the-variants.{BrokenRules}
 use Rattle.paper.specs.declared.Found.{Found}
-use Rattle.paper.specs.declared.Found.the-variants.{Refused}
-use Rattle.packed.specs.declared.Reached.{Reached}
-use Rattle.packed.specs.declared.Reached.the-variants.{Broken, Solid, Empty}
-use Rattle.packed.specs.Records.{takenOk}
+use Rattle.paper.specs.declared.Found.the-variants.{Refused, Solid, Empty}
+use Rattle.packed.specs.declared.Ended.{Ended}
+use Rattle.packed.specs.declared.Ended.the-variants.{Broken, Absent, InLeaf}
+use Rattle.packed.specs.Records.{childTo}
+use Rattle.points.specs.Seeing.{seenAt}
 
--- a way as the walk answers it: broken, or solid or empty with the number of records read
-abbrev pub ends : Bool → ℕ → Reached
-ends true n = Solid n
-ends false n = Empty n
+-- ---- the lists of two parts
 
-abbrev pub reached : Way → Reached
-reached broken = Broken
-reached (ended b path) = ends b (length path)
+-- list k: it ends where the one below it starts; the leaves are a part of their own
+abbrev pub listIn : List ℕ → List ℕ → List ℕ → ℕ → List ℕ
+listIn inner leaves starts zero = leaves
+listIn inner leaves starts (suc k) = take (getD starts k 0 - getD starts (suc k) 0) (drop (getD starts (suc k) 0) inner)
 
--- the answer for the walk's end
-abbrev pub foundAt : Reached → Found
-foundAt Broken = Refused BrokenRules
-foundAt (Solid n) = Found.Solid n
-foundAt (Empty n) = Found.Empty n
+-- list by list, from the top one down, the starts lie in the inner part; the leaves are whole
+pub record Parts (inner leaves starts : List ℕ) (top : ℕ) : Type 0 where
+  pub low : top < heights
+  pub falling : (k : ℕ) → k < top → getD starts (suc k) 0 ≤ getD starts k 0
+  pub inside : getD starts 0 0 ≤ length inner
+  pub eights : length leaves % 8 ≡ 0
 
--- n records more
-abbrev pub plus : ℕ → Reached → Reached
-plus n Broken = Broken
-plus n (Solid m) = Solid (n + m)
-plus n (Empty m) = Empty (n + m)
+-- the tests on entering place p of list k
+abbrev pub entryIn : (ℕ → List ℕ) → ℕ → ℕ → Bool
+entryIn L zero p = leafOk (L 0) p
+entryIn L (suc k) p = recordOk (L (suc k)) p
 
--- broken unless the test passes
-abbrev pub if-ok : Bool → Reached → Reached
-if-ok true r = r
-if-ok false r = Broken
+-- records by place; a pointer past its list leads to what fails its test
+abbrev pub listsReading : (ℕ → List ℕ) → Reading
+listsReading L = record {
+  ok = entryIn L;
+  leaf = λ p. leafNo (leafAt (L 0) p);
+  child = λ k p i. childTo (getD (linksAt (L (suc k)) p) i noLink);
+}
 
--- at leaf p, w the voxel as the leaf sees it
-unfoldable pub leafEnd : List ℕ → ℕ → Point → Reached
-leafEnd l p w = if-ok (leafOk l p) (ends (leafVoxel (leafNo (leafAt l p)) w) 1)
+-- from the top record, seen under m, to v
+abbrev pub partsWalk : List ℕ → List ℕ → List ℕ → ℕ → ℕ → Point → Walk
+partsWalk inner leaves starts top m v = walkIn (listsReading (listIn inner leaves starts)) top 0 m (inChild (edge top) v)
 
--- from the record at place p of list k, w the voxel as the record sees it; L the lists, N their sizes
-unfoldable pub wayAt : (ℕ → List ℕ) → (ℕ → ℕ) → ℕ → ℕ → Point → Reached
-wayAt L N zero p w = leafEnd (L 0) p w
-wayAt L N (suc k) p w =
-    let q : Link = getD (linksAt (L (suc k)) p) (childNo (edge k) w) noLink in
-    let on : Reached = plus 1 (wayAt L N k (q .place) (mirror (q .tag) (edge k) (inChild (edge k) w))) in
-    let to : Reached = if-ok (takenOk (N k) q) on in
-    if-ok (recordOk (L (suc k)) p) (cond (eqb (q .code) 0) (Empty 1) to)
+-- ---- how it ends, and how many records it read
+
+pub record Ending : Type 0 where
+  pub end : End
+  pub records : ℕ
+
+abbrev pub endingOf : Walk → Ending
+endingOf w = record { end = w .end; records = length (w .path) }
+
+-- as code answers it on the way to v
+abbrev pub ending : Point → Ended → Ending
+ending v Broken = record { end = damaged; records = 0 }
+ending v (Absent h n) = record { end = absent h; records = n }
+ending v (InLeaf b m n) = record { end = inLeaf b (seenAt 0 m v); records = n }
+
+-- at leaf p seen under m, after n records
+abbrev pub leafEnding : List ℕ → ℕ → ℕ → ℕ → Ended
+leafEnding l p m n = let b : ℕ = leafNo (leafAt l p) in cond (eqb b 0) Broken (InLeaf b m (n + 1))
+
+-- the answer for it
+abbrev pub solidOr : Bool → ℕ → Found
+solidOr true n = Solid n
+solidOr false n = Empty n
+
+abbrev pub foundBy : End → ℕ → Found
+foundBy damaged n = Refused BrokenRules
+foundBy (absent h) n = Empty n
+foundBy (inLeaf b u) n = solidOr (leafVoxel b u) n
+
+abbrev pub foundAt : Ending → Found
+foundAt e = foundBy (e .end) (e .records)

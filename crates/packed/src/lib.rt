@@ -2,20 +2,19 @@
 ghost use mathlib.Core.Path.{_≡_};
 ghost use mathlib.Core.Bool.{true, false, not};
 ghost use mathlib.Core.List.{[]};
-ghost use Prim.Native.Nat.{suc, _+_, _-_, _*_, _%_, _^_, _≤_, _<_};
+ghost use Prim.Native.Nat.{_+_, _*_, _%_, _^_, _≤_, _<_};
 ghost use lib.Dec.{T};
-ghost use lib.ListN.{length, drop, getD};
+ghost use lib.ListN.{length, drop, getD, replicate};
 ghost use Rattle.paper.specs.Numbers.{num};
 ghost use Rattle.paper.specs.Rooms.{point};
 ghost use Rattle.paper.specs.Outline.{frontOk, lengthOk};
-ghost use Rattle.paper.specs.Store.{leafNo};
-ghost use Rattle.paper.specs.Packed.{packedFront, packedHead, emptyMark, rootTag, topOf, sizeAt, listAt, headOk, startsOf, halves, codesOk, headerAt, recordOk, linkOf, linksAt, noLink, codeFor, leafAt, wayIn};
+ghost use Rattle.paper.specs.Store.{leafNo, heights};
+ghost use Rattle.paper.specs.Packed.{packedFront, packedHead, topOf, tailAt, headOk, startsOf, halves, codesOk, headerAt, recordOk, linkOf, linksAt, noLink, codeFor, leafAt, fileWalk};
 ghost use Rattle.paper.specs.Answers.{outcome, found};
 ghost use Rattle.paper.specs.Calls.{packedOutside, packedVoxelOutcome};
-ghost use Rattle.packed.specs.Header.{Tested, Sized, Opens, shareAt, lastLists};
-ghost use Rattle.packed.specs.Records.{linkIs, takenOk};
-ghost use Rattle.packed.specs.Walk.{foundAt, reached, plus, leafEnd, wayAt};
-ghost use Rattle.points.specs.Seeing.{seenAt};
+ghost use Rattle.packed.specs.Header.{Tested, Sized, Opens, frontOf, laidStarts};
+ghost use Rattle.packed.specs.Records.{linkIs, headerOk, childIs, childTo, TagLow};
+ghost use Rattle.packed.specs.Walk.{Parts, ending, endingOf, foundAt, leafEnding, partsWalk};
 use limits::CHILDREN;
 use limits::DEPTH_PLACE;
 use limits::EMPTY_MARK;
@@ -40,6 +39,9 @@ use points::leaf_solid;
 use points::octant;
 use points::outside;
 
+// The starts that a word holds are below this.
+const START_SPAN: u64 = 4294967296;
+
 // The low bit of each of a header's eight codes.
 const LOW_BITS: u32 = 0x5555;
 
@@ -53,11 +55,21 @@ pub struct Pointer {
     pub place: u32,
 }
 
-// How a walk ends: broken, or solid or empty with the number of records read.
-pub enum Reached {
+// What a pointer leads to: nothing; a place that calls for the other width; with this tag, this place one list down.
+pub enum Taken {
+    None,
+    Wrong,
+    To(u32, u32),
+}
+
+// How a walk ends.
+pub enum Ended {
+    // What was entered or taken is broken.
     Broken,
-    Solid(u32),
-    Empty(u32),
+    // The child of this height is absent, after this many records.
+    Absent(u32, u32),
+    // In a leaf of these bits, seen under this mirror, after this many records, the leaf's among them.
+    InLeaf(u64, u32, u32),
 }
 
 // ---- numbers, big-endian
@@ -82,45 +94,35 @@ fn point_outside(file: &[u8], x: u32, y: u32, z: u32) -> bool
     outside(wide(file[DEPTH_PLACE]), x, y, z)
 }
 
-// The size of list k: half-words, or leaves for list 0.
-fn size(file: &[u8], k: u32) -> u32
+// Writes where each list starts, as the sizes say, from the top down; answers where the leaves end. Each size is read once; the
+// sum is a whole number that doesn't wrap, and a start that doesn't fit is cut.
+fn sized_lists(file: &[u8], out: &mut [u32; 15]) -> u64
     requires { ⌜ Sized (now file) ⌝ }
-    requires { ⌜ k ≤ topOf (now file) ⌝ }
-    ensures { λ r. ⌜ r ≡ sizeAt (now (file .entry)) k ⌝ }
+    requires { ⌜ now out ≡ replicate heights 0 ⌝ }
+    ensures { λ r. ⌜ r ≡ frontOf (now (file .entry)) + tailAt (now (file .entry)) (topOf (now (file .entry))) ⌝ }
+    ensures { λ r. ⌜ now (out .exit) ≡ laidStarts (now (file .entry)) ⌝ }
 {
     let top = wide(file[DEPTH_PLACE]) - LEAF_HEIGHT;
-    be32(file, PACKED_HEAD + 4 * ((top - k) as usize))
-}
-
-// How many bytes list k has.
-fn share(file: &[u8], k: u32) -> u64
-    requires { ⌜ Sized (now file) ⌝ }
-    requires { ⌜ k ≤ topOf (now file) ⌝ }
-    ensures { λ r. ⌜ (r ≡ shareAt (now (file .entry)) k) × (r < 2 ^ 35) ⌝ }
-{
-    let n = wider(size(file, k));
-    if k == 0 { 8 * n } else { 2 * n }
-}
-
-// How many bytes the n lists that end the file have: whole numbers that don't wrap.
-fn last_lists(file: &[u8], n: u32) -> u64
-    requires { ⌜ Sized (now file) ⌝ }
-    requires { ⌜ n ≤ suc (topOf (now file)) ⌝ }
-    ensures { λ r. ⌜ (r ≡ lastLists (now (file .entry)) n) × (r ≤ n * 2 ^ 35) ⌝ }
-{
-    let mut sum = 0u64;
-    let mut k = 0u32;
-    while k < n {
-        sum += share(file, k);
-        k += 1;
+    let mut at = PACKED_HEAD;
+    let mut start = (PACKED_HEAD + 4 * ((top + 1) as usize)) as u64;
+    let mut k = top;
+    out[k as usize] = (start % START_SPAN) as u32;
+    while 0 < k {
+        start += 2 * wider(be32(file, at));
+        at += 4;
+        k -= 1;
+        out[k as usize] = (start % START_SPAN) as u32;
     }
-    sum
+    start + 8 * wider(be32(file, at))
 }
 
-// Whether byte 6 is out of range or, unless the scene is empty, the sizes don't add up to the length.
-pub fn head_bad(file: &[u8]) -> bool
+// Whether byte 6 is out of range or, unless the scene is empty, the sizes don't add up to the length. Where they do, writes where each
+// list starts in the file, leaves first; 0 above the depth and for an empty scene.
+pub fn lists_bad(file: &[u8], out: &mut [u32; 15]) -> bool
     requires { ⌜ Tested (now file) ⌝ }
+    requires { ⌜ now out ≡ replicate heights 0 ⌝ }
     ensures { λ r. ⌜ r ≡ not (headOk (now (file .entry))) ⌝ }
+    ensures { λ r. ⌜ (r ≡ false → now (out .exit) ≡ startsOf (now (file .entry))) ⌝ }
 {
     let mark = file[MIRROR_PLACE];
     if mark == EMPTY_MARK {
@@ -130,11 +132,19 @@ pub fn head_bad(file: &[u8]) -> bool
         return true;
     }
     let lists = wide(file[DEPTH_PLACE]) - 1;
-    let front = PACKED_HEAD + 4 * (lists as usize);
-    if file.len() < front {
+    if file.len() < PACKED_HEAD + 4 * (lists as usize) {
         return true;
     }
-    front as u64 + last_lists(file, lists) != file.len() as u64
+    sized_lists(file, out) != file.len() as u64
+}
+
+// The same, with the starts left out.
+pub fn head_bad(file: &[u8]) -> bool
+    requires { ⌜ Tested (now file) ⌝ }
+    ensures { λ r. ⌜ r ≡ not (headOk (now (file .entry))) ⌝ }
+{
+    let mut out = [0u32; 15];
+    lists_bad(file, &mut out)
 }
 
 // Where each list starts in the file, leaves first; 0 above the depth and for an empty scene.
@@ -143,17 +153,7 @@ pub fn starts(file: &[u8]) -> [u32; 15]
     ensures { λ r. ⌜ r ≡ startsOf (now (file .entry)) ⌝ }
 {
     let mut out = [0u32; 15];
-    if file[MIRROR_PLACE] == EMPTY_MARK {
-        return out;
-    }
-    let lists = wide(file[DEPTH_PLACE]) - 1;
-    let mut end = file.len() as u64;
-    let mut k = 0u32;
-    while k < lists {
-        end -= share(file, k);
-        out[k as usize] = end as u32;
-        k += 1;
-    }
+    lists_bad(file, &mut out);
     out
 }
 
@@ -178,8 +178,18 @@ fn codes_bad(header: u32) -> bool
     header & (header >> 1) & LOW_BITS != 0
 }
 
-// Whether the record at a place breaks a rule: header zero, a code 3, or no room in its list.
-pub fn record_bad(list: &[u8], place: u32) -> bool
+// Whether a record of this header breaks a rule wherever it is: header zero, or a code 3.
+fn header_bad(header: u32) -> bool
+    ensures { λ r. ⌜ r ≡ not (headerOk header) ⌝ }
+{
+    if header == 0 {
+        return true;
+    }
+    codes_bad(header)
+}
+
+// Whether a record that begins at a position, which may be near its list's end, breaks a rule.
+fn last_bad(list: &[u8], place: u32) -> bool
     ensures { λ r. ⌜ r ≡ not (recordOk (now (list .entry)) place) ⌝ }
 {
     let at = HALF_BYTES * (place as usize);
@@ -187,16 +197,21 @@ pub fn record_bad(list: &[u8], place: u32) -> bool
         return true;
     }
     let header = two(list, at);
-    if header == 0 {
+    if header_bad(header) {
         return true;
-    }
-    if codes_bad(header) {
-        return true;
-    }
-    if at + LONGEST <= list.len() {
-        return false;
     }
     list.len() < at + HALF_BYTES * (halves(CHILDREN, header) as usize)
+}
+
+// Whether the record at a place breaks a rule: header zero, a code 3, or no room in its list.
+pub fn record_bad(list: &[u8], place: u32) -> bool
+    ensures { λ r. ⌜ r ≡ not (recordOk (now (list .entry)) place) ⌝ }
+{
+    let at = HALF_BYTES * (place as usize);
+    if list.len() < at + LONGEST {
+        return last_bad(list, place);
+    }
+    header_bad(two(list, at))
 }
 
 // The half-words of a record that keeps its rules: its header's and those of its pointers.
@@ -254,14 +269,38 @@ pub fn code_for(place: u32) -> u32
     if place <= FARTHEST_SHORT { 1 } else { 2 }
 }
 
-// Whether a pointer leads outside a list of this size, or has the other width.
-fn taken_bad(size: u32, taken: Pointer) -> bool
-    ensures { λ r. ⌜ r ≡ not (takenOk size (linkIs taken)) ⌝ }
+// What the pointer of this code whose bytes begin at a position leads to.
+fn child_from(list: &[u8], from: usize, code: u32) -> Taken
+    requires { ⌜ (code < 3) × (from + 2 * code ≤ length (now list)) ⌝ }
+    ensures { λ r. ⌜ childIs r ≡ childTo (linkOf code (num (2 * code) (drop from (now (list .entry))))) ⌝ }
+    ensures { λ r. ⌜ TagLow r ⌝ }
 {
-    if size <= taken.place {
-        return true;
+    if code == 0 {
+        return Taken::None;
     }
-    taken.code != code_for(taken.place)
+    if code == 1 {
+        let short = two(list, from);
+        return Taken::To(short / SHORT_PLACES, short % SHORT_PLACES);
+    }
+    let long = be32(list, from);
+    let place = long % LONG_PLACES;
+    if code_for(place) == 1 {
+        return Taken::Wrong;
+    }
+    Taken::To(long / LONG_PLACES, place)
+}
+
+// What child i of the record at a place is.
+fn child(list: &[u8], place: u32, i: u32) -> Taken
+    requires { ⌜ T (recordOk (now list) place) ⌝ }
+    requires { ⌜ i < 8 ⌝ }
+    ensures { λ r. ⌜ childIs r ≡ childTo (getD (linksAt (now (list .entry)) place) i noLink) ⌝ }
+    ensures { λ r. ⌜ TagLow r ⌝ }
+{
+    let at = HALF_BYTES * (place as usize);
+    let header = two(list, at);
+    let from = at + HALF_BYTES * (halves(i, header) as usize);
+    child_from(list, from, (header >> (2 * i)) % 4)
 }
 
 // The leaf of number `place` in the list of leaves, 0 where there is none.
@@ -279,80 +318,102 @@ pub fn leaf(leaves: &[u8], place: u32) -> u64
 // ---- the walk
 
 // How the walk ends in a leaf, after `read` records; the leaf is one more.
-fn in_leaf(leaves: &[u8], place: u32, mirror: u32, x: u32, y: u32, z: u32, read: u32) -> Reached
+fn in_leaf(leaves: &[u8], place: u32, mirror: u32, read: u32) -> Ended
     requires { ⌜ length (now leaves) % 8 ≡ 0 ⌝ }
     requires { ⌜ read < 16 ⌝ }
-    ensures { λ r. ⌜ r ≡ plus read (leafEnd (now (leaves .entry)) place (seenAt 0 mirror (point x y z))) ⌝ }
+    ensures { λ r. ⌜ r ≡ leafEnding (now (leaves .entry)) place mirror read ⌝ }
 {
     let bits = leaf(leaves, place);
     if bits == 0 {
-        return Reached::Broken;
+        return Ended::Broken;
     }
-    if leaf_solid(bits, mirror, x, y, z) {
-        return Reached::Solid(read + 1);
-    }
-    Reached::Empty(read + 1)
+    Ended::InLeaf(bits, mirror, read + 1)
 }
 
-// The walk from the root, list by list, counting the records read: each list starts where the one above it ends. Each size is
-// read once.
-fn walk(file: &[u8], x: u32, y: u32, z: u32) -> Reached
-    requires { ⌜ Opens (now file) ⌝ }
-    requires { ⌜ (rootTag (now file) ≡ emptyMark → ⊥) ⌝ }
-    ensures { λ r. ⌜ r ≡ wayAt (listAt (now (file .entry))) (sizeAt (now (file .entry))) (topOf (now (file .entry))) 0 (seenAt (topOf (now (file .entry))) (rootTag (now (file .entry))) (point x y z)) ⌝ }
+// The walk from the top record, list by list, counting the records read. `starts` says where each list lies in the inner part, which
+// ends with list 1; a pointer past its list is found out where it leads.
+pub fn walk(
+    inner: &[u8],
+    leaves: &[u8],
+    starts: [u32; 15],
+    top: u32,
+    mirror: u32,
+    x: u32,
+    y: u32,
+    z: u32,
+) -> Ended
+    requires { ⌜ Parts (now inner) (now leaves) starts top ⌝ }
+    requires { ⌜ mirror < 8 ⌝ }
+    ensures { λ r. ⌜ ending (point x y z) r ≡ endingOf (partsWalk (now (inner .entry)) (now (leaves .entry)) starts top mirror (point x y z)) ⌝ }
 {
-    let top = wide(file[DEPTH_PLACE]) - LEAF_HEIGHT;
     let mut k = top;
-    let mut start = PACKED_HEAD + 4 * ((top + 1) as usize);
-    let mut here = size(file, top);
+    let mut start = starts[k as usize] as usize;
     let mut place = 0u32;
-    let mut mirror = wide(file[MIRROR_PLACE]);
+    let mut seen = mirror;
     let mut records = 0u32;
     while 0 < k {
-        let end = start + HALF_BYTES * (here as usize);
-        let list = &file[start..end];
+        let end = starts[(k - 1) as usize] as usize;
+        let list = &inner[start..end];
         if record_bad(list, place) {
-            return Reached::Broken;
+            return Ended::Broken;
         }
         records += 1;
-        let taken = pointer_at(list, place, octant(k - 1, x, y, z) ^ mirror);
-        if taken.code == 0 {
-            return Reached::Empty(records);
+        let taken = child(list, place, octant(k - 1, x, y, z) ^ seen);
+        match taken {
+            Taken::None => {
+                return Ended::Absent(k + 1, records);
+            }
+            Taken::Wrong => {
+                return Ended::Broken;
+            }
+            Taken::To(tag, to) => {
+                place = to;
+                seen = tag ^ seen;
+            }
         }
-        here = size(file, k - 1);
-        if taken_bad(here, taken) {
-            return Reached::Broken;
-        }
-        place = taken.place;
-        mirror = taken.tag ^ mirror;
         start = end;
         k -= 1;
     }
-    let leaves = &file[start..];
-    in_leaf(leaves, place, mirror, x, y, z, records)
-}
-
-// The walk to a point inside; an empty scene reads nothing.
-fn way_in(file: &[u8], x: u32, y: u32, z: u32) -> Reached
-    requires { ⌜ Opens (now file) ⌝ }
-    requires { ⌜ packedOutside (now file) (point x y z) ≡ false ⌝ }
-    ensures { λ r. ⌜ r ≡ reached (wayIn (now (file .entry)) (point x y z)) ⌝ }
-{
-    if file[MIRROR_PLACE] == EMPTY_MARK {
-        return Reached::Empty(0);
-    }
-    walk(file, x, y, z)
+    in_leaf(leaves, place, seen, records)
 }
 
 // A walk's end as an answer.
-fn answer(end: Reached) -> Found
-    ensures { λ r. ⌜ r ≡ foundAt end ⌝ }
+fn answer(end: Ended, x: u32, y: u32, z: u32) -> Found
+    ensures { λ r. ⌜ r ≡ foundAt (ending (point x y z) end) ⌝ }
 {
     match end {
-        Reached::Broken => Found::Refused(Refusal::BrokenRules),
-        Reached::Solid(n) => Found::Solid(n),
-        Reached::Empty(n) => Found::Empty(n),
+        Ended::Broken => Found::Refused(Refusal::BrokenRules),
+        Ended::Absent(height, n) => Found::Empty(n),
+        Ended::InLeaf(bits, mirror, n) => {
+            if leaf_solid(bits, mirror, x, y, z) {
+                Found::Solid(n)
+            } else {
+                Found::Empty(n)
+            }
+        }
     }
+}
+
+// The walk to a point inside a file whose lists start here; an empty scene reads nothing.
+fn found_in(file: &[u8], starts: [u32; 15], x: u32, y: u32, z: u32) -> Found
+    requires { ⌜ Opens (now file) ⌝ }
+    requires { ⌜ starts ≡ startsOf (now file) ⌝ }
+    requires { ⌜ packedOutside (now file) (point x y z) ≡ false ⌝ }
+    ensures { λ r. ⌜ r ≡ foundAt (endingOf (fileWalk (now (file .entry)) (point x y z))) ⌝ }
+{
+    let mark = file[MIRROR_PLACE];
+    if mark == EMPTY_MARK {
+        return Found::Empty(0);
+    }
+    let last = starts[0] as usize;
+    let leaves = &file[last..];
+    let top = wide(file[DEPTH_PLACE]) - LEAF_HEIGHT;
+    answer(
+        walk(file, leaves, starts, top, wide(mark), x, y, z),
+        x,
+        y,
+        z,
+    )
 }
 
 // Packed voxel: whether a point is solid, with the number of records read; refused by 3, 4, 5, 10, 6.
@@ -366,20 +427,22 @@ pub fn packed_voxel(file: &[u8], x: u32, y: u32, z: u32) -> Found
     if point_outside(file, x, y, z) {
         return Found::Refused(Refusal::Outside);
     }
-    if head_bad(file) {
+    let mut starts = [0u32; 15];
+    if lists_bad(file, &mut starts) {
         return Found::Refused(Refusal::BrokenRules);
     }
-    answer(way_in(file, x, y, z))
+    found_in(file, starts, x, y, z)
 }
 
-// The same for a file whose header is tested: refused by 10, 6.
-pub fn voxel_in(file: &[u8], x: u32, y: u32, z: u32) -> Found
+// The same for a file whose header is tested and whose lists start here: refused by 10, 6.
+pub fn voxel_in(file: &[u8], starts: [u32; 15], x: u32, y: u32, z: u32) -> Found
     requires { ⌜ Opens (now file) ⌝ }
     requires { ⌜ (frontOk packedFront (now file) ≡ true) × (lengthOk packedHead (now file) ≡ true) ⌝ }
+    requires { ⌜ starts ≡ startsOf (now file) ⌝ }
     ensures { λ r. ⌜ outcome (found r) [] ≡ packedVoxelOutcome (now (file .entry)) (point x y z) ⌝ }
 {
     if point_outside(file, x, y, z) {
         return Found::Refused(Refusal::Outside);
     }
-    answer(way_in(file, x, y, z))
+    found_in(file, starts, x, y, z)
 }

@@ -1,36 +1,96 @@
--- `opened::ask_bytes` meets its contract: 6 where the bytes don't open to the numbers, else the packed voxel's answer.
--- By the law that a question on bytes that open to their numbers is the packed voxel's. Assumes nothing.
-use mathlib.Core.Path.{_≡_, sym, _∙_}
-use mathlib.Core.Bool.{true}
+-- `opened::ask_bytes` meets its contract: 6 where the bytes don't open to the numbers, by the first bytes, the depth, the sizes or the starts, else the
+-- packed voxel's answer. By the law that a question on bytes that open to their numbers is the packed voxel's. Assumes nothing.
+use mathlib.Core.Path.{_≡_, sym, _∙_, ap}
+use mathlib.Core.Bool.{true, false, not}
+use mathlib.Core.List.{List, [], _∷_}
+use Prim.Native.Nat.{ℕ}
 use native.Mathlib.Omega.{arith}
 use borrow.Author.Tests.{not-true, not-false}
-use Rattle.paper.specs.Rooms.{point}
-use Rattle.paper.specs.Calls.{opensTo}
+use Rattle.paper.specs.Numbers.{sameList}
+use Rattle.paper.specs.Rooms.{Point, point}
+use Rattle.paper.specs.Packed.{packedFront, packedHead, headOk, startsOf}
+use Rattle.paper.specs.Order.{when, firstOf}
+use Rattle.paper.specs.Calls.{openOrder, opensTo}
 use Rattle.laws.proofs.OpenClaim.{opens-ask}
-use Rattle.opened.proofs.Openings.{opens, opens-front, opens-number, ask-refused}
+use Rattle.outline.proofs.HeadTests.{Headed, headed, head-stops, refused-by-6, accepted}
+use Rattle.packed.specs.Header.{Tested}
+use Rattle.packed.proofs.Ways.{tested}
+use Rattle.opened.proofs.Openings.{opens, opens-front, not-open, other-depth, starts-decide, ask-refused}
 use borrow.Author.Needs.{needs}
 use Rattle.opened.proofs.ask_bytes.Statement.{statement}
 use Rattle.opened.proofs.ask_bytes.Tie as tie
 
+abbrev spot : tie.Start → Point
+spot s = point (s .args .x) (s .args .y) (s .args .z)
+
 returns : tie.Need-returns
 returns c =
-    let a = c .before .before .before .args in
-    ask-refused (a .bytes .now) (a .depth) (a .starts) (point (a .x) (a .y) (a .z)) (not-true (opensTo (a .bytes .now) (a .depth) (a .starts)) (sym (c .before .opens-bad .ensures) ∙ c .if1 .taken))
-
--- the bytes open to the numbers
-to-numbers : (c : tie.Else1) → (let a = c .before .before .before .args in opensTo (a .bytes .now) (a .depth) (a .starts) ≡ true)
-to-numbers c = let a = c .before .before .before .args in not-false (opensTo (a .bytes .now) (a .depth) (a .starts)) (sym (c .before .opens-bad .ensures) ∙ c .if1 .left)
-
-voxel-in-requires : tie.Need-voxel-in-requires
-voxel-in-requires c κs =
     let s = c .before .before .before in
-    let e = opens-number (s .args .bytes .now) (s .args .starts) (s .args .depth) (to-numbers c) in
-    (opens (s .args .bytes .now) e (λ i. omega (arith, c .before .before .shared-slice-known .given i)), opens-front (s .args .bytes .now) e)
+    let file = s .args .bytes .now in
+    let n = c .before .head-number in
+    let stops : firstOf (openOrder file) ≡ n .result = head-stops packedFront packedHead file (when (not (headOk file)) 6 ∷ []) (λ z. c .if1 .taken (n .ensures ∙ z)) ∙ sym (n .ensures) in
+    ask-refused file (s .args .depth) (s .args .starts) (spot s) (not-open file (s .args .depth) (s .args .starts) (λ z. c .if1 .taken (sym stops ∙ z)))
+
+-- the first bytes are good
+known : (c : tie.Else1) → Headed packedFront packedHead (c .before .before .before .args .bytes .now)
+known c = headed packedFront packedHead (c .before .before .before .args .bytes .now) [] (sym (c .before .head-number .ensures) ∙ omega (arith, c .if1 .left))
+
+is-tested : (c : tie.Else1) → Tested (c .before .before .before .args .bytes .now)
+is-tested c = tested (c .before .before .before .args .bytes .now) (λ i. omega (arith, c .before .before .shared-slice-known .given i)) (known c)
 
 returns-2 : tie.Need-returns-2
 returns-2 c =
-    let a = c .before .before .before .before .args in
-    c .voxel-in .ensures ∙ sym (opens-ask (a .bytes .now) (a .starts) (a .depth) (point (a .x) (a .y) (a .z)) (to-numbers (c .before)))
+    let s = c .before .before .before .before .before in
+    ask-refused (s .args .bytes .now) (s .args .depth) (s .args .starts) (spot s) (other-depth (s .args .bytes .now) (s .args .depth) (s .args .starts) (λ q. c .if2 .taken (c .before .depth .ensures ∙ q)))
+
+returns-3 : tie.Need-returns-3
+returns-3 c =
+    let e = c .before .before .before .before .before in
+    let s = e .before .before .before in
+    let file = s .args .bytes .now in
+    let six : firstOf (openOrder file) ≡ 6 = refused-by-6 packedFront packedHead file (not (headOk file)) (known e) (sym (c .before .lists-bad .ensures .0) ∙ c .if3 .taken) in
+    ask-refused file (s .args .depth) (s .args .starts) (spot s) (not-open file (s .args .depth) (s .args .starts) (λ z. omega (arith, six, z)))
+
+-- the opening is not refused, and the starts decide
+opening : (c : tie.Else3) → firstOf (openOrder (c .before .before .before .before .before .before .before .before .args .bytes .now)) ≡ 0
+opening c =
+    let e = c .before .before .before .before .before in
+    let file = e .before .before .before .args .bytes .now in
+    accepted packedFront packedHead file (not (headOk file)) (known e) (sym (c .before .lists-bad .ensures .0) ∙ c .if3 .left)
+
+decided : (c : tie.Else3)
+    → let s = c .before .before .before .before .before .before .before .before in opensTo (s .args .bytes .now) (s .args .depth) (s .args .starts) ≡ sameList (startsOf (s .args .bytes .now)) (s .args .starts)
+decided c =
+    let s = c .before .before .before .before .before .before .before .before in
+    starts-decide (s .args .bytes .now) (s .args .depth) (s .args .starts) (opening c) (sym (c .before .before .before .before .depth .ensures) ∙ c .before .before .before .if2 .left)
+
+returns-4 : tie.Need-returns-4
+returns-4 c =
+    let d = c .before .before in
+    let s = d .before .before .before .before .before .before .before .before in
+    ask-refused (s .args .bytes .now) (s .args .depth) (s .args .starts) (spot s)
+    (decided d ∙ ap (λ (l : List ℕ). sameList l (s .args .starts)) (sym (d .before .lists-bad .ensures .1 (d .if3 .left))) ∙ not-true _ (sym (c .before .differ .ensures) ∙ c .if4 .taken))
+
+-- the bytes open to the numbers
+to-numbers : (c : tie.Else4) → let s = c .before .before .before .before .before .before .before .before .before .before in opensTo (s .args .bytes .now) (s .args .depth) (s .args .starts) ≡ true
+to-numbers c =
+    let d = c .before .before in
+    let s = d .before .before .before .before .before .before .before .before in
+    decided d ∙ ap (λ (l : List ℕ). sameList l (s .args .starts)) (sym (d .before .lists-bad .ensures .1 (d .if3 .left))) ∙ not-false _ (sym (c .before .differ .ensures) ∙ c .if4 .left)
+
+voxel-in-requires : tie.Need-voxel-in-requires
+voxel-in-requires c κs =
+    let d = c .before .before in
+    let u = d .before .before .before .before .before .before .before in
+    let file = u .before .args .bytes .now in
+    (opens file (opening d) (λ i. omega (arith, u .shared-slice-known .given i)), (opens-front file (opening d), d .before .lists-bad .ensures .1 (d .if3 .left)))
+
+returns-5 : tie.Need-returns-5
+returns-5 c =
+    let s = c .before .before .before .before .before .before .before .before .before .before .before in
+    c .voxel-in .ensures ∙ sym (opens-ask (s .args .bytes .now) (s .args .starts) (s .args .depth) (spot s) (to-numbers (c .before)))
 
 pub ask-bytes-spec : {M : Type 1} → statement M
-ask-bytes-spec = tie.close (tie.spec (λ c κs. search needs) returns voxel-in-requires returns-2)
+ask-bytes-spec =
+    tie.close
+    (tie.spec (λ c κs. search needs) returns (λ c κs. omega (arith, is-tested c .long)) returns-2 (λ c κs. (is-tested (c .before .before .before), search needs)) returns-3 (λ c κs. search needs) returns-4 voxel-in-requires returns-5)

@@ -1,6 +1,6 @@
 -- `packed::packed_voxel` meets its contract: each test refuses by its number, in document 01's order, and the walk's end is the answer.
 -- By the ways through the question, and the callees' promises. Assumes nothing.
-use mathlib.Core.Path.{_≡_, sym, _∙_, ap}
+use mathlib.Core.Path.{_≡_, sym, _∙_}
 use mathlib.Core.Bool.{false}
 use mathlib.Core.List.{[]}
 use native.Mathlib.Omega.{arith}
@@ -8,11 +8,9 @@ use borrow.Author.Tests.{not-true, not-false}
 use Rattle.paper.specs.Rooms.{Point, point}
 use Rattle.paper.specs.Packed.{packedFront, packedHead, headOk}
 use Rattle.paper.specs.Calls.{packedOutside}
-use Rattle.paper.specs.Answers.{outcome, found}
-use Rattle.paper.specs.declared.Found.{Found}
 use Rattle.laws.proofs.Tests.{true-T}
 use Rattle.outline.proofs.HeadTests.{Headed, headed, head-range}
-use Rattle.packed.specs.Header.{Tested}
+use Rattle.packed.specs.Header.{Tested, Opens}
 use Rattle.packed.proofs.Ways.{tested, bad-bytes, far-out, bad-head, walked}
 use borrow.Author.Needs.{needs}
 use Rattle.packed.proofs.packed_voxel.Statement.{statement}
@@ -52,29 +50,29 @@ returns-2 c =
 
 returns-3 : tie.Need-returns-3
 returns-3 c =
-    let o = c .before .before in
+    let o = c .before .before .before in
     let e = o .before .before in
     let s = e .before .before .before in
-    bad-head (s .args .file .now) (spot s) (known e) (inside-ok o) (not-true (headOk (s .args .file .now)) (sym (c .before .head-bad .ensures) ∙ c .if3 .taken))
+    bad-head (s .args .file .now) (spot s) (known e) (inside-ok o) (not-true (headOk (s .args .file .now)) (sym (c .before .lists-bad .ensures .0) ∙ c .if3 .taken))
 
-way-in-requires : tie.Need-way-in-requires
-way-in-requires c κs =
-    let o = c .before .before in
-    let e = o .before .before in
+-- the file opens
+file-opens : (c : tie.Else3) → Opens (c .before .before .before .before .before .before .before .before .args .file .now)
+file-opens c =
+    let e = c .before .before .before .before .before in
     let file = e .before .before .before .args .file .now in
-    (record { tested = is-tested e; head = true-T (not-false (headOk file) (sym (c .before .head-bad .ensures) ∙ c .if3 .left)) }, inside-ok o)
+    record { tested = is-tested e; head = true-T (not-false (headOk file) (sym (c .before .lists-bad .ensures .0) ∙ c .if3 .left)) }
+
+found-in-requires : tie.Need-found-in-requires
+found-in-requires c κs = (file-opens c, (c .before .lists-bad .ensures .1 (c .if3 .left), inside-ok (c .before .before .before)))
 
 returns-4 : tie.Need-returns-4
 returns-4 c =
-    let r = c .before .way-in in
     let o = c .before .before .before .before in
     let e = o .before .before in
     let s = e .before .before .before in
-    ap (λ (f : Found). outcome (found f) []) (c .answer .ensures)
-    ∙ walked (s .args .file .now) (spot s) (known e) (inside-ok o) (r .result) (r .ensures)
+    walked (s .args .file .now) (spot s) (known e) (inside-ok o) (c .found-in .result) (c .found-in .ensures)
 
 pub packed-voxel-spec : {M : Type 1} → statement M
 packed-voxel-spec =
     tie.close
-    (tie.spec (λ c κs. search needs) file-refusal-requires returns (λ c κs. is-tested c) returns-2 (λ c κs. is-tested (c .before .before)) returns-3 way-in-requires (λ c κs. search needs)
-    returns-4)
+    (tie.spec (λ c κs. search needs) file-refusal-requires returns (λ c κs. is-tested c) returns-2 (λ c κs. (is-tested (c .before .before .before), search needs)) returns-3 found-in-requires returns-4)

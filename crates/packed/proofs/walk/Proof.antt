@@ -1,6 +1,6 @@
 -- `packed::walk` meets its contract. The invariant: list k starts where the code says, and the walk from the record at hand, with the records counted
 -- so far, ends as the whole walk does; each way through a turn is a law of the walk by numbers. The measure is k. Assumes nothing.
-use mathlib.Core.Path.{_≡_, sym, ap, ap₂, _∙_}
+use mathlib.Core.Path.{_≡_, refl, sym, ap, ap₂, subst, _∙_}
 use mathlib.Core.Bool.{true}
 use mathlib.Core.List.{List}
 use Prim.Native.Nat.{ℕ, _+_, _-_, _*_, _%_, _<_, _≤_}
@@ -8,184 +8,148 @@ use native.Mathlib.Omega.{arith}
 use borrow.Author.Tests.{not-true, not-false}
 use lib.Bits.{bitXor}
 use lib.ListN.{length, take, drop, getD}
-use Rattle.paper.specs.Rooms.{Point, point}
-use Rattle.paper.specs.Packed.{noLink, linksAt, recordOk, rootTag, topOf, sizeAt, tailAt, startAt, listAt}
+use Rattle.paper.specs.Rooms.{Point, point, inChild}
+use Rattle.paper.specs.Outline.{edge}
+use Rattle.paper.specs.Packed.{noLink, linksAt, recordOk}
 use Rattle.laws.proofs.Eight.{xor8-lt}
 use Rattle.laws.proofs.Tests.{true-T}
-use Rattle.packed.specs.declared.Reached.{Reached}
-use Rattle.packed.specs.Header.{frontOf, Sized}
-use Rattle.packed.specs.Records.{linkIs, takenOk}
-use Rattle.packed.specs.Walk.{plus, leafEnd, wayAt}
+use Rattle.packed.specs.Records.{childIs, childTo, TagLow}
+use Rattle.packed.specs.Walk.{Ending, endingOf, ending, listIn, partsWalk}
 use Rattle.points.specs.Seeing.{seenAt, octant}
-use Rattle.packed.proofs.Header.{sizes-sum}
-use Rattle.packed.proofs.Lists.{start-top, start-next, start-in, list-cut, leaves-cut, leaves-eights, root-mirror}
-use Rattle.packed.proofs.Steps.{plus-none, way-broken, way-absent, way-astray, way-on, leaves-end}
+use Rattle.packed.proofs.Steps.{plus, wayAt, way-read, way-zero, way-broken, way-absent, way-wrong, way-on, leaves-end}
+use Rattle.packed.proofs.Lists.{falls, starts-inside, list-part}
 use borrow.Author.Needs.{needs}
 use Rattle.packed.proofs.walk.Statement.{statement}
 use Rattle.packed.proofs.walk.Tie as tie
 
 -- the walk from the record at place p of list k, seen under m
-abbrev from : List ℕ → ℕ → ℕ → ℕ → Point → Reached
-from bs k p m v = wayAt (listAt bs) (sizeAt bs) k p (seenAt k m v)
+abbrev from : List ℕ → List ℕ → List ℕ → ℕ → ℕ → ℕ → Point → Ending
+from inner leaves starts k p m v = wayAt (listIn inner leaves starts) k p (seenAt k m v)
 
 abbrev Inv-loop : tie.InvT-loop
-Inv-loop file x y z top k₀ start₀ here₀ place₀ mirror₀ records₀ k start here place mirror records =
-    (top ≡ topOf file) × (records + k ≡ top) × (mirror < 8) × (start ≡ startAt file k)
-    × (plus records (from file k place mirror (point x y z)) ≡ from file (topOf file) 0 (rootTag file) (point x y z)) × (here ≡ sizeAt file k) × (here < 4294967296)
+Inv-loop inner leaves top mirror x y z starts k₀ start₀ place₀ seen₀ records₀ k start place seen records =
+    (records + k ≡ top) × (seen < 8) × (start ≡ getD starts k 0)
+    × (plus records (from inner leaves starts k place seen (point x y z)) ≡ from inner leaves starts top 0 mirror (point x y z))
 
 abbrev μ-loop : tie.MeasureT-loop
-μ-loop file x y z top k₀ start₀ here₀ place₀ mirror₀ records₀ k start here place mirror records = k
+μ-loop inner leaves top mirror x y z starts k₀ start₀ place₀ seen₀ records₀ k start place seen records = k
 
 abbrev spot : tie.Start Inv-loop μ-loop → Point
 spot s = point (s .args .x) (s .args .y) (s .args .z)
 
--- the sizes add up
-total : (s : tie.Start Inv-loop μ-loop) → frontOf (s .args .file .now) + tailAt (s .args .file .now) (topOf (s .args .file .now)) ≡ length (s .args .file .now)
-total s = sizes-sum (s .args .file .now) (s .pre .0 .head) (s .pre .1)
-
-sized : (s : tie.Start Inv-loop μ-loop) → Sized (s .args .file .now)
-sized s = record { deep = s .pre .0 .tested .deep; flat = s .pre .0 .tested .flat; room = omega (arith, total s) }
-
-size-requires : tie.Need-size-requires Inv-loop μ-loop
-size-requires c κs = (sized (c .before .before .before), omega (arith, c .wide .ensures .0))
+-- the lists that the parts and the starts say
+abbrev L : tie.Start Inv-loop μ-loop → ℕ → List ℕ
+L s = listIn (s .args .inner .now) (s .args .leaves .now) (s .args .t3)
 
 loop-holds : tie.Need-loop-holds Inv-loop μ-loop
 loop-holds c =
-    let s = c .before .before .before .before .before .before in
-    let bs = s .args .file .now in
-    let t = c .before .before .before .wide .result - 2 in
-    let e : t ≡ topOf bs = ap (λ (n : ℕ). n - 2) (c .before .before .before .wide .ensures .0) in
-    let f : 7 + 4 * (t + 1) ≡ frontOf bs = omega (arith, e) in
-    let m = c .wide2 in (
-      e,
-      omega arith,
-      omega (arith, m .ensures .0, root-mirror bs (s .pre .0 .head) (s .pre .1)),
-      f ∙ start-top bs (total s) ∙ ap (startAt bs) (sym e),
-      plus-none (from bs t 0 (m .result) (spot s)) ∙ ap₂ (λ (k n : ℕ). from bs k 0 n (spot s)) e (m .ensures .0),
-      c .before .before .size .ensures,
-      omega arith,
-    )
+    let s = c .before .before in
+    (omega arith, s .pre .1, refl, way-zero (L s) (s .args .top) 0 (seenAt (s .args .top) (s .args .mirror) (spot s)))
 
--- the list's end is the next list's start
-next : (c : tie.In-loop Inv-loop μ-loop) → let l = c .before .loop in l .start + 2 * c .before .loop .here ≡ startAt (c .before .before .before .before .before .before .before .before .args .file .now) (l .k - 1)
-next c =
-    let s = c .before .before .before .before .before .before .before .before in
+-- in a turn: the list is one of the parts'
+low : (c : tie.In-loop Inv-loop μ-loop) → c .before .loop .k ≤ c .before .before .before .before .args .top
+low c = omega (arith, c .before .loop .inv .0)
+
+-- it ends where the one below it starts
+abbrev end : (c : tie.In-loop Inv-loop μ-loop) → ℕ
+end c = getD (c .before .before .before .before .args .t3) (c .before .loop .k - 1) 0
+
+falls-here : (c : tie.In-loop Inv-loop μ-loop) → c .before .loop .start ≤ end c
+falls-here c =
+    let s = c .before .before .before .before in
     let l = c .before .loop in
-    ap₂ (λ (a b : ℕ). a + 2 * b) (l .inv .3) (c .before .loop .inv .5) ∙ start-next (s .args .file .now) (total s) (l .k) (c .loop-test .taken) (omega (arith, l .inv .0, l .inv .1))
+    omega (arith, l .inv .2, falls (s .args .inner .now) (s .args .leaves .now) (s .args .t3) (s .args .top) (s .pre .0) (l .k) (c .loop-test .taken) (low c))
 
-end-in : (c : tie.In-loop Inv-loop μ-loop) → c .before .loop .start + 2 * c .before .loop .here ≤ length (c .before .before .before .before .before .before .before .before .args .file .now)
-end-in c = let s = c .before .before .before .before .before .before .before .before in omega (arith, next c, start-in (s .args .file .now) (total s) (c .before .loop .k - 1))
+end-inside : (c : tie.In-loop Inv-loop μ-loop) → end c ≤ length (c .before .before .before .before .args .inner .now)
+end-inside c =
+    let s = c .before .before .before .before in
+    starts-inside (s .args .inner .now) (s .args .leaves .now) (s .args .t3) (s .args .top) (s .pre .0) (c .before .loop .k - 1) (omega (arith, low c))
 
--- the list cut is list k
 abbrev cut : tie.In-loop Inv-loop μ-loop → List ℕ
-cut c = let l = c .before .loop in take (l .start + 2 * c .before .loop .here - l .start) (drop (l .start) (c .before .before .before .before .before .before .before .before .args .file .now))
+cut c = let l = c .before .loop in take (end c - l .start) (drop (l .start) (c .before .before .before .before .args .inner .now))
 
-list-is : (c : tie.In-loop Inv-loop μ-loop) → cut c ≡ listAt (c .before .before .before .before .before .before .before .before .args .file .now) (c .before .loop .k)
+list-is : (c : tie.In-loop Inv-loop μ-loop) → cut c ≡ L (c .before .before .before .before) (c .before .loop .k)
 list-is c =
-    let s = c .before .before .before .before .before .before .before .before in
+    let s = c .before .before .before .before in
     let l = c .before .loop in
-    list-cut (s .args .file .now) (total s) (l .k) (l .start) (c .before .loop .here) (c .loop-test .taken) (l .inv .3) (c .before .loop .inv .5)
+    list-part (s .args .inner .now) (s .args .leaves .now) (s .args .t3) (s .args .top) (s .pre .0) (l .k) (l .start) (end c) (c .loop-test .taken) (l .inv .2) refl
+
+-- the whole walk, as the contract says it
+whole : (s : tie.Start Inv-loop μ-loop) → wayAt (L s) (s .args .top) 0 (seenAt (s .args .top) (s .args .mirror) (spot s)) ≡ endingOf (partsWalk (s .args .inner .now) (s .args .leaves .now) (s .args .t3) (s .args .top) (s .args .mirror) (spot s))
+whole s = sym (way-read (L s) (s .args .top) 0 (s .args .mirror) (inChild (edge (s .args .top)) (spot s)))
 
 returns : tie.Need-returns Inv-loop μ-loop
 returns c =
-    let s = c .before .before .before .before .before .before .before .before .before .before .before in
-    let bs = s .args .file .now in
+    let s = c .before .before .before .before .before .before .before in
     let l = c .before .before .before .before .loop in
     let z = c .before .before .before in
-    way-broken (listAt bs) (sizeAt bs) (l .place) (l .mirror) (spot s) (l .inv .2) (l .records) (l .k) (c .before .before .before .loop-test .taken)
+    way-broken (L s) (l .place) (l .seen) (spot s) (l .inv .1) (l .records) (l .k) (z .loop-test .taken)
     (ap (λ (i : List ℕ). recordOk i (l .place)) (sym (list-is z)) ∙ not-true (recordOk (cut z) (l .place)) (sym (c .before .record-bad .ensures) ∙ c .if1 .taken))
-    ∙ l .inv .4
+    ∙ l .inv .3 ∙ whole s
 
 -- the record is good
 good : (c : tie.Else1 Inv-loop μ-loop) → recordOk (cut (c .before .before .before)) (c .before .before .before .before .loop .place) ≡ true
 good c = not-false (recordOk (cut (c .before .before .before)) (c .before .before .before .before .loop .place)) (sym (c .before .record-bad .ensures) ∙ c .if1 .left)
 
-good-list : (c : tie.Else1 Inv-loop μ-loop) → recordOk (listAt (c .before .before .before .before .before .before .before .before .before .before .before .args .file .now) (c .before .before .before .before .loop .k)) (c .before .before .before .before .loop .place) ≡ true
+good-list : (c : tie.Else1 Inv-loop μ-loop) → recordOk (L (c .before .before .before .before .before .before .before) (c .before .before .before .before .loop .k)) (c .before .before .before .before .loop .place) ≡ true
 good-list c = ap (λ (i : List ℕ). recordOk i (c .before .before .before .before .loop .place)) (sym (list-is (c .before .before .before))) ∙ good c
 
-pointer-at-requires : tie.Need-pointer-at-requires Inv-loop μ-loop
-pointer-at-requires c κs = let l = c .before .before .before .before .before .loop in (true-T (good (c .before)), xor8-lt (c .octant .result) (l .mirror) (c .octant .ensures .1) (l .inv .2))
+child-requires : tie.Need-child-requires Inv-loop μ-loop
+child-requires c κs = let l = c .before .before .before .before .before .loop in (true-T (good (c .before)), xor8-lt (c .octant .result) (l .seen) (c .octant .ensures .1) (l .inv .1))
 
--- the pointer read is the one that the walk takes
-taken : (c : tie.After-pointer-at Inv-loop μ-loop) → let s = c .before .before .before .before .before .before .before .before .before .before .before .before .before in let l = c .before .before .before .before .before .before .loop in
-    linkIs (c .pointer-at .result) ≡ getD (linksAt (listAt (s .args .file .now) (l .k)) (l .place)) (bitXor (octant (l .k - 1) (spot s)) (l .mirror)) noLink
+-- the child read is the one that the walk takes
+taken : (c : tie.After-child Inv-loop μ-loop) → let s = c .before .before .before .before .before .before .before .before .before in let l = c .before .before .before .before .before .before .loop in
+    childIs (c .child .result) ≡ childTo (getD (linksAt (L s (l .k)) (l .place)) (bitXor (octant (l .k - 1) (spot s)) (l .seen)) noLink)
 taken c =
-    let s = c .before .before .before .before .before .before .before .before .before .before .before .before .before in
     let l = c .before .before .before .before .before .before .loop in
-    c .pointer-at .ensures .0 ∙ ap₂ (λ (i : List ℕ) (n : ℕ). getD (linksAt i (l .place)) (bitXor n (l .mirror)) noLink) (list-is (c .before .before .before .before .before)) (c .before .octant .ensures .0)
+    c .child .ensures .0
+    ∙ ap₂ (λ (i : List ℕ) (n : ℕ). childTo (getD (linksAt i (l .place)) (bitXor n (l .seen)) noLink)) (list-is (c .before .before .before .before .before)) (c .before .octant .ensures .0)
 
 returns-2 : tie.Need-returns-2 Inv-loop μ-loop
 returns-2 c =
-    let s = c .before .before .before .before .before .before .before .before .before .before .before .before .before .before .before in
-    let bs = s .args .file .now in
-    let l = c .before .before .before .before .before .before .before .before .loop in
-    let p = c .before .before in
-    way-absent (listAt bs) (sizeAt bs) (l .place) (l .mirror) (spot s) (l .inv .2) (l .records) (l .k) (c .before .before .before .before .before .before .before .loop-test .taken)
-    (linkIs (p .pointer-at .result)) (taken p) (p .pointer-at .ensures .1) (good-list (p .before .before)) (c .if2 .taken)
-    ∙ l .inv .4
+    let d = c .before .before in
+    let s = d .before .before .before .before .before .before .before .before .before in
+    let l = d .before .before .before .before .before .before .loop in
+    way-absent (L s) (l .place) (l .seen) (spot s) (l .inv .1) (l .records) (l .k) (d .before .before .before .before .before .loop-test .taken)
+    (childIs (d .child .result)) (taken d) (good-list (d .before .before)) (ap childIs (c .enum-told .given .1))
+    ∙ l .inv .3 ∙ whole s
 
 returns-3 : tie.Need-returns-3 Inv-loop μ-loop
 returns-3 c =
-    let s = c .before .before .before .before .before .before .before .before .before .before .before .before .before .before .before .before .before .before in
-    let bs = s .args .file .now in
-    let l = c .before .before .before .before .before .before .before .before .before .before .before .loop in
-    let p = c .before .before .before .before .before in
-    let q = linkIs (p .pointer-at .result) in
-    let n = c .before .before .size2 in
-    way-astray (listAt bs) (sizeAt bs) (l .place) (l .mirror) (spot s) (l .inv .2) (l .records) (l .k) (c .before .before .before .before .before .before .before .before .before .before .loop-test .taken)
-    q (taken p) (p .pointer-at .ensures .1) (good-list (p .before .before)) (c .before .before .before .if2 .left)
-    (ap (λ (m : ℕ). takenOk m q) (sym (n .ensures)) ∙ not-true (takenOk (n .result) q) (sym (c .before .taken-bad .ensures) ∙ c .if3 .taken))
-    ∙ l .inv .4
+    let d = c .before .before in
+    let s = d .before .before .before .before .before .before .before .before .before in
+    let l = d .before .before .before .before .before .before .loop in
+    way-wrong (L s) (l .place) (l .seen) (spot s) (l .inv .1) (l .records) (l .k) (d .before .before .before .before .before .loop-test .taken)
+    (childIs (d .child .result)) (taken d) (good-list (d .before .before)) (ap childIs (c .enum-told2 .given .1))
+    ∙ l .inv .3 ∙ whole s
 
 loop-again : tie.Need-loop-again Inv-loop μ-loop
 loop-again c =
-    let s = c .before .before .before .before .before .before .before .before .before .before .before .before .before .before .before .before .before .before .before in
-    let bs = s .args .file .now in
-    let l = c .before .before .before .before .before .before .before .before .before .before .before .before .loop in
-    let p = c .before .before .before .before .before .before in
-    let q = linkIs (p .pointer-at .result) in
-    let n = c .before .before .before .size2 in
-    let h = c .before .before .before .before .before .before .before .before .before .before .before .loop-test .taken in (
-      l .inv .0,
-      omega (arith, l .inv .1, h),
-      xor8-lt (p .pointer-at .result .tag) (l .mirror) (p .pointer-at .ensures .1) (l .inv .2),
-      next (c .before .before .before .before .before .before .before .before .before .before .before),
-      way-on (listAt bs) (sizeAt bs) (l .place) (l .mirror) (spot s) (l .inv .2) (l .records) (l .k) h
-          q (taken p) (p .pointer-at .ensures .1) (good-list (p .before .before)) (c .before .before .before .before .if2 .left)
-          (ap (λ (m : ℕ). takenOk m q) (sym (n .ensures)) ∙ not-false (takenOk (n .result) q) (sym (c .before .before .taken-bad .ensures) ∙ c .before .if3 .left))
-          ∙ l .inv .4,
-      n .ensures,
-      omega arith,
+    let d = c .before .before .before in
+    let s = d .before .before .before .before .before .before .before .before .before in
+    let l = d .before .before .before .before .before .before .loop in
+    let h = d .before .before .before .before .before .loop-test .taken in
+    let t = c .before .taken .given .0 .0 in
+    let r = c .before .taken .given .0 .1 .0 in
+    let small : t < 8 = subst TagLow (c .before .taken .given .1) (d .child .ensures .1) in (
+      omega (arith, l .inv .0, h),
+      xor8-lt t (l .seen) small (l .inv .1),
+      refl,
+      way-on (L s) (l .place) (l .seen) (spot s) (l .inv .1) (l .records) (l .k) h (childIs (d .child .result)) (taken d) (good-list (d .before .before)) t r (ap childIs (c .before .taken .given .1)) small ∙ l .inv .3,
     )
-
--- past the last turn, the bytes left are the leaves
-at-leaves : (c : tie.After-loop Inv-loop μ-loop) → c .before .loop .k ≡ 0
-at-leaves c = omega (arith, c .loop-test .left)
-
-leaves-in : (c : tie.After-loop Inv-loop μ-loop) → c .before .loop .start ≤ length (c .before .before .before .before .before .before .before .before .args .file .now)
-leaves-in c = let s = c .before .before .before .before .before .before .before .before in omega (arith, c .before .loop .inv .3, start-in (s .args .file .now) (total s) (c .before .loop .k))
-
-leaves-are : (c : tie.After-loop Inv-loop μ-loop) → let s = c .before .before .before .before .before .before .before .before in let l = c .before .loop in take (length (s .args .file .now) - l .start) (drop (l .start) (s .args .file .now)) ≡ listAt (s .args .file .now) 0
-leaves-are c =
-    let s = c .before .before .before .before .before .before .before .before in
-    let l = c .before .loop in
-    leaves-cut (s .args .file .now) (total s) (l .start) (l .inv .3 ∙ ap (startAt (s .args .file .now)) (at-leaves c))
 
 in-leaf-requires : tie.Need-in-leaf-requires Inv-loop μ-loop
 in-leaf-requires c κs =
-    let s = c .before .before .before .before .before .before .before .before .before in
-    (ap (λ (i : List ℕ). length i % 8) (leaves-are (c .before)) ∙ leaves-eights (s .args .file .now) (total s), omega (arith, c .before .before .loop .inv .0, c .before .before .loop .inv .1, s .pre .0 .tested .flat))
+    let s = c .before .before .before .before in
+    (s .pre .0 .eights, omega (arith, c .before .loop .inv .0, s .pre .0 .low))
 
 returns-4 : tie.Need-returns-4 Inv-loop μ-loop
 returns-4 c =
-    let s = c .before .before .before .before .before .before .before .before .before .before in
-    let bs = s .args .file .now in
-    let l = c .before .before .before .loop in
-    let e = at-leaves (c .before .before) in
-    c .in-leaf .ensures
-    ∙ ap (λ (i : List ℕ). plus (l .records) (leafEnd i (l .place) (seenAt 0 (l .mirror) (spot s)))) (leaves-are (c .before .before))
-    ∙ ap (plus (l .records)) (leaves-end (listAt bs) (sizeAt bs) (l .k) (l .place) (l .mirror) (spot s) e)
-    ∙ l .inv .4
+    let s = c .before .before .before .before .before in
+    let l = c .before .before .loop in
+    ap (ending (spot s)) (c .in-leaf .ensures)
+    ∙ leaves-end (L s) (l .k) (l .place) (l .seen) (l .records) (spot s) (omega (arith, c .before .loop-test .left))
+    ∙ l .inv .3 ∙ whole s
 
 pub walk-spec : {M : Type 1} → statement M
 walk-spec =
@@ -193,39 +157,33 @@ walk-spec =
     (tie.spec
     Inv-loop
     μ-loop
-    (λ c. omega (arith, c .before .before .pre .0 .tested .long))
-    (λ c κs. search needs)
-    (λ c. omega (arith, c .wide .ensures .0, c .before .before .before .pre .0 .tested .deep))
     (λ c. search needs)
     (λ c. search needs)
     (λ c. search needs)
     (λ c. search needs)
-    size-requires
-    (λ c. omega (arith, c .before .before .before .before .before .pre .0 .tested .long))
-    (λ c κs. search needs)
     loop-holds
     (λ c. search needs)
     (λ c. search needs)
-    (λ c. omega (arith, end-in c))
     (λ c. search needs)
     (λ c. search needs)
-    (λ c. omega (arith, end-in c))
+    (λ c. search needs)
+    (λ c. falls-here c)
+    (λ c. omega (arith, falls-here c, end-inside c))
+    (λ c. omega (arith, falls-here c, end-inside c))
     (λ c κs. search needs)
     returns
     (λ c. search needs)
     (λ c. search needs)
     (λ c κs. search needs)
-    pointer-at-requires
+    child-requires
+    (λ c. search needs)
+    (λ c. search needs)
     returns-2
     (λ c. search needs)
-    (λ c κs. (sized (c .before .before .before .before .before .before .before .before .before .before .before .before .before .before .before), omega (arith, c .before .before .before .before .before .before .before .before .loop .inv .0, c .before .before .before .before .before .before .before .before .loop .inv .1)))
-    (λ c κs. search needs)
     returns-3
     (λ c. search needs)
     (λ c. search needs)
-    loop-again
-    (λ c. leaves-in c)
-    (λ c. leaves-in c)
     (λ c. search needs)
+    loop-again
     in-leaf-requires
     returns-4)
