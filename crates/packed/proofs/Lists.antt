@@ -6,23 +6,22 @@ use mathlib.Core.List.{List, []}
 use Prim.Native.Nat.{ℕ, zero, suc, _+_, _-_, _*_, _%_, _^_, _<_, _≤_}
 use native.Mathlib.Nat.{mod-eq-of-lt, not-suc-le-zero}
 use native.Mathlib.Omega.{arith}
-use borrow.Author.Tests.{ne-eqb, eq-eqb, le-leb, lt-ltb, ltb-false, not-true, not-false}
+use borrow.Author.Tests.{ne-eqb, eq-eqb, le-leb, ltb-false, not-true, not-false}
 use lib.Dec.{T, eqb, leb, ltb, leb→le, ltb→lt}
 use lib.ListN.{length, take, drop, getD, length-drop}
 use lib.Seq.{take-all}
 use Rattle.paper.specs.Rooms.{Point, point, Inside, mirror, childNo, inChild, least}
 use Rattle.paper.specs.Outline.{edge, fileDepth}
-use Rattle.paper.specs.Store.{heights, leafNo}
+use Rattle.paper.specs.Store.{heights}
 use Rattle.paper.specs.Walk.{absent, Walk, damagedWalk, unless, after, onward, Child, none, wrong, to, Step, walkIn}
-use Rattle.paper.specs.Packed.{emptyMark, rootTag, isEmpty, topOf, sizeAt, tailAt, startAt, listAt, headOk, rootOk, sizesOk, Link, noLink, linksAt, leafAt, recordOk, leafOk, codeFor, startsOf, linkTo, fileReading, fileWalk}
+use Rattle.paper.specs.Packed.{emptyMark, rootTag, isEmpty, topOf, sizeAt, tailAt, startAt, listAt, headOk, rootOk, sizesOk, Link, noLink, linksAt, recordOk, leafOk, codeFor, startsOf, linkTo, fileReading, fileWalk}
 use Rattle.paper.specs.Calls.{packedOutside}
 use Rattle.laws.proofs.Tests.{T-true, true-T, and-left, and-right}
 use Rattle.laws.proofs.Lists.{getD-tabulate}
-use Rattle.laws.proofs.PackedLists.{Whole, tail-in, tail-grows, leaves-length, inner-length}
-use Rattle.packed.specs.Header.{frontOf}
+use Rattle.laws.proofs.PackedLists.{Whole, tail-in, leaves-length, inner-length}
 use Rattle.packed.specs.Records.{childTo}
-use Rattle.packed.specs.Walk.{Parts, listIn, entryIn, listsReading, endingOf, partsWalk, foundAt}
-use Rattle.packed.proofs.Header.{less-one, sizes-sum}
+use Rattle.packed.specs.Walk.{Parts, listIn, listsReading, partsWalk}
+use Rattle.packed.proofs.Header.{less-one}
 use Rattle.packed.proofs.Records.{leaf-none, record-outside}
 
 -- ---- the lists of two parts

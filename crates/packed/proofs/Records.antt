@@ -6,14 +6,14 @@ use mathlib.Core.List.{List}
 use Prim.Native.Nat.{ℕ, zero, suc, _+_, _-_, _*_, _/_, _%_, _^_, _≤_, _<_}
 use native.Mathlib.Nat.{le-of-suc-le-suc, not-suc-le-zero, pow-succ', div-div-eq-div-mul, div-one}
 use native.Mathlib.Omega.{arith}
-use borrow.Author.Tests.{lt-ltb, le-ltb, le-leb, lt-leb, eq-eqb, ne-eqb, eqb-true, eqb-false}
+use borrow.Author.Tests.{lt-ltb, le-leb, lt-leb, eq-eqb, ne-eqb, eqb-true, eqb-false}
 use lib.Bits.{bitAnd, and-zero-r, and-shr, and-mod}
 use lib.Dec.{T, eqb, leb, ltb, eqb→eq, leb→le, eqb·suc-zero}
 use lib.ListN.{length, drop, getD, drop-of-length-le}
 use lib.Seq.{drop-drop}
 use Rattle.paper.specs.Numbers.{be, num, bitFor}
 use Rattle.paper.specs.Store.{leafNo}
-use Rattle.paper.specs.Walk.{Child, none, wrong, to}
+use Rattle.paper.specs.Walk.{none, wrong, to}
 use Rattle.paper.specs.Packed.{Link, linkOf, noLink, headerAt, halves, codesOk, readLinks, linksAt, recordOk, leafAt, codeFor, farthestShort}
 use Rattle.laws.proofs.Tests.{T-true, true-T, and-left, and-right, all-at, all-at2, ltb-not}
 use Rattle.laws.proofs.PackedLists.{halves-one}

@@ -17,7 +17,6 @@ use Rattle.paper.specs.Outline.{edge}
 use Rattle.paper.specs.Store.{leafNo}
 use Rattle.paper.specs.Walk.{End, damaged, absent, inLeaf, Step, Walk, unless, after, pathAfter, onward, Child, none, wrong, to, walkIn}
 use Rattle.paper.specs.Packed.{noLink, linksAt, leafAt, recordOk, leafOk}
-use Rattle.packed.specs.declared.Ended.{Ended}
 use Rattle.packed.specs.declared.Ended.the-variants.{Broken, InLeaf}
 use Rattle.packed.specs.Records.{childTo}
 use Rattle.packed.specs.Walk.{listsReading, Ending, endingOf, ending, leafEnding}

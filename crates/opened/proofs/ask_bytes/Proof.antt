@@ -1,7 +1,7 @@
 -- `opened::ask_bytes` meets its contract: 6 where the bytes don't open to the numbers, by the first bytes, the depth, the sizes or the starts, else the
 -- packed voxel's answer. By the law that a question on bytes that open to their numbers is the packed voxel's. Assumes nothing.
 use mathlib.Core.Path.{_≡_, sym, _∙_, ap}
-use mathlib.Core.Bool.{true, false, not}
+use mathlib.Core.Bool.{true, not}
 use mathlib.Core.List.{List, [], _∷_}
 use Prim.Native.Nat.{ℕ}
 use native.Mathlib.Omega.{arith}

@@ -1,5 +1,5 @@
 -- `packed::answer` meets its contract, by the walk's three ends; in a leaf its bit decides. Assumes nothing.
-use mathlib.Core.Path.{_≡_, sym, ap, _∙_}
+use mathlib.Core.Path.{sym, ap, _∙_}
 use mathlib.Core.Bool.{Bool}
 use Rattle.paper.specs.Rooms.{Point, point}
 use Rattle.packed.specs.declared.Ended.{Ended}

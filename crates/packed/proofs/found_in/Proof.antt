@@ -9,7 +9,7 @@ use Rattle.paper.specs.Store.{heights}
 use Rattle.paper.specs.Walk.{Walk}
 use Rattle.paper.specs.Packed.{topOf, listAt}
 use Rattle.laws.proofs.PackedLists.{Whole}
-use Rattle.packed.specs.Walk.{Parts, Ending, endingOf, foundAt, partsWalk}
+use Rattle.packed.specs.Walk.{Parts, endingOf, foundAt, partsWalk}
 use Rattle.packed.proofs.Header.{sizes-sum}
 use Rattle.packed.proofs.Lists.{start-is, leaves-cut, parts-are, parts-walk, walk-empty, inside-top, root-mirror}
 use borrow.Author.Needs.{needs}

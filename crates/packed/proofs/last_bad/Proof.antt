@@ -1,7 +1,6 @@
 -- `packed::last_bad` meets its contract: the tests of `recordOk` one after the other, the header read once it is there. By the ways of `recordOk`.
 -- Assumes nothing.
 use mathlib.Core.Path.{_≡_, sym, _∙_, ap}
-use mathlib.Core.Bool.{true}
 use Prim.Native.Nat.{ℕ, _+_, _*_}
 use borrow.Author.Tests.{not-true, not-false}
 use lib.Dec.{ltb}

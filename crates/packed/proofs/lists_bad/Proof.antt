@@ -1,8 +1,8 @@
 -- `packed::lists_bad` meets its contract: byte 6 first, then room for the sizes, then their sum against the length, in whole numbers. By the ways of
 -- `headOk`. Assumes nothing.
 use mathlib.Core.Path.{_≡_, sym, _∙_, ap}
-use mathlib.Core.Bool.{true, false, false≢true, not}
-use Prim.Native.Nat.{ℕ, suc, _+_, _-_, _*_}
+use mathlib.Core.Bool.{false≢true, not}
+use Prim.Native.Nat.{ℕ, suc, _-_}
 use native.Mathlib.Omega.{arith}
 use borrow.Author.Tests.{not-false}
 use lib.Dec.{eqb}

@@ -9,7 +9,6 @@ use Rattle.paper.specs.Packed.{packedFront, packedHead}
 use Rattle.paper.specs.Calls.{packedOutside}
 use Rattle.outline.proofs.HeadTests.{Headed}
 use Rattle.packed.proofs.Ways.{far-out, walked}
-use borrow.Author.Needs.{needs}
 use Rattle.packed.proofs.voxel_in.Statement.{statement}
 use Rattle.packed.proofs.voxel_in.Tie as tie
 
