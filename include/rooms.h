@@ -1,6 +1,6 @@
 /*
  * rooms.h: the room store, for C. Link target/staticlib/librooms_c.a: x86-64 Linux, and no other machine. Of the C library it
- * needs no more than memset and its kin.
+ * needs memset alone.
  *
  * A room is a cube of voxels; its depth D, from 2 to 16, gives its edge, 2^D voxels. A store keeps up to 64 scenes and each
  * differing cell of theirs once, mirror images included. The thirteen calls below work on memory that the caller lends: they
@@ -30,7 +30,7 @@
  *   Of what stands in the memory nothing is asked: any words and any bytes, of any length, noise, a damaged store, half a
  *   file. A call answers or refuses; it never faults, loops without end or writes outside what it was lent. Not
  *   everything is looked at by every call: one that answers has found what it looked at in order, and no more. rooms_kept looks
- *   at a store's header alone and answers on a store with damaged cells; rooms_packed_voxel looks at a file's header, sizes and
+ *   at a store's header alone and answers on a store with damaged cells; rooms_packed_voxel looks at a file's head, sizes and
  *   one path. Whether a packed file is proper as a whole is for rooms_check to say.
  *
  * What happens to lent memory
@@ -58,13 +58,13 @@ extern "C" {
 #define ROOMS_BAD_SIZE 1u       /* the capacity is not 1 to 65,536, or the words are too few for it */
 #define ROOMS_DAMAGED_STORE 2u  /* the store is damaged where the call looks */
 #define ROOMS_BAD_VERSION 3u    /* the file has no byte, or its first is not 0x11 (outline) or 0x21 (packed) */
-#define ROOMS_BAD_LENGTH 4u     /* the file is shorter than its header, or its bytes 1 to 4 don't say its length */
+#define ROOMS_BAD_LENGTH 4u     /* the file is shorter than its head, or its bytes 1 to 4 don't say its length */
 #define ROOMS_BAD_DEPTH 5u      /* the depth is not 2 to 16 */
 #define ROOMS_BROKEN_RULES 6u   /* the file breaks a rule of its kind that the call tests */
 #define ROOMS_SCENES_FULL 7u    /* the store holds 64 scenes */
 #define ROOMS_CELLS_FULL 8u     /* some height would have to keep more cells than the capacity */
 #define ROOMS_NO_SCENE 9u       /* the store holds no scene of this number */
-#define ROOMS_OUTSIDE 10u       /* a point, cell, height or box beyond the room, or low above high */
+#define ROOMS_OUTSIDE 10u       /* a point, cell or box beyond the room, a height that there is none of, or low above high */
 #define ROOMS_SCRATCH_SHORT 11u /* the scratch is shorter than the call takes */
 #define ROOMS_OUTPUT_SHORT 12u  /* the output is shorter than what would be written */
 #define ROOMS_BAD_WISH 13u      /* the wish is out of its range, infinite or no number */
@@ -90,7 +90,7 @@ extern "C" {
 #define ROOMS_PACKED_MIN_BYTES 7u
 
 /*
- * Bytes that hold any packed scene of a store of this capacity: header, 15 sizes, a root, at each of 13 heights below it at
+ * Bytes that hold any packed scene of a store of this capacity: head, 15 sizes, a root, at each of 13 heights below it at
  * most `capacity` records of at most 34 bytes, and as many leaves of 8.
  */
 #define ROOMS_PACKED_MAX_BYTES(capacity) ((size_t)7 + 60 + 34 + (size_t)(8 + 34 * 13) * (size_t)(capacity))
@@ -151,7 +151,7 @@ uint32_t rooms_kept(const uint32_t *store, size_t store_words, uint32_t height, 
 /*
  * Outline of a scene, written to out; *length is its length in bytes. On a store of these calls it is, byte for byte, the file
  * that was added, so the length to lend is that file's. On any other store it is the outline of the scene's voxels; where
- * 12 is given, lend more.
+ * 12 is given, lend more, up to 4,294,967,295 bytes.
  * Refusals, in order: 2 (the whole store is tested), 9, 12 (also past 4,294,967,295 bytes). out is then as it was.
  */
 uint32_t rooms_outline(const uint32_t *store, size_t store_words, uint32_t scene, uint8_t *out, size_t out_bytes,
@@ -178,7 +178,7 @@ uint32_t rooms_check(const uint8_t *file, size_t file_bytes, uint8_t *scratch, s
 
 /*
  * Voxel (x, y, z) of a packed file: *solid is 1 for solid, 0 for empty; *records is how many records that took, the top one
- * and a leaf among them, none in an empty scene. Tested are the header, the sizes and what lies on the path.
+ * and a leaf among them, none in an empty scene. Tested are the head, the sizes and what lies on the path.
  * On a proper file no point inside is refused. On one that is not proper it answers where its path shows no fault: a file of
  * depth 2 with two leaves is answered from the first.
  * Refusals, in order: 3, 4, 5, 10, 6.
@@ -188,7 +188,7 @@ uint32_t rooms_packed_voxel(const uint8_t *file, size_t file_bytes, uint32_t x, 
 
 /*
  * Opening a packed file for many questions. Accepted, it writes ROOMS_OPENED_NUMBERS words: numbers[0] is the depth, and
- * numbers[k + 1] the position in the file of the list of height k + 2, 0 above the depth and for an empty scene.
+ * numbers[k + 1], k from 0 to 14, the position in the file of the list of height k + 2, 0 above the depth and for an empty scene.
  * Refusals, in order: 3, 4, 5, 6 (byte 6 and the sizes), 12 (fewer than 16 numbers). The numbers are then as they were.
  */
 uint32_t rooms_open(const uint8_t *file, size_t file_bytes, uint32_t *numbers, size_t numbers_words);

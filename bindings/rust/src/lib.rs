@@ -1,6 +1,6 @@
 //! The room store, for Rust: safe functions over lent slices. include/rooms.h says the same for C.
 //!
-//! A room is a cube of voxels with a depth D, 2 to 16, and edge 2^D. A store keeps up to 64 scenes and each differing cell of
+//! A room is a cube of voxels; its depth D, from 2 to 16, gives its edge, 2^D voxels. A store keeps up to 64 scenes and each differing cell of
 //! theirs once, mirror images included. Any words and bytes may be passed, of any length: a call answers, or names its refusal.
 //! A refused call leaves store and output as they were. Nothing is allocated and nothing kept between calls.
 //!
@@ -73,7 +73,7 @@ pub fn cell(store: &[u32], scene: u32, height: u32, x: u32, y: u32, z: u32) -> R
     accepted(number, full == 1)
 }
 
-/// How many solid voxels v have low <= v < high on each axis. Refusals: as for a voxel, where only pointers to children that share a
+/// The number of solid voxels from the low corner up to the high one, which is outside. Refusals: as for a voxel, where only pointers to children that share a
 /// voxel with the box count; `Outside` where on any axis low is above high, or high above the edge.
 pub fn box_count(store: &[u32], scene: u32, low: [u32; 3], high: [u32; 3]) -> Result<u64, Refusal> {
     let mut count = 0;
@@ -118,7 +118,7 @@ pub fn check(file: &[u8], scratch: &mut [u8]) -> Result<u32, Refusal> {
     accepted(number, depth)
 }
 
-/// A voxel of packed bytes, with the number of records read on the way, the root's and a leaf's included.
+/// A voxel of packed bytes, with how many records that took, the top one and a leaf among them.
 #[derive(Clone, Copy, Debug, PartialEq, Eq)]
 pub struct Found {
     pub solid: bool,

@@ -13,11 +13,11 @@ pub enum Refusal {
     DamagedStore = 2,
     /// File empty or wrong version byte.
     BadVersion = 3,
-    /// Outline under 6 bytes, packed under 7, or length field not the slice's length.
+    /// The file is shorter than its head, or its bytes 1 to 4 don't say its length.
     BadLength = 4,
     /// Depth not 2 to 16.
     BadDepth = 5,
-    /// A record or list breaks its file's rules.
+    /// The file breaks a rule of its kind that the call tests.
     BrokenRules = 6,
     /// 64 scenes held.
     ScenesFull = 7,
@@ -65,9 +65,9 @@ impl fmt::Display for Refusal {
             Refusal::BadSize => "new store: capacity out of range or too few words",
             Refusal::DamagedStore => "damaged store",
             Refusal::BadVersion => "file empty or wrong version byte",
-            Refusal::BadLength => "outline under 6 bytes, packed under 7, or length field not the slice's length",
+            Refusal::BadLength => "the file is shorter than its head, or its bytes 1 to 4 don't say its length",
             Refusal::BadDepth => "depth not 2 to 16",
-            Refusal::BrokenRules => "a record or list breaks its file's rules",
+            Refusal::BrokenRules => "the file breaks a rule of its kind that the call tests",
             Refusal::ScenesFull => "64 scenes held",
             Refusal::CellsFull => "a height would keep more cells than the capacity",
             Refusal::NoScene => "no such scene",

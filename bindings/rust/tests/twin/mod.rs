@@ -139,7 +139,7 @@ fn cell_at(w: &Words, h: usize, n: usize) -> [u32; 8] {
     c
 }
 
-/// Bad: not 0 and its number is not kept, at the height pointed to.
+/// A pointer that claims to name a cell of the height pointed to and does not.
 fn bad(w: &Words, h: usize, p: u32) -> bool {
     p != 0 && !(low29(p) >= 1 && low29(p) <= w[h])
 }
@@ -157,7 +157,7 @@ fn scene_ok(w: &Words, n: usize) -> bool {
     depth_ok(d) && !bad(w, d as usize, p)
 }
 
-/// Add, outline and pack test all of that for the whole store, with used cells not empty and unused words zero.
+/// The whole store's test of add, outline and pack: header, scenes, every used cell, and nothing in unused words.
 fn whole_store(w: &Words) -> Answer<()> {
     need(header_ok(w), 2, "header")?;
     let c = w[0] as usize;
@@ -321,7 +321,7 @@ fn box_in(w: &Words, h: usize, n: usize, low: Point, high: Point, whole: &mut Co
     Ok(sum)
 }
 
-/// Box: how many solid voxels v have low <= v < high on each axis.
+/// Box: the solid voxels from the low corner up to the high one, which is outside.
 pub fn box_count(w: &Words, n: u32, low: [u32; 3], high: [u32; 3]) -> Answer<u64> {
     let (d, p) = asked(w, n)?;
     need((0..3).all(|a| low[a] <= high[a]), 10, "low above high")?;
@@ -662,7 +662,7 @@ impl<'a> Packed<'a> {
         self.root == 8
     }
 
-    /// Byte 6 (at most 8; 8 only at 7 bytes), and the sizes against the length.
+    /// Byte 6: a mirror, or the mark of an empty scene in a file that ends with it; and the sizes against the length.
     fn head(&self) -> Answer<()> {
         need(self.root <= 8, 6, "byte 6")?;
         if self.empty() {
@@ -893,7 +893,7 @@ pub fn open(file: &Bytes, numbers: &mut Words) -> Answer<()> {
     Ok(())
 }
 
-/// A question on an opened scene: 6 (its bytes don't open to its numbers), then as packed voxel.
+/// A question on an opened scene: 6 where its bytes open to other numbers or not at all, then as packed voxel.
 pub fn ask(file: &Bytes, numbers: &Words, x: u32, y: u32, z: u32) -> Answer<(u32, u32)> {
     need(numbers.len() >= 16, 6, "numbers")?;
     let found = header(file).map_err(|_| refused(6, "doesn't open"))?;
