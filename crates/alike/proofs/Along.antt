@@ -13,13 +13,13 @@ use lib.ListN.{length, getD, take, drop, length-drop}
 use lib.Seq.{take-all}
 use Rattle.laws.proofs.PackedLists.{record-two}
 use Rattle.paper.specs.Numbers.{allIn, isIn, indexIn, count}
-use Rattle.paper.specs.Packed.{headerAt, halves, linksAt, recordOk, startsFrom}
+use Rattle.paper.specs.Packed.{headerAt, halves, pointersAt, recordOk, startsFrom}
 use Rattle.laws.proofs.Tests.{and-left}
 use Rattle.paper.specs.Runs.{Bytes}
 use Rattle.laws.proofs.Lists.{allIn-head, allIn-tail, allIn-in, allIn-T, At, isIn-at}
 use Rattle.laws.proofs.PackedLists.{halves-one}
 use Rattle.packed.proofs.Records.{record-good}
-use Rattle.alike.specs.Matching.{linkRules, recordRules, placesIn}
+use Rattle.alike.specs.Matching.{pointerRules, recordRules, placesIn}
 
 -- the starts from place p on
 abbrev pub restFrom : List ℕ → ℕ → List ℕ
@@ -102,9 +102,9 @@ pub rules-whole : (u : ℕ) (m l : List ℕ) (p : ℕ) → recordOk l p ≡ fals
 unfolding recordRules
 rules-whole u m l p e = rw e
 
-pub rules-links : (u : ℕ) (m l : List ℕ) (p : ℕ) → recordOk l p ≡ true → recordRules u m l p ≡ allIn (linkRules u m) (linksAt l p)
+pub rules-pointers : (u : ℕ) (m l : List ℕ) (p : ℕ) → recordOk l p ≡ true → recordRules u m l p ≡ allIn (pointerRules u m) (pointersAt l p)
 unfolding recordRules
-rules-links u m l p e = rw e
+rules-pointers u m l p e = rw e
 
 -- a record has four bytes at least
 pub record-wide : (l : List ℕ) (p : ℕ) → Bytes l → T (recordOk l p) → 2 * p + 4 ≤ length l
@@ -113,7 +113,7 @@ record-wide l p b t = omega (arith, record-inside l p t, record-two l p b t)
 pub rules-all-whole : (u : ℕ) (m l ps : List ℕ) → T (allIn (recordRules u m l) ps) → T (allIn (recordOk l) ps)
 unfolding recordRules
 rules-all-whole u m l ps t =
-    allIn-T (recordOk l) 0 ps (λ i h. and-left (recordOk l (getD ps i 0)) (allIn (linkRules u m) (linksAt l (getD ps i 0))) (allIn-in (recordRules u m l) 0 ps t i h))
+    allIn-T (recordOk l) 0 ps (λ i h. and-left (recordOk l (getD ps i 0)) (allIn (pointerRules u m) (pointersAt l (getD ps i 0))) (allIn-in (recordRules u m l) 0 ps t i h))
 
 -- ---- what lies in a list
 

@@ -1,6 +1,6 @@
 -- Two records have one key exactly where they match under some mirror, and so have two leaves; the mirrors under which one matches itself are a group.
--- By the digits: under two mirrors the digits of two links are equal exactly where the links match under the mirrors' exclusive or, for the mark
--- of a link's place is a group. And a sum of places is one of digits without their tags, in any order: equal images have equal sums. Assumes nothing.
+-- By the digits: under two mirrors the digits of two pointers are equal exactly where the pointers match under the mirrors' exclusive or, for the mark
+-- of a pointer's place is a group. And a sum of places is one of digits without their tags, in any order: equal images have equal sums. Assumes nothing.
 use mathlib.Core.Path.{_≡_, refl, sym, _∙_, ap, ap₂, subst}
 use mathlib.Core.Bool.{Bool, true, false, cond, _&&_}
 use mathlib.Core.List.{List}
@@ -15,7 +15,7 @@ use lib.ListN.{getD, drop, List·getD-map}
 use Rattle.paper.specs.Numbers.{allIn, anyBelow, sum}
 use Rattle.paper.specs.Leaf.{mirrorLeaf}
 use Rattle.paper.specs.Store.{leafNo}
-use Rattle.paper.specs.Packed.{Link, noLink, headerAt, linksAt, leafAt, recordOk, codeFor}
+use Rattle.paper.specs.Packed.{PackedPointer, noPointer, headerAt, pointersAt, leafAt, recordOk, codeFor}
 use Rattle.paper.specs.Runs.{Bytes}
 use Rattle.laws.proofs.Tests.{iff-eq, all-at, all-T, and-left, and-right, T-true, true-T}
 use Rattle.laws.proofs.Sums.{sum-same}
@@ -23,15 +23,15 @@ use Rattle.laws.proofs.Eight.{below8, eight2, xor8-lt, xor8-assoc, xor8-back, x
 use Rattle.laws.proofs.Lists.{allIn-at}
 use Rattle.laws.proofs.Bytes.{bytes-drop}
 use Rattle.laws.proofs.Leaves.{mirrorLeaf-zero, mirrorLeaf-mirrorLeaf}
-use Rattle.laws.specs.Masks.{maskFor, marked}
-use Rattle.laws.proofs.Masks.{mask-bit}
-use Rattle.laws.proofs.PackedLists.{num4-lt, Fits, links-fit}
+use Rattle.laws.specs.Symmetries.{symmetryFor, marked}
+use Rattle.laws.proofs.Symmetries.{symmetry-bit}
+use Rattle.laws.proofs.PackedLists.{num4-lt, Fits, pointers-fit}
 use Rattle.least.specs.Keys.{markOf, Group, lowTag, wordOf, leastTo, digitOf, imageDigit, imageNo, wordsAt, leastImage, sumOf, imageBase, recordKey, leafKey}
 use Rattle.least.proofs.Leasts.{least-at, least-match}
 use Rattle.least.proofs.Tags.{low-le, low-same, same-low}
 use Rattle.least.proofs.Images.{digit-none, digit-some, same-image, image-same, least-image-lt, rest-same}
-use Rattle.alike.specs.Matching.{selfBy, leavesMatch, linkMatch, recordsMatch, leafMask, recordMask, lowBy, linkRules, recordRules, Grouped}
-use Rattle.alike.proofs.Linking.{match-none, match-half, match-apart, match-place}
+use Rattle.alike.specs.Matching.{selfBy, leavesMatch, placeMatch, recordsMatch, leafSymmetry, recordSymmetry, lowBy, pointerRules, recordRules, Grouped}
+use Rattle.alike.proofs.Pointing.{match-none, match-half, match-apart, match-place}
 
 -- ---- exclusive or of four
 
@@ -42,17 +42,17 @@ xor8-pairs p q s t hp hq hs ht =
 xor8-front : (a t : ℕ) → a < 8 → t < 8 → bitXor a (bitXor a t) ≡ t
 xor8-front = eight2 (λ a t. bitXor a (bitXor a t)) (λ a t. t) tt
 
--- ---- links
+-- ---- pointers
 
--- a link that keeps its rules, where the mark of its place is a group
-pub record Sound (u : ℕ) (m : List ℕ) (r : Link) : Type 0 where
+-- a pointer that keeps its rules, where the mark of its place is a group
+pub record Sound (u : ℕ) (m : List ℕ) (r : PackedPointer) : Type 0 where
   pub some : r .code ≡ 0 → ⊥
   pub tag : r .tag < 8
   pub small : r .place < 2 ^ 29
   pub byte : markOf u m (r .place) < 256
   pub group : Group (markOf u m (r .place))
 
-abbrev pub Kept : ℕ → List ℕ → Link → Type 0
+abbrev pub Kept : ℕ → List ℕ → PackedPointer → Type 0
 Kept u m r = (r .code ≡ 0) ⊎ Sound u m r
 
 -- the parts of a word
@@ -62,17 +62,17 @@ word-high p g k hp hg hk = let e : ((8 * (1 + p) + g) * 256 + k) / 2048 ≡ 1 + 
 word-tag : (p g k : ℕ) → g < 8 → k < 256 → ((8 * (1 + p) + g) * 256 + k) / 256 % 8 ≡ g
 word-tag p g k hg hk = let e : ((8 * (1 + p) + g) * 256 + k) / 256 ≡ 8 * (1 + p) + g = omega arith in rw e (omega arith)
 
-word-mask : (p g k : ℕ) → k < 256 → ((8 * (1 + p) + g) * 256 + k) % 256 ≡ k
-word-mask p g k hk = omega arith
+word-symmetry : (p g k : ℕ) → k < 256 → ((8 * (1 + p) + g) * 256 + k) % 256 ≡ k
+word-symmetry p g k hk = omega arith
 
 module _ (u : ℕ) (m : List ℕ) where
-  link-none : (t : ℕ) (r : Link) → r .code ≡ 0 → digitOf t (wordOf u m r) ≡ 0
+  pointer-none : (t : ℕ) (r : PackedPointer) → r .code ≡ 0 → digitOf t (wordOf u m r) ≡ 0
   unfolding wordOf
-  link-none t r e = rw (eq-eqb (r .code) 0 e) (digit-none t)
+  pointer-none t r e = rw (eq-eqb (r .code) 0 e) (digit-none t)
 
-  link-some : (t : ℕ) (r : Link) → Sound u m r → digitOf t (wordOf u m r) ≡ (1 + r .place) * 8 + lowTag (markOf u m (r .place)) (bitXor (r .tag) t)
+  packedPointer-some : (t : ℕ) (r : PackedPointer) → Sound u m r → digitOf t (wordOf u m r) ≡ (1 + r .place) * 8 + lowTag (markOf u m (r .place)) (bitXor (r .tag) t)
   unfolding wordOf
-  link-some t r s =
+  packedPointer-some t r s =
       let p : ℕ = r .place in
       let g : ℕ = r .tag in
       let k : ℕ = markOf u m p in
@@ -80,27 +80,27 @@ module _ (u : ℕ) (m : List ℕ) where
       rw (ne-eqb (r .code) 0 (s .some))
       (digit-some t w (λ e. omega arith)
       ∙ ap₂ (λ (a b : ℕ). a * 8 + b) (word-high p g k (s .small) (s .tag) (s .byte))
-      (ap₂ (λ (a b : ℕ). lowTag a (bitXor b t)) (word-mask p g k (s .byte)) (word-tag p g k (s .tag) (s .byte))))
+      (ap₂ (λ (a b : ℕ). lowTag a (bitXor b t)) (word-symmetry p g k (s .byte)) (word-tag p g k (s .tag) (s .byte))))
 
-  low-lt : (t : ℕ) (r : Link) → t < 8 → Sound u m r → lowTag (markOf u m (r .place)) (bitXor (r .tag) t) < 8
+  low-lt : (t : ℕ) (r : PackedPointer) → t < 8 → Sound u m r → lowTag (markOf u m (r .place)) (bitXor (r .tag) t) < 8
   low-lt t r ht s = omega (arith, low-le (markOf u m (r .place)) (bitXor (r .tag) t), xor8-lt (r .tag) t (s .tag) ht)
 
   -- equal digits mean a match
-  digits-match : (a b : ℕ) (r s : Link) → a < 8 → b < 8 → Kept u m r → Kept u m s → digitOf a (wordOf u m r) ≡ digitOf b (wordOf u m s)
-      → T (linkMatch (selfBy u m) (bitXor a b) r s)
+  digits-match : (a b : ℕ) (r s : PackedPointer) → a < 8 → b < 8 → Kept u m r → Kept u m s → digitOf a (wordOf u m r) ≡ digitOf b (wordOf u m s)
+      → T (placeMatch (selfBy u m) (bitXor a b) r s)
   digits-match a b r s ha hb (inl x) (inl y) e = true-T (match-none (selfBy u m) (bitXor a b) r s x ∙ eq-eqb (s .code) 0 y)
   digits-match a b r s ha hb (inl x) (inr y) e =
-      let q : 0 ≡ (1 + s .place) * 8 + lowTag (markOf u m (s .place)) (bitXor (s .tag) b) = sym (link-none a r x) ∙ e ∙ link-some b s y in
+      let q : 0 ≡ (1 + s .place) * 8 + lowTag (markOf u m (s .place)) (bitXor (s .tag) b) = sym (pointer-none a r x) ∙ e ∙ packedPointer-some b s y in
       absurd (omega (arith, q))
   digits-match a b r s ha hb (inr x) (inl y) e =
-      let q : 0 ≡ (1 + r .place) * 8 + lowTag (markOf u m (r .place)) (bitXor (r .tag) a) = sym (link-none b s y) ∙ sym e ∙ link-some a r x in
+      let q : 0 ≡ (1 + r .place) * 8 + lowTag (markOf u m (r .place)) (bitXor (r .tag) a) = sym (pointer-none b s y) ∙ sym e ∙ packedPointer-some a r x in
       absurd (omega (arith, q))
   digits-match a b r s ha hb (inr x) (inr y) e =
       let i : ℕ = lowTag (markOf u m (r .place)) (bitXor (r .tag) a) in
       let j : ℕ = lowTag (markOf u m (s .place)) (bitXor (s .tag) b) in
       let hi : i < 8 = low-lt a r ha x in
       let hj : j < 8 = low-lt b s hb y in
-      let q : (1 + r .place) * 8 + i ≡ (1 + s .place) * 8 + j = sym (link-some a r x) ∙ e ∙ link-some b s y in
+      let q : (1 + r .place) * 8 + i ≡ (1 + s .place) * 8 + j = sym (packedPointer-some a r x) ∙ e ∙ packedPointer-some b s y in
       let p : r .place ≡ s .place = omega (arith, q, hi, hj) in
       let l : i ≡ j = omega (arith, q, hi, hj) in
       let k : lowTag (markOf u m (r .place)) (bitXor (r .tag) a) ≡ lowTag (markOf u m (r .place)) (bitXor (s .tag) b) =
@@ -110,9 +110,9 @@ module _ (u : ℕ) (m : List ℕ) where
       ∙ T-true (same-low (markOf u m (r .place)) (x .group) (bitXor (r .tag) a) (bitXor (s .tag) b) (xor8-lt (r .tag) a (x .tag) ha) (xor8-lt (s .tag) b (y .tag) hb) k))
 
   -- a match means equal digits
-  match-digits : (a t : ℕ) (r s : Link) → a < 8 → t < 8 → Kept u m r → Kept u m s → T (linkMatch (selfBy u m) t r s)
+  match-digits : (a t : ℕ) (r s : PackedPointer) → a < 8 → t < 8 → Kept u m r → Kept u m s → T (placeMatch (selfBy u m) t r s)
       → digitOf a (wordOf u m r) ≡ digitOf (bitXor a t) (wordOf u m s)
-  match-digits a t r s ha ht (inl x) (inl y) e = link-none a r x ∙ sym (link-none (bitXor a t) s y)
+  match-digits a t r s ha ht (inl x) (inl y) e = pointer-none a r x ∙ sym (pointer-none (bitXor a t) s y)
   match-digits a t r s ha ht (inl x) (inr y) e = absurd (y .some (eqb→eq (s .code) 0 (subst T (match-none (selfBy u m) t r s x) e)))
   match-digits a t r s ha ht (inr x) (inl y) e = absurd (subst T (match-half (selfBy u m) t r s (x .some) y) e)
   match-digits a t r s ha ht (inr x) (inr y) e = go (ℕ-discrete (r .place) (s .place))
@@ -127,11 +127,11 @@ module _ (u : ℕ) (m : List ℕ) where
           subst (λ (n : ℕ). T (marked (markOf u m (r .place)) n)) turn (subst T (match-place (selfBy u m) t r s (x .some) (y .some) p) e) in
           let l : lowTag (markOf u m (r .place)) (bitXor (r .tag) a) ≡ lowTag (markOf u m (r .place)) (bitXor (s .tag) (bitXor a t)) =
           low-same (markOf u m (r .place)) (x .group) (bitXor (r .tag) a) (bitXor (s .tag) (bitXor a t)) (xor8-lt (r .tag) a (x .tag) ha) (xor8-lt (s .tag) (bitXor a t) (y .tag) hat) k in
-          link-some a r x ∙ ap (λ (n : ℕ). (1 + r .place) * 8 + n) l ∙ ap (λ (n : ℕ). (1 + n) * 8 + lowTag (markOf u m n) (bitXor (s .tag) (bitXor a t))) p
-          ∙ sym (link-some (bitXor a t) s y)
+          packedPointer-some a r x ∙ ap (λ (n : ℕ). (1 + r .place) * 8 + n) l ∙ ap (λ (n : ℕ). (1 + n) * 8 + lowTag (markOf u m n) (bitXor (s .tag) (bitXor a t))) p
+          ∙ sym (packedPointer-some (bitXor a t) s y)
 
   -- the place in a word is its digit without the tag
-  high-digit : (t : ℕ) (r : Link) → t < 8 → Kept u m r → wordOf u m r / 2048 % 2 ^ 30 ≡ digitOf t (wordOf u m r) / 8
+  high-digit : (t : ℕ) (r : PackedPointer) → t < 8 → Kept u m r → wordOf u m r / 2048 % 2 ^ 30 ≡ digitOf t (wordOf u m r) / 8
   unfolding wordOf
   high-digit t r ht (inl x) = rw (eq-eqb (r .code) 0 x) (ap (λ (n : ℕ). n / 8) (sym (digit-none t)))
   high-digit t r ht (inr x) =
@@ -139,35 +139,35 @@ module _ (u : ℕ) (m : List ℕ) where
       let w : wordOf u m r ≡ (8 * (1 + r .place) + r .tag) * 256 + k = rw (ne-eqb (r .code) 0 (x .some)) in
       let low : lowTag k (bitXor (r .tag) t) < 8 = low-lt t r ht x in
       let e : 1 + r .place ≡ ((1 + r .place) * 8 + lowTag k (bitXor (r .tag) t)) / 8 = omega (arith, low) in
-      ap (λ (n : ℕ). n / 2048 % 2 ^ 30) w ∙ word-high (r .place) (r .tag) k (x .small) (x .tag) (x .byte) ∙ e ∙ ap (λ (n : ℕ). n / 8) (sym (link-some t r x))
+      ap (λ (n : ℕ). n / 2048 % 2 ^ 30) w ∙ word-high (r .place) (r .tag) k (x .small) (x .tag) (x .byte) ∙ e ∙ ap (λ (n : ℕ). n / 8) (sym (packedPointer-some t r x))
 
 -- a sum over eight children in the order of a mirror
-sum8-turned : (f : ℕ → ℕ) (t : ℕ) → t < 8 → sum 8 (λ i. f (bitXor i t)) ≡ sum 8 f
+sum8-mirrored : (f : ℕ → ℕ) (t : ℕ) → t < 8 → sum 8 (λ i. f (bitXor i t)) ≡ sum 8 f
 unfolding sum
-sum8-turned f =
+sum8-mirrored f =
     below8 (λ t. sum 8 (λ i. f (bitXor i t)) ≡ sum 8 f) (omega arith) (omega arith) (omega arith) (omega arith) (omega arith) (omega arith) (omega arith) (omega arith)
 
 -- ---- records
 
 module _ (u : ℕ) (m l : List ℕ) where
   abbrev pub KeptAt : ℕ → Type 0
-  KeptAt p = (i : ℕ) → Kept u m (getD (linksAt l p) i noLink)
+  KeptAt p = (i : ℕ) → Kept u m (getD (pointersAt l p) i noPointer)
 
-  abbrev link : ℕ → ℕ → Link
-  link p i = getD (linksAt l p) i noLink
+  abbrev pointer : ℕ → ℕ → PackedPointer
+  pointer p i = getD (pointersAt l p) i noPointer
 
-  word-at : (p i : ℕ) → getD (wordsAt u m l p) i 0 ≡ wordOf u m (link p i)
+  word-at : (p i : ℕ) → getD (wordsAt u m l p) i 0 ≡ wordOf u m (pointer p i)
   unfolding wordOf
-  word-at p i = List·getD-map (wordOf u m) (linksAt l p) i noLink
+  word-at p i = List·getD-map (wordOf u m) (pointersAt l p) i noPointer
 
   image-match : (p q : ℕ) → KeptAt p → KeptAt q → (a b : ℕ) → a < 8 → b < 8 → imageNo (wordsAt u m l p) a ≡ imageNo (wordsAt u m l q) b
       → T (recordsMatch u m l p q (bitXor a b))
   unfolding recordsMatch
   image-match p q kp kq a b ha hb e =
-      all-T 8 (λ i. linkMatch (selfBy u m) (bitXor a b) (link p i) (link q (bitXor i (bitXor a b)))) (λ i hi.
+      all-T 8 (λ i. placeMatch (selfBy u m) (bitXor a b) (pointer p i) (pointer q (bitXor i (bitXor a b)))) (λ i hi.
       let d : digitOf a (getD (wordsAt u m l p) (bitXor (bitXor i a) a) 0) ≡ digitOf b (getD (wordsAt u m l q) (bitXor (bitXor i a) b) 0) =
       image-same (wordsAt u m l p) (wordsAt u m l q) a b ha hb e (bitXor i a) (xor8-lt i a hi ha) in
-      digits-match u m a b (link p i) (link q (bitXor i (bitXor a b))) ha hb (kp i) (kq (bitXor i (bitXor a b)))
+      digits-match u m a b (pointer p i) (pointer q (bitXor i (bitXor a b))) ha hb (kp i) (kq (bitXor i (bitXor a b)))
       (ap (digitOf a) (sym (word-at p i)) ∙ ap (λ (n : ℕ). digitOf a (getD (wordsAt u m l p) n 0)) (sym (xor8-back i a hi ha)) ∙ d
       ∙ ap (λ (n : ℕ). digitOf b (getD (wordsAt u m l q) n 0)) (xor8-assoc i a b hi ha hb) ∙ ap (digitOf b) (word-at q (bitXor i (bitXor a b)))))
 
@@ -179,8 +179,8 @@ module _ (u : ℕ) (m l : List ℕ) where
       let j : ℕ = bitXor i a in
       let hj : j < 8 = xor8-lt i a hi ha in
       ap (digitOf a) (word-at p j)
-      ∙ match-digits u m a t (link p j) (link q (bitXor j t)) ha ht (kp j) (kq (bitXor j t))
-      (all-at 8 (λ k. linkMatch (selfBy u m) t (link p k) (link q (bitXor k t))) e j hj)
+      ∙ match-digits u m a t (pointer p j) (pointer q (bitXor j t)) ha ht (kp j) (kq (bitXor j t))
+      (all-at 8 (λ k. placeMatch (selfBy u m) t (pointer p k) (pointer q (bitXor k t))) e j hj)
       ∙ ap (digitOf (bitXor a t)) (sym (word-at q (bitXor j t)))
       ∙ ap (λ (n : ℕ). digitOf (bitXor a t) (getD (wordsAt u m l q) n 0)) (xor8-assoc i a t hi ha ht))
 
@@ -189,8 +189,8 @@ module _ (u : ℕ) (m l : List ℕ) where
   sum-image p t kp ht =
       let ws : List ℕ = wordsAt u m l p in
       sum-same 8 (λ i. getD ws i 0 / 2048 % 2 ^ 30) (λ i. digitOf t (getD ws i 0) / 8) (λ i hi.
-      ap (λ (n : ℕ). n / 2048 % 2 ^ 30) (word-at p i) ∙ high-digit u m t (link p i) ht (kp i) ∙ ap (λ (n : ℕ). digitOf t n / 8) (sym (word-at p i)))
-      ∙ sym (sum8-turned (λ i. digitOf t (getD ws i 0) / 8) t ht)
+      ap (λ (n : ℕ). n / 2048 % 2 ^ 30) (word-at p i) ∙ high-digit u m t (pointer p i) ht (kp i) ∙ ap (λ (n : ℕ). digitOf t n / 8) (sym (word-at p i)))
+      ∙ sym (sum8-mirrored (λ i. digitOf t (getD ws i 0) / 8) t ht)
 
   -- equal images have equal sums
   images-sums : (p q : ℕ) → KeptAt p → KeptAt q → leastImage (wordsAt u m l p) ≡ leastImage (wordsAt u m l q) → sumOf (wordsAt u m l p) ≡ sumOf (wordsAt u m l q)
@@ -236,36 +236,36 @@ module _ (u : ℕ) (m l : List ℕ) where
       key-least p q kp kq
       ∙ least-match (imageNo (wordsAt u m l p)) (imageNo (wordsAt u m l q)) (recordsMatch u m l p q) (image-match p q kp kq) (match-image p q kp kq)
 
-  pub record-group : (p : ℕ) → KeptAt p → Group (recordMask u m l p)
-  unfolding recordMask
+  pub record-group : (p : ℕ) → KeptAt p → Group (recordSymmetry u m l p)
+  unfolding recordSymmetry
   record-group p kp = record {
-    none = true-T (mask-bit f 0 (lit< tt) ∙ T-true (image-match p p kp kp 0 0 (lit< tt) (lit< tt) refl));
-    closed = λ s t hs ht a b. true-T (mask-bit f (bitXor s t) (xor8-lt s t hs ht) ∙ T-true (image-match p p kp kp s t hs ht (sym (from s hs a) ∙ from t ht b)));
+    none = true-T (symmetry-bit f 0 (lit< tt) ∙ T-true (image-match p p kp kp 0 0 (lit< tt) (lit< tt) refl));
+    closed = λ s t hs ht a b. true-T (symmetry-bit f (bitXor s t) (xor8-lt s t hs ht) ∙ T-true (image-match p p kp kp s t hs ht (sym (from s hs a) ∙ from t ht b)));
   }
     where
       f : ℕ → Bool
       f = recordsMatch u m l p p
 
-      from : (t : ℕ) → t < 8 → T (marked (maskFor f) t) → imageNo (wordsAt u m l p) 0 ≡ imageNo (wordsAt u m l p) t
+      from : (t : ℕ) → t < 8 → T (marked (symmetryFor f) t) → imageNo (wordsAt u m l p) 0 ≡ imageNo (wordsAt u m l p) t
       from t ht a =
-          match-image p p kp kp 0 t (lit< tt) ht (true-T (sym (mask-bit f t ht) ∙ T-true a)) ∙ ap (imageNo (wordsAt u m l p)) (xor-zero-l t)
+          match-image p p kp kp 0 t (lit< tt) ht (true-T (sym (symmetry-bit f t ht) ∙ T-true a)) ∙ ap (imageNo (wordsAt u m l p)) (xor-zero-l t)
 
   -- a record that keeps its rules, where every mark is a group
   pub record-kept : Bytes l → Bytes m → Grouped u m → (p : ℕ) → T (recordRules u m l p) → KeptAt p
-  unfolding recordRules linkRules linksAt
+  unfolding recordRules pointerRules pointersAt
   record-kept bl bm groups p t i = go (eqb (r .code) 0) refl rules
     where
-      r : Link
-      r = link p i
+      r : PackedPointer
+      r = pointer p i
 
       k : ℕ
       k = markOf u m (r .place)
 
-      rules : T (linkRules u m r)
-      rules = allIn-at (linkRules u m) noLink tt (linksAt l p) (and-right (recordOk l p) (allIn (linkRules u m) (linksAt l p)) t) i
+      rules : T (pointerRules u m r)
+      rules = allIn-at (pointerRules u m) noPointer tt (pointersAt l p) (and-right (recordOk l p) (allIn (pointerRules u m) (pointersAt l p)) t) i
 
       fits : Fits r
-      fits = links-fit 8 (headerAt l p) (drop (2 * p + 2) l) (bytes-drop (2 * p + 2) l bl) i
+      fits = pointers-fit 8 (headerAt l p) (drop (2 * p + 2) l) (bytes-drop (2 * p + 2) l bl) i
 
       go : (b : Bool) → eqb (r .code) 0 ≡ b → T (cond b true (ltb 0 k && eqb (r .code) (codeFor (r .place)) && lowBy k (r .tag))) → Kept u m r
       go true e s = inl (eqb-true (r .code) 0 e)
@@ -296,11 +296,11 @@ module _ (l : List ℕ) (by : Bytes l) where
   unfolding leavesMatch
   leaf-match p q = leaf-key (leafNo (leafAt l p)) (leafNo (leafAt l q)) (leaf-lt l p by)
 
-  pub leaf-group : (p : ℕ) → Group (leafMask l p)
-  unfolding leafMask leavesMatch
+  pub leaf-group : (p : ℕ) → Group (leafSymmetry l p)
+  unfolding leafSymmetry leavesMatch
   leaf-group p = record {
-    none = true-T (mask-bit f 0 (lit< tt) ∙ eq-eqb n (mirrorLeaf 0 n) (sym (mirrorLeaf-zero n (leaf-lt l p by))));
-    closed = λ s t hs ht a b. true-T (mask-bit f (bitXor s t) (xor8-lt s t hs ht)
+    none = true-T (symmetry-bit f 0 (lit< tt) ∙ eq-eqb n (mirrorLeaf 0 n) (sym (mirrorLeaf-zero n (leaf-lt l p by))));
+    closed = λ s t hs ht a b. true-T (symmetry-bit f (bitXor s t) (xor8-lt s t hs ht)
         ∙ eq-eqb n (mirrorLeaf (bitXor s t) n) (same s hs a ∙ ap (mirrorLeaf s) (same t ht b) ∙ mirrorLeaf-mirrorLeaf s t n hs ht));
   }
     where
@@ -310,5 +310,5 @@ module _ (l : List ℕ) (by : Bytes l) where
       f : ℕ → Bool
       f = λ t. eqb n (mirrorLeaf t n)
 
-      same : (t : ℕ) → t < 8 → T (marked (maskFor f) t) → n ≡ mirrorLeaf t n
-      same t ht a = eqb→eq n (mirrorLeaf t n) (true-T (sym (mask-bit f t ht) ∙ T-true a))
+      same : (t : ℕ) → t < 8 → T (marked (symmetryFor f) t) → n ≡ mirrorLeaf t n
+      same t ht a = eqb→eq n (mirrorLeaf t n) (true-T (sym (symmetry-bit f t ht) ∙ T-true a))

@@ -15,7 +15,7 @@ use Rattle.paper.specs.Numbers.{both, allBelow, anyBelow, allIn, count}
 use Rattle.paper.specs.Packed.{leafOk}
 use Rattle.laws.proofs.Tests.{not-not, any-at, any-same, none-at}
 use Rattle.laws.proofs.Lists.{length-count, getD-count}
-use Rattle.laws.specs.Masks.{marked}
+use Rattle.laws.specs.Symmetries.{marked}
 use Rattle.least.specs.Keys.{lowTag}
 use Rattle.least.proofs.Tags.{low-lower, low-own}
 use Rattle.alike.specs.Matching.{lowBy}
@@ -63,20 +63,20 @@ not-allIn p d (x ∷ l) = go (p x) (not-allIn p d l) ∙ sym (any-front (length 
     go true ih = ih
     go false ih = refl
 
--- a tag is not the lowest where a lower one differs from it by a mirror of the mask
-high-is : (mask tag : ℕ) → not (lowBy mask tag) ≡ anyBelow tag (λ v. marked mask (bitXor v tag))
+-- a tag is not the lowest where a lower one differs from it by a mirror of the symmetry
+high-is : (symmetry tag : ℕ) → not (lowBy symmetry tag) ≡ anyBelow tag (λ v. marked symmetry (bitXor v tag))
 unfolding lowBy
-high-is mask tag = not-all-not tag (λ v. marked mask (bitXor v tag))
+high-is symmetry tag = not-all-not tag (λ v. marked symmetry (bitXor v tag))
 
 -- so where the lowest with its meaning is another
-pub high-by-low : (mask tag : ℕ) → not (eqb (lowTag mask tag) tag) ≡ not (lowBy mask tag)
-high-by-low mask tag = go (anyBelow tag (λ v. marked mask (bitXor v tag))) refl ∙ sym (high-is mask tag)
+pub high-by-low : (symmetry tag : ℕ) → not (eqb (lowTag symmetry tag) tag) ≡ not (lowBy symmetry tag)
+high-by-low symmetry tag = go (anyBelow tag (λ v. marked symmetry (bitXor v tag))) refl ∙ sym (high-is symmetry tag)
   where
-    go : (b : Bool) → anyBelow tag (λ v. marked mask (bitXor v tag)) ≡ b → not (eqb (lowTag mask tag) tag) ≡ b
+    go : (b : Bool) → anyBelow tag (λ v. marked symmetry (bitXor v tag)) ≡ b → not (eqb (lowTag symmetry tag) tag) ≡ b
     go true e =
-        let v = any-at tag (λ v. marked mask (bitXor v tag)) e in
-        ap not (ne-eqb (lowTag mask tag) tag (λ z. omega (arith, z, low-lower mask tag (v .0) (v .1) (v .2))))
-    go false e = ap not (eq-eqb (lowTag mask tag) tag (low-own mask tag (none-at tag (λ v. marked mask (bitXor v tag)) e)))
+        let v = any-at tag (λ v. marked symmetry (bitXor v tag)) e in
+        ap not (ne-eqb (lowTag symmetry tag) tag (λ z. omega (arith, z, low-lower symmetry tag (v .0) (v .1) (v .2))))
+    go false e = ap not (eq-eqb (lowTag symmetry tag) tag (low-own symmetry tag (none-at tag (λ v. marked symmetry (bitXor v tag)) e)))
 
 -- a leaf is zero
 pub leaves-bad-is : (l : List ℕ) (n : ℕ) → not (allIn (leafOk l) (count 0 n)) ≡ anyBelow n (λ i. not (leafOk l i))

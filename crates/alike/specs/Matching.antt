@@ -1,5 +1,5 @@
--- Matching as code tests it: by places and marks. A list's MARKS are as many bytes as the list has: at the first byte of each record its symmetry mask
--- (bit t: it matches itself under t), 0 elsewhere. A record's mask, its matching and the lowest tag of a pointer to it need the marks one list down
+-- Matching as code tests it: by places and marks. A list's MARKS are as many bytes as the list has: at the first byte of each record its symmetry
+-- (bit t: it matches itself under t), 0 elsewhere. A record's symmetry, its matching and the lowest tag of a pointer to it need the marks one list down
 -- only. Definitions only.
 use mathlib.Core.Path.{_≡_}
 use mathlib.Core.Bool.{Bool, true, false, cond, not, _&&_}
@@ -11,8 +11,8 @@ use lib.ListN.{length, getD}
 use Rattle.paper.specs.Numbers.{allBelow, allIn, count}
 use Rattle.paper.specs.Leaf.{mirrorLeaf}
 use Rattle.paper.specs.Store.{leafNo}
-use Rattle.paper.specs.Packed.{Link, noLink, linksAt, leafAt, recordOk, codeFor, startsFrom}
-use Rattle.laws.specs.Masks.{maskFor, marked}
+use Rattle.paper.specs.Packed.{PackedPointer, noPointer, pointersAt, leafAt, recordOk, codeFor, startsFrom}
+use Rattle.laws.specs.Symmetries.{symmetryFor, marked}
 use Rattle.least.specs.Keys.{markOf, Group, leafKey}
 
 -- ---- the places of a list of bytes
@@ -32,8 +32,8 @@ unfoldable pub leavesMatch : List ℕ → ℕ → ℕ → ℕ → Bool
 leavesMatch l p q t = eqb (leafNo (leafAt l p)) (mirrorLeaf t (leafNo (leafAt l q)))
 
 -- two pointers match under t; `self x v`: the record at place x matches itself under v
-unfoldable pub linkMatch : (ℕ → ℕ → Bool) → ℕ → Link → Link → Bool
-linkMatch self t r s =
+unfoldable pub placeMatch : (ℕ → ℕ → Bool) → ℕ → PackedPointer → PackedPointer → Bool
+placeMatch self t r s =
     let m : Bool = self (r .place) (bitXor (bitXor (r .tag) (s .tag)) t) in
     cond (eqb (r .code) 0) (eqb (s .code) 0) (cond (eqb (s .code) 0) false (cond (eqb (r .place) (s .place)) m false))
 
@@ -44,14 +44,14 @@ selfBy u m x v = marked (markOf u m x) v
 -- the records at places p and q match under t
 unfoldable pub recordsMatch : ℕ → List ℕ → List ℕ → ℕ → ℕ → ℕ → Bool
 recordsMatch u m l p q t =
-    allBelow 8 (λ i. linkMatch (selfBy u m) t (getD (linksAt l p) i noLink) (getD (linksAt l q) (bitXor i t) noLink))
+    allBelow 8 (λ i. placeMatch (selfBy u m) t (getD (pointersAt l p) i noPointer) (getD (pointersAt l q) (bitXor i t) noPointer))
 
--- their masks
-unfoldable pub leafMask : List ℕ → ℕ → ℕ
-leafMask l p = maskFor (leavesMatch l p p)
+-- their symmetries
+unfoldable pub leafSymmetry : List ℕ → ℕ → ℕ
+leafSymmetry l p = symmetryFor (leavesMatch l p p)
 
-unfoldable pub recordMask : ℕ → List ℕ → List ℕ → ℕ → ℕ
-recordMask u m l p = maskFor (recordsMatch u m l p p)
+unfoldable pub recordSymmetry : ℕ → List ℕ → List ℕ → ℕ → ℕ
+recordSymmetry u m l p = symmetryFor (recordsMatch u m l p p)
 
 -- every mark is a group of mirrors; u the bytes that a place counts
 abbrev pub Grouped : ℕ → List ℕ → Type 0
@@ -59,19 +59,19 @@ Grouped u m = (x : ℕ) → (markOf u m x ≡ 0 → ⊥) → Group (markOf u m x
 
 -- ---- the rules of one record
 
--- a tag is the lowest with its meaning: no lower one differs from it by a mirror of this mask
+-- a tag is the lowest with its meaning: no lower one differs from it by a mirror of this symmetry
 unfoldable pub lowBy : ℕ → ℕ → Bool
-lowBy mask tag = allBelow tag (λ v. not (marked mask (bitXor v tag)))
+lowBy symmetry tag = allBelow tag (λ v. not (marked symmetry (bitXor v tag)))
 
 -- a pointer leads to where a record starts, has the code that its place calls for, and the lowest tag of its meaning
-unfoldable pub linkRules : ℕ → List ℕ → Link → Bool
-linkRules u m r =
-    let mask : ℕ = markOf u m (r .place) in
-    cond (eqb (r .code) 0) true (ltb 0 mask && eqb (r .code) (codeFor (r .place)) && lowBy mask (r .tag))
+unfoldable pub pointerRules : ℕ → List ℕ → PackedPointer → Bool
+pointerRules u m r =
+    let symmetry : ℕ = markOf u m (r .place) in
+    cond (eqb (r .code) 0) true (ltb 0 symmetry && eqb (r .code) (codeFor (r .place)) && lowBy symmetry (r .tag))
 
 -- a whole record, with good pointers
 unfoldable pub recordRules : ℕ → List ℕ → List ℕ → ℕ → Bool
-recordRules u m l p = recordOk l p && allIn (linkRules u m) (linksAt l p)
+recordRules u m l p = recordOk l p && allIn (pointerRules u m) (pointersAt l p)
 
 -- no two of the records at these places match under any mirror
 unfoldable pub apartIn : (ℕ → ℕ → ℕ → Bool) → List ℕ → Bool

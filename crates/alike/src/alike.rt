@@ -1,4 +1,4 @@
-// Matching and symmetry masks, by the marks one list down, and whether two records of a list match.
+// Matching and symmetries, by the marks one list down, and whether two records of a list match.
 ghost use mathlib.Core.Path.{_≡_};
 ghost use mathlib.Core.Bool.{not};
 ghost use Prim.Native.Nat.{_+_, _*_, _/_, _%_, _^_, _≤_, _<_};
@@ -7,9 +7,9 @@ ghost use lib.ListN.{length, take, drop, replicate};
 ghost use mathlib.Core.List.{map};
 ghost use Rattle.paper.specs.Numbers.{allIn};
 ghost use Rattle.paper.specs.Packed.{recordOk};
-ghost use Rattle.packed.specs.Records.{linkIs};
+ghost use Rattle.packed.specs.Records.{pointerIs};
 ghost use Rattle.sorted.specs.Slots.{slotsOf};
-ghost use Rattle.alike.specs.Matching.{selfBy, leavesMatch, linkMatch, recordsMatch, recordMask, recordRules, apartIn, placesIn, leavesIn, leafKeyAt, Grouped};
+ghost use Rattle.alike.specs.Matching.{selfBy, leavesMatch, placeMatch, recordsMatch, recordSymmetry, recordRules, apartIn, placesIn, leavesIn, leafKeyAt, Grouped};
 use least::least_leaf;
 use least::mark;
 use limits::CHILDREN;
@@ -72,9 +72,9 @@ pub fn two_leaves_match(leaves: &[u8], share: &mut [u8]) -> bool
 // ---- records
 
 // Whether two pointers match under a mirror.
-fn link_match(marks: &[u8], unit: usize, mirror: u32, a: Pointer, b: Pointer) -> bool
+fn place_match(marks: &[u8], unit: usize, mirror: u32, a: Pointer, b: Pointer) -> bool
     requires { ⌜ (unit ≤ 8) × (mirror < 8) × (a .tag < 8) × (b .tag < 8) ⌝ }
-    ensures { λ r. ⌜ r ≡ linkMatch (selfBy unit (now (marks .entry))) mirror (linkIs a) (linkIs b) ⌝ }
+    ensures { λ r. ⌜ r ≡ placeMatch (selfBy unit (now (marks .entry))) mirror (pointerIs a) (pointerIs b) ⌝ }
 {
     if a.code == 0 {
         return b.code == 0;
@@ -106,7 +106,7 @@ fn records_match(
         i -= 1;
         let a = pointer_at(list, place, i);
         let b = pointer_at(list, other, i ^ mirror);
-        if link_match(marks, unit, mirror, a, b) {
+        if place_match(marks, unit, mirror, a, b) {
             continue;
         }
         return false;
@@ -114,19 +114,19 @@ fn records_match(
     true
 }
 
-// The mask of the record at a place: bit t is set where it matches itself under mirror t.
-pub fn record_mask(list: &[u8], place: u32, marks: &[u8], unit: usize) -> u8
+// The symmetry of the record at a place: bit t is set where it matches itself under mirror t.
+pub fn record_symmetry(list: &[u8], place: u32, marks: &[u8], unit: usize) -> u8
     requires { ⌜ T (recordOk (now list) place) ⌝ }
     requires { ⌜ unit ≤ 8 ⌝ }
-    ensures { λ r. ⌜ r ≡ recordMask unit (now (marks .entry)) (now (list .entry)) place ⌝ }
+    ensures { λ r. ⌜ r ≡ recordSymmetry unit (now (marks .entry)) (now (list .entry)) place ⌝ }
 {
     let mut mirror = MIRRORS;
-    let mut mask = 0u8;
+    let mut symmetry = 0u8;
     while mirror != 0 {
         mirror -= 1;
-        mask = 2 * mask + (records_match(list, place, place, marks, unit, mirror) as u8);
+        symmetry = 2 * symmetry + (records_match(list, place, place, marks, unit, mirror) as u8);
     }
-    mask
+    symmetry
 }
 
 // Lays the records' places over the list's own share, and answers how many they are.

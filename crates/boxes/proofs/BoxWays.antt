@@ -16,7 +16,7 @@ use Rattle.paper.specs.Outline.{edge}
 use Rattle.paper.specs.Leaf.{leafVoxel}
 use Rattle.paper.specs.Store.{Cell, heights, keptCount, keptOf, cellsAt, cellAt, leafNo, tagOf, cellNo, badPointer, anyBad, sceneDepth, sceneRoot, sceneOk}
 use Rattle.paper.specs.Meaning.{cellVoxel, rootRoom}
-use Rattle.paper.specs.Questions.{below, takenBad, boxWay}
+use Rattle.paper.specs.Questions.{below, takenBad, boxWalkDamaged}
 use Rattle.paper.specs.Calls.{boxDamaged}
 use Rattle.laws.proofs.Tests.{T-true, true-T, and-left, and-right}
 use Rattle.laws.proofs.Tests.{any-at, at-any}
@@ -203,7 +203,7 @@ module _ (ws : List ℕ) (n : ℕ) (ok : T (sceneOk ws n)) where
       (boxCount E (λ u. cond (eqb root 0) false (cellVoxel K (depth - 2) c (mirror t E u))) low high)
 
   pub scene-seen : (low high : Point) → pointerIn (keptOf ws) (depth - 2) root 0 low high ≡ sceneBox ws n low high
-  unfolding pointerIn by-root sceneBox boxDamaged boxWay rootRoom
+  unfolding pointerIn by-root sceneBox boxDamaged boxWalkDamaged rootRoom
   scene-seen low high =
       let good : badPointer (length (cellsAt (keptOf ws) (depth - 2))) root ≡ false = rw (kept-length ws (depth - 2) (omega (arith, depth-in))) root-kept in
       ap (λ (b : Bool). by-root (edge (depth - 2)) (bitXor (tagOf root) 0) b low high) good

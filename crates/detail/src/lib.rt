@@ -12,8 +12,8 @@ ghost use Rattle.paper.specs.Answers.{outcome, chosen};
 ghost use Rattle.paper.specs.Detail.{distanceOk, factorOk, reaches, greatest, detailOutcome};
 ghost use Rattle.paper.specs.declared.Wish.the-variants.{WidestEdge, Distance};
 use paper::Chosen;
+use paper::DistanceFactor;
 use paper::Refusal;
-use paper::Sight;
 use paper::Wish;
 use points::depth_bad;
 
@@ -65,12 +65,12 @@ fn for_edge(depth: u32, edge: f64) -> Chosen
 }
 
 // The answer to a distance with its factor.
-fn for_sight(depth: u32, sight: Sight) -> Chosen
+fn for_distance(depth: u32, pair: DistanceFactor) -> Chosen
     requires { ⌜ T (depthOk depth) ⌝ }
-    ensures { λ r. ⌜ outcome (chosen r) [] ≡ detailOutcome depth (Distance sight) ⌝ }
+    ensures { λ r. ⌜ outcome (chosen r) [] ≡ detailOutcome depth (Distance pair) ⌝ }
 {
-    let distance = sight.distance;
-    let factor = sight.factor;
+    let distance = pair.distance;
+    let factor = pair.factor;
     if between(distance, 0.0, FARTHEST) {
         if between(factor, LEAST_FACTOR, GREATEST_FACTOR) {
             return Chosen::Height(height(depth, factor, distance));
@@ -89,6 +89,6 @@ pub fn detail(depth: u32, wish: Wish) -> Chosen
     match wish {
         Wish::EveryVoxel => Chosen::Height(0),
         Wish::WidestEdge(edge) => for_edge(depth, edge),
-        Wish::Distance(sight) => for_sight(depth, sight),
+        Wish::Distance(pair) => for_distance(depth, pair),
     }
 }

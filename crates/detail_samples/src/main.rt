@@ -1,7 +1,7 @@
 // Samples of the detail rule through the public call: a line for each, with the refusal's number (0 where accepted) and the
 // height. A number beside an end of a range is the next f64 there, written with as many digits as tell it apart.
 use paper::Chosen;
-use paper::Sight;
+use paper::DistanceFactor;
 use paper::Wish;
 
 // One line of output.
@@ -27,8 +27,8 @@ fn edge(depth: u32, widest: f64) {
 }
 
 // A distance with its factor.
-fn sight(depth: u32, distance: f64, factor: f64) {
-    let pair = Sight {
+fn distant(depth: u32, distance: f64, factor: f64) {
+    let pair = DistanceFactor {
         distance: distance,
         factor: factor,
     };
@@ -45,14 +45,14 @@ fn depths(nan: f64, infinity: f64) {
     sample(4294967295, Wish::EveryVoxel);
     edge(1, nan);
     edge(17, 0.5);
-    sight(1, 10.0, 2.5);
-    sight(17, infinity, 2.5);
+    distant(1, 10.0, 2.5);
+    distant(17, infinity, 2.5);
     // the height is held to the depth
     edge(2, 1099511627776.0);
     edge(15, 1099511627776.0);
     edge(16, 1099511627776.0);
-    sight(2, 10.0, 1.0);
-    sight(16, 1099511627776.0, 1.0);
+    distant(2, 10.0, 1.0);
+    distant(16, 1099511627776.0, 1.0);
 }
 
 // A widest edge, 1 to 2^40.
@@ -92,50 +92,50 @@ fn edges(nan: f64, infinity: f64) {
 // A distance, 0 to 2^40, the factor being in range.
 fn distances(nan: f64, infinity: f64) {
     // S11
-    sight(6, 10.0, 2.5);
-    sight(6, 10.0, 3.0);
+    distant(6, 10.0, 2.5);
+    distant(6, 10.0, 3.0);
     // both zeros count as 0, and no height passes
-    sight(16, 0.0, 1.0);
-    sight(16, -0.0, 1.0);
-    sight(16, -0.0, 9.313225746154785e-10);
+    distant(16, 0.0, 1.0);
+    distant(16, -0.0, 1.0);
+    distant(16, -0.0, 9.313225746154785e-10);
     // the least subnormal on either side of 0
-    sight(16, 5e-324, 9.313225746154785e-10);
-    sight(16, -5e-324, 9.313225746154785e-10);
+    distant(16, 5e-324, 9.313225746154785e-10);
+    distant(16, -5e-324, 9.313225746154785e-10);
     // 2^40 between its neighbours: 2^10 times 2^30
-    sight(16, 1099511627775.9999, 1073741824.0);
-    sight(16, 1099511627776.0, 1073741824.0);
-    sight(16, 1099511627776.0002, 1073741824.0);
-    sight(6, -1.0, 1.0);
-    sight(6, 1.7976931348623157e308, 1.0);
-    sight(6, infinity, 1.0);
-    sight(6, -infinity, 1.0);
-    sight(6, nan, 1.0);
+    distant(16, 1099511627775.9999, 1073741824.0);
+    distant(16, 1099511627776.0, 1073741824.0);
+    distant(16, 1099511627776.0002, 1073741824.0);
+    distant(6, -1.0, 1.0);
+    distant(6, 1.7976931348623157e308, 1.0);
+    distant(6, infinity, 1.0);
+    distant(6, -infinity, 1.0);
+    distant(6, nan, 1.0);
 }
 
 // A factor, 2^-30 to 2^30, the distance being in range.
 fn factors(nan: f64, infinity: f64) {
     // 2^-30 between its neighbours, at the distance 2^-14, which is 2^16 times it, and just below
-    sight(16, 6.103515625e-5, 9.313225746154784e-10);
-    sight(16, 6.103515625e-5, 9.313225746154785e-10);
-    sight(16, 6.103515624999999e-5, 9.313225746154785e-10);
-    sight(16, 6.103515625e-5, 9.313225746154787e-10);
+    distant(16, 6.103515625e-5, 9.313225746154784e-10);
+    distant(16, 6.103515625e-5, 9.313225746154785e-10);
+    distant(16, 6.103515624999999e-5, 9.313225746154785e-10);
+    distant(16, 6.103515625e-5, 9.313225746154787e-10);
     // 2^30 between its neighbours, at the distance 2^40
-    sight(16, 1099511627776.0, 1073741823.9999999);
-    sight(16, 1099511627776.0, 1073741824.0);
-    sight(16, 1099511627776.0, 1073741824.0000002);
+    distant(16, 1099511627776.0, 1073741823.9999999);
+    distant(16, 1099511627776.0, 1073741824.0);
+    distant(16, 1099511627776.0, 1073741824.0000002);
     // equal counts: 4 times the f64 nearest 0.3 is the f64 nearest 1.2
-    sight(16, 1.2, 0.3);
-    sight(16, 1.1999999999999997, 0.3);
+    distant(16, 1.2, 0.3);
+    distant(16, 1.1999999999999997, 0.3);
     // not in the range
-    sight(6, 10.0, 0.0);
-    sight(6, 10.0, -0.0);
-    sight(6, 10.0, 5e-324);
-    sight(6, 10.0, 2.225073858507201e-308);
-    sight(6, 10.0, -2.5);
-    sight(6, 10.0, infinity);
-    sight(6, 10.0, -infinity);
-    sight(6, 10.0, nan);
-    sight(6, nan, nan);
+    distant(6, 10.0, 0.0);
+    distant(6, 10.0, -0.0);
+    distant(6, 10.0, 5e-324);
+    distant(6, 10.0, 2.225073858507201e-308);
+    distant(6, 10.0, -2.5);
+    distant(6, 10.0, infinity);
+    distant(6, 10.0, -infinity);
+    distant(6, 10.0, nan);
+    distant(6, nan, nan);
 }
 
 // Every sample, line by line.

@@ -8,7 +8,7 @@ use lib.Dec.{T}
 use Rattle.paper.specs.Answers.{Outcome}
 use Rattle.paper.specs.Store.{isHeld, mostScenes, headerOk, sceneOk}
 use Rattle.paper.specs.Calls.{noScene}
-use Rattle.laws.proofs.Undamaged.{headed, held-placed}
+use Rattle.laws.proofs.Undamaged.{fine-header, held-placed}
 use Rattle.entry.proofs.Asked.{asked, refusedBy, answered, asked-header, asked-scene, asked-words, asked-out, asked-walk}
 
 twice : (b : Bool) → T b → T (not (not b))
@@ -17,7 +17,7 @@ twice false t = t
 
 -- a scene that is held has its two words
 pub held-fits : (ws : List ℕ) (n : ℕ) → T (headerOk ws) → T (isHeld ws n) → n < mostScenes
-held-fits ws n h l = held-placed ws n (headed ws h .held) l
+held-fits ws n h l = held-placed ws n (fine-header ws h .held) l
 
 module _ (ws : List ℕ) (n : ℕ) (out walk : Bool) (x : ℕ) where
   abbrev question : Outcome

@@ -9,7 +9,7 @@ use native.Mathlib.Omega.{arith}
 use lib.ListN.{length, getD, set, replicate, length-append, length-replicate, length-set, replicate-append-replicate}
 use lib.Seq.{sets, length-sets, set-append-left, set-comm, drop-length, getD-set-same, getD-set-other, ext-getD}
 use Rattle.paper.specs.Numbers.{tabulate, flatten}
-use Rattle.paper.specs.Store.{Cell, heights, keptCount, stride, listPlace, cellPlace, cellsAt, padded, wordsOf}
+use Rattle.paper.specs.Store.{Cell, heights, keptCount, stride, listPosition, cellPosition, cellsAt, padded, wordsOf}
 use Rattle.laws.proofs.Put.{sets-left, sets-right}
 use Rattle.laws.proofs.Lists.{getD-tabulate}
 use Rattle.laws.proofs.Padded.{flatten-append, Sized, snil, scons, flatten-length}
@@ -17,7 +17,7 @@ use Rattle.laws.proofs.Words.{Lists, lnil, lcons, words-fit, Fine, storeWith, s
 use Rattle.laws.proofs.Growing.{Extends, ext-length}
 use Rattle.keeping.specs.Keeping.{cutList, cutLists, cutBack}
 use Rattle.keeping.proofs.Headers.{past-header}
-use Rattle.store.proofs.Places.{place-in}
+use Rattle.store.proofs.Positions.{position-in}
 use Rattle.store.proofs.InPlace.{zeros-first}
 
 -- ---- one list: a front part a of its cells, and the others b
@@ -99,7 +99,7 @@ module _ (C N : ℕ) (S : List Cell) (Ks : List (List Cell)) (f : Fine C N S Ks)
   zeros = replicate (stride k * length b) 0
 
   -- the list's count, and zeros over the words of the cells cut
-  words-cut : wordsOf (storeWith C N S (set Ks k a)) ≡ sets (set (wordsOf (storeWith C N S Ks)) (2 + k) (length a)) (cellPlace C k (length a)) zeros
+  words-cut : wordsOf (storeWith C N S (set Ks k a)) ≡ sets (set (wordsOf (storeWith C N S Ks)) (2 + k) (length a)) (cellPosition C k (length a)) zeros
   words-cut =
       let cs : List Cell = cellsAt Ks k in
       let w : ℕ = stride k in
@@ -108,22 +108,22 @@ module _ (C N : ℕ) (S : List Cell) (Ks : List (List Cell)) (f : Fine C N S Ks)
       let room : length a * w + length zeros ≤ w * C = rw (length-replicate {A = ℕ} (w * length b) 0, mul-comm w (length b)) (omega arith) in
       list-words C N S Ks f k a (length a * w) zeros h
       (padded-cut (w * C) cs a b (cells-sized C N S Ks f k h) e fit ∙ ap (λ (n : ℕ). sets (padded (w * C) cs) (length a * w) (replicate n 0)) (mul-comm (length b) w)) room
-      ∙ ap (λ (i : ℕ). sets (set (wordsOf (storeWith C N S Ks)) (2 + k) (length a)) (listPlace C k + i) zeros) (mul-comm (length a) w)
+      ∙ ap (λ (i : ℕ). sets (set (wordsOf (storeWith C N S Ks)) (2 + k) (length a)) (listPosition C k + i) zeros) (mul-comm (length a) w)
 
   module _ (x : List ℕ) where
-    zeros-fit : cellPlace C k (length a) + length zeros ≤ length (wordsOf (storeWith C N S Ks))
+    zeros-fit : cellPosition C k (length a) + length zeros ≤ length (wordsOf (storeWith C N S Ks))
     zeros-fit =
         let few : length a + length b ≤ C = omega (arith, cells-few C N S Ks f k, ap length e, length-append a b) in
-        simp length-replicate (omega (arith, wordsOf-length C N S Ks f, place-in C k (length a + length b) h few))
+        simp length-replicate (omega (arith, wordsOf-length C N S Ks f, position-in C k (length a + length b) h few))
 
     pub list-cut-stored : cutList k (length a) (stored C N S Ks x) ≡ stored C N S (set Ks k a) x
     unfolding cutList
     list-cut-stored =
         let W : List ℕ = wordsOf (storeWith C N S Ks) in
         let n : ℕ = length a in
-        let i : ℕ = cellPlace C k n in
+        let i : ℕ = cellPosition C k n in
         let left : keptCount (stored C N S Ks x) k - n ≡ length b = omega (arith, count-read C N S Ks f x k h, ap length e, length-append a b) in
-        ap₂ (λ (D m : ℕ). set (sets (W ++ x) (cellPlace D k n) (replicate (stride k * m) 0)) (2 + k) n) (capacity-read C N S Ks f x) left
+        ap₂ (λ (D m : ℕ). set (sets (W ++ x) (cellPosition D k n) (replicate (stride k * m) 0)) (2 + k) n) (capacity-read C N S Ks f x) left
         ∙ ap (λ (l : List ℕ). set l (2 + k) n) (sets-left zeros W x i zeros-fit)
         ∙ set-append-left (sets W i zeros) x (2 + k) n (rw (length-sets W i zeros) (omega (arith, wordsOf-length C N S Ks f)))
         ∙ ap (λ (l : List ℕ). l ++ x) (set-before zeros W i (2 + k) n (omega (arith, past-header C k n)) ∙ sym words-cut)

@@ -9,26 +9,26 @@ use lib.Dec.{T, eqb}
 use lib.ListN.{length, take, drop, getD, set, replicate, length-set}
 use lib.Seq.{sets, length-sets, getD-set-same, getD-set-other, drop-set-lt, drop-set-add, take-set-le}
 use Rattle.paper.specs.Numbers.{allIn}
-use Rattle.paper.specs.Store.{Cell, heights, firstScene, zerosPlace, capacityOf, keptCount, stride, cellPlace, blank, capacityOk, headerOk}
-use Rattle.laws.proofs.Undamaged.{Headed, headed, headed-ok}
+use Rattle.paper.specs.Store.{Cell, heights, firstScene, zerosPosition, capacityOf, keptCount, stride, cellPosition, blank, capacityOk, headerOk}
+use Rattle.laws.proofs.Undamaged.{FineHeader, fine-header, fine-header-ok}
 use Rattle.keeping.specs.Keeping.{keepIn, cutList, cutLists}
 
 -- ---- words stored in the header, or past it
 
 -- the header's words that are always zero
 abbrev unused : ℕ
-unused = firstScene - zerosPlace
+unused = firstScene - zerosPosition
 
-zeros-low : (l : List ℕ) (i v : ℕ) → i < zerosPlace → take unused (drop zerosPlace (set l i v)) ≡ take unused (drop zerosPlace l)
-zeros-low l i v h = ap (take unused) (drop-set-lt zerosPlace l i v h)
+zeros-low : (l : List ℕ) (i v : ℕ) → i < zerosPosition → take unused (drop zerosPosition (set l i v)) ≡ take unused (drop zerosPosition l)
+zeros-low l i v h = ap (take unused) (drop-set-lt zerosPosition l i v h)
 
-zeros-high : (l : List ℕ) (i v : ℕ) → firstScene ≤ i → take unused (drop zerosPlace (set l i v)) ≡ take unused (drop zerosPlace l)
+zeros-high : (l : List ℕ) (i v : ℕ) → firstScene ≤ i → take unused (drop zerosPosition (set l i v)) ≡ take unused (drop zerosPosition l)
 zeros-high l i v h =
-    let j : ℕ = i - zerosPlace in
-    let e : i ≡ zerosPlace + j = omega arith in
-    ap (λ (n : ℕ). take unused (drop zerosPlace (set l n v))) e ∙ ap (take unused) (drop-set-add zerosPlace l j v) ∙ take-set-le unused (drop zerosPlace l) j v (omega arith)
+    let j : ℕ = i - zerosPosition in
+    let e : i ≡ zerosPosition + j = omega arith in
+    ap (λ (n : ℕ). take unused (drop zerosPosition (set l n v))) e ∙ ap (take unused) (drop-set-add zerosPosition l j v) ∙ take-set-le unused (drop zerosPosition l) j v (omega arith)
 
-zeros-past : (c l : List ℕ) (a : ℕ) → firstScene ≤ a → take unused (drop zerosPlace (sets l a c)) ≡ take unused (drop zerosPlace l)
+zeros-past : (c l : List ℕ) (a : ℕ) → firstScene ≤ a → take unused (drop zerosPosition (sets l a c)) ≡ take unused (drop zerosPosition l)
 zeros-past [] l a h = refl
 zeros-past (v ∷ c) l a h = zeros-past c (set l a v) (suc a) (omega arith) ∙ zeros-high l a v h
 
@@ -43,9 +43,9 @@ pub record Changed (ws vs : List ℕ) (i v : ℕ) : Type 0 where
   pub same-length : length vs ≡ length ws
   pub here : getD vs i 0 ≡ v
   pub others : (j : ℕ) → j < firstScene → (j ≡ i → ⊥) → getD vs j 0 ≡ getD ws j 0
-  pub zeros : blank vs zerosPlace unused ≡ blank ws zerosPlace unused
+  pub zeros : blank vs zerosPosition unused ≡ blank ws zerosPosition unused
 
-count-first : (ws c : List ℕ) (a i v : ℕ) → firstScene ≤ a → i < zerosPlace → i < length ws → Changed ws (sets (set ws i v) a c) i v
+count-first : (ws c : List ℕ) (a i v : ℕ) → firstScene ≤ a → i < zerosPosition → i < length ws → Changed ws (sets (set ws i v) a c) i v
 unfolding blank
 count-first ws c a i v past low inside = record {
   same-length = length-sets (set ws i v) a c ∙ length-set ws i v;
@@ -54,7 +54,7 @@ count-first ws c a i v past low inside = record {
   zeros = ap (allIn (eqb 0)) (zeros-past c (set ws i v) a past ∙ zeros-low ws i v low);
 }
 
-count-last : (ws c : List ℕ) (a i v : ℕ) → firstScene ≤ a → i < zerosPlace → i < length ws → Changed ws (set (sets ws a c) i v) i v
+count-last : (ws c : List ℕ) (a i v : ℕ) → firstScene ≤ a → i < zerosPosition → i < length ws → Changed ws (set (sets ws a c) i v) i v
 unfolding blank
 count-last ws c a i v past low inside = record {
   same-length = length-set (sets ws a c) i v ∙ length-sets ws a c;
@@ -64,14 +64,14 @@ count-last ws c a i v past low inside = record {
 }
 
 module _ (ws vs : List ℕ) (t : T (headerOk ws)) where
-  abbrev facts : Headed ws
-  facts = headed ws t
+  abbrev facts : FineHeader ws
+  facts = fine-header ws t
 
   -- a list's count
-  pub count-headed : (k v : ℕ) → Changed ws vs (2 + k) v → k < heights → v ≤ capacityOf ws → T (headerOk vs)
-  count-headed k v d h l =
+  pub count-header : (k v : ℕ) → Changed ws vs (2 + k) v → k < heights → v ≤ capacityOf ws → T (headerOk vs)
+  count-header k v d h l =
       let C : capacityOf vs ≡ capacityOf ws = d .others 0 (omega arith) (λ e. omega (arith, e)) in
-      headed-ok vs (record {
+      fine-header-ok vs (record {
         long = rw (C, d .same-length) (facts .long);
         capacity = subst (λ (n : ℕ). T (capacityOk n)) (sym C) (facts .capacity);
         held = rw (d .others 1 (omega arith) (λ e. omega (arith, e))) (facts .held);
@@ -85,32 +85,32 @@ module _ (ws vs : List ℕ) (t : T (headerOk ws)) where
 
 -- ---- a cell more, a list cut back
 
-pub past-header : (C k n : ℕ) → firstScene ≤ cellPlace C k n
+pub past-header : (C k n : ℕ) → firstScene ≤ cellPosition C k n
 past-header C zero n = omega arith
 past-header C (suc k) n = omega arith
 
 module _ (ws : List ℕ) (t : T (headerOk ws)) where
   long-header : firstScene ≤ length ws
-  long-header = omega (arith, headed ws t .long)
+  long-header = omega (arith, fine-header ws t .long)
 
   module _ (k : ℕ) (h : k < heights) where
     pub keep-changed : (c : Cell) → Changed ws (keepIn k c ws) (2 + k) (suc (keptCount ws k))
     unfolding keepIn
     keep-changed c =
-        count-first ws c (cellPlace (capacityOf ws) k (keptCount ws k)) (2 + k) (suc (keptCount ws k)) (past-header (capacityOf ws) k (keptCount ws k))
+        count-first ws c (cellPosition (capacityOf ws) k (keptCount ws k)) (2 + k) (suc (keptCount ws k)) (past-header (capacityOf ws) k (keptCount ws k))
         (omega arith) (omega (arith, long-header))
 
     pub cut-changed : (n : ℕ) → Changed ws (cutList k n ws) (2 + k) n
     unfolding cutList
     cut-changed n =
-        count-last ws (replicate (stride k * (keptCount ws k - n)) 0) (cellPlace (capacityOf ws) k n) (2 + k) n (past-header (capacityOf ws) k n)
+        count-last ws (replicate (stride k * (keptCount ws k - n)) 0) (cellPosition (capacityOf ws) k n) (2 + k) n (past-header (capacityOf ws) k n)
         (omega arith) (omega (arith, long-header))
 
-    pub keep-headed : (c : Cell) → keptCount ws k < capacityOf ws → T (headerOk (keepIn k c ws))
-    keep-headed c l = count-headed ws (keepIn k c ws) t k (suc (keptCount ws k)) (keep-changed c) h l
+    pub keep-header : (c : Cell) → keptCount ws k < capacityOf ws → T (headerOk (keepIn k c ws))
+    keep-header c l = count-header ws (keepIn k c ws) t k (suc (keptCount ws k)) (keep-changed c) h l
 
-    pub cut-headed : (n : ℕ) → n ≤ keptCount ws k → T (headerOk (cutList k n ws))
-    cut-headed n l = count-headed ws (cutList k n ws) t k n (cut-changed n) h (omega (arith, headed ws t .few k h))
+    pub cut-header : (n : ℕ) → n ≤ keptCount ws k → T (headerOk (cutList k n ws))
+    cut-header n l = count-header ws (cutList k n ws) t k n (cut-changed n) h (omega (arith, fine-header ws t .few k h))
 
 -- ---- the first m lists cut back
 
@@ -130,7 +130,7 @@ module _ (ns ws : List ℕ) (t : T (headerOk ws)) (l : (k : ℕ) → k < heights
       let s : CutSo k ws vs = lists-cut-so k (omega arith) in
       let d : Changed vs (cutList k n vs) (2 + k) n = cut-changed vs (s .in-order) k h n in
       record {
-        in-order = cut-headed vs (s .in-order) k h n (omega (arith, l k h, s .rest k (omega arith) h));
+        in-order = cut-header vs (s .in-order) k h n (omega (arith, l k h, s .rest k (omega arith) h));
         same-length = d .same-length ∙ s .same-length;
         rest = λ j g u. d .others (2 + j) (omega arith) (λ e. omega (arith, e)) ∙ s .rest j (omega arith) u;
       }

@@ -5,19 +5,19 @@ use Prim.Native.Nat.{ℕ, zero, suc, _+_, _-_, _*_}
 use lib.ListN.{getD, set, replicate}
 use lib.Seq.{sets}
 use Rattle.paper.specs.Calls.{nextScene}
-use Rattle.paper.specs.Store.{Cell, heights, capacityOf, scenesHeld, keptCount, scenePlace, stride, cellPlace}
+use Rattle.paper.specs.Store.{Cell, heights, capacityOf, scenesHeld, keptCount, scenePosition, stride, cellPosition}
 
 -- a cell more in list k ('as it stands'): its count grows by one, and the cell's words follow those of the others
 unfoldable pub keepIn : ℕ → Cell → List ℕ → List ℕ
-keepIn k c ws = sets (set ws (2 + k) (suc (keptCount ws k))) (cellPlace (capacityOf ws) k (keptCount ws k)) c
+keepIn k c ws = sets (set ws (2 + k) (suc (keptCount ws k))) (cellPosition (capacityOf ws) k (keptCount ws k)) c
 
 -- a scene more ('the scene number'): word 1 grows by one, and the scene's depth and root pointer stand at the place of the next number
 unfoldable pub holdIn : Cell → List ℕ → List ℕ
-holdIn c ws = sets (set ws 1 (suc (scenesHeld ws))) (scenePlace (nextScene ws)) c
+holdIn c ws = sets (set ws 1 (suc (scenesHeld ws))) (scenePosition (nextScene ws)) c
 
 -- list k back to its first n cells: the words of the others become zero, and n is its count
 unfoldable pub cutList : ℕ → ℕ → List ℕ → List ℕ
-cutList k n ws = set (sets ws (cellPlace (capacityOf ws) k n) (replicate (stride k * (keptCount ws k - n)) 0)) (2 + k) n
+cutList k n ws = set (sets ws (cellPosition (capacityOf ws) k n) (replicate (stride k * (keptCount ws k - n)) 0)) (2 + k) n
 
 -- each of the first m lists back to so many cells as ns says
 unfoldable pub cutLists : ℕ → List ℕ → List ℕ → List ℕ

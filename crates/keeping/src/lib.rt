@@ -13,10 +13,10 @@ use store::FIRST_COUNT;
 use store::HEIGHTS;
 use store::HIGH_WORD;
 use store::capacity;
-use store::cell_place;
+use store::cell_position;
 use store::kept_count;
 use store::put_zeros;
-use store::scene_place;
+use store::scene_position;
 use store::scenes_held;
 
 // The place of the count of scenes.
@@ -51,7 +51,7 @@ fn keep(store: &mut [u32], k: u32, words: &[u32])
     ensures { λ _. ⌜ now (store .exit) ≡ keepIn k (now (words .entry)) (now (store .entry)) ⌝ }
 {
     let count = kept_count(store, k);
-    let at = cell_place(capacity(store), k, count);
+    let at = cell_position(capacity(store), k, count);
     set_count(store, k, count + 1);
     put_words(store, at, words);
 }
@@ -89,7 +89,7 @@ pub fn hold_scene(store: &mut [u32], depth: u32, root: u32)
     ensures { λ _. ⌜ now (store .exit) ≡ holdIn (depth ∷ root ∷ []) (now (store .entry)) ⌝ }
 {
     let held = scenes_held(store);
-    let at = scene_place(held);
+    let at = scene_position(held);
     store[SCENES_HELD] = held + 1;
     let words = [depth, root];
     put_words(store, at, &words);
@@ -117,8 +117,8 @@ fn cut_list(store: &mut [u32], k: u32, count: u32)
     ensures { λ _. ⌜ now (store .exit) ≡ cutList k count (now (store .entry)) ⌝ }
 {
     let units = capacity(store);
-    let end = cell_place(units, k, kept_count(store, k));
-    let at = cell_place(units, k, count);
+    let end = cell_position(units, k, kept_count(store, k));
+    let at = cell_position(units, k, count);
     put_zeros(store, at, end - at);
     set_count(store, k, count);
 }

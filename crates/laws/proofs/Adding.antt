@@ -1,4 +1,4 @@
--- Adding a cell to any lists whose cells are ok: kept cells stay, the pointer answered stands for the cell and has its mask, the invariant is
+-- Adding a cell to any lists whose cells are ok: kept cells stay, the pointer answered stands for the cell and has its symmetry, the invariant is
 -- kept, and it is refused only where C others are kept. A found cell matches, so it has the mirrored voxels; else it is kept. Assumes nothing.
 use mathlib.Core.Path.{_≡_, refl, sym, _∙_, subst, subst₂, ap, ap₂}
 use mathlib.Core.Bool.{Bool, true, false, cond}
@@ -23,10 +23,10 @@ use Rattle.laws.proofs.Eight.{xor8-lt, xor8-back}
 use Rattle.laws.proofs.Mirrors.{mirror-inside, mirror-mirror}
 use Rattle.laws.proofs.Matching.{match-sound}
 use Rattle.laws.proofs.Invariant.{Names, OkPointer, OkCell, OkCells, ok-fits, Alike, LowTag, Shape, Inv, match-complete, pointer-at}
-use Rattle.laws.specs.Masks.{symmetries}
-use Rattle.laws.proofs.Masks.{mask-match-same}
+use Rattle.laws.specs.Symmetries.{symmetryOf}
+use Rattle.laws.proofs.Symmetries.{symmetry-match-same}
 use Rattle.laws.proofs.Seeking.{Found, Nowhere, Sought, find-is}
-use Rattle.laws.proofs.Growing.{Extends, ext-refl, ext-trans, ext-cell, ext-voxels, ext-symmetries}
+use Rattle.laws.proofs.Growing.{Extends, ext-refl, ext-trans, ext-cell, ext-voxels, ext-symmetry-of}
 use Rattle.laws.proofs.Keeping.{K⁺, keep-other, keep-extends, keep-length, keep-cell, keep-each, keep-ok, keep-inv}
 use Rattle.laws.proofs.Occurring.{Occurs, occurs-here}
 
@@ -265,32 +265,32 @@ module _ (C : ℕ) (hC : C ≤ mostCapacity) (K : List (List Cell)) (sd : Sound 
         go O.none f = keep-done f
         go (some p) f = found-done p f
 
-  -- the cell that the pointer names has the mask of the cell added
-  abbrev pub SameMask : ℕ → List (List Cell) → Type 0
-  SameMask p K′ = symmetries K′ k (cellAt K′ k (cellNo p)) ≡ symmetries K k c
+  -- the cell that the pointer names has the symmetry of the cell added
+  abbrev pub SameSymmetry : ℕ → List (List Cell) → Type 0
+  SameSymmetry p K′ = symmetryOf K′ k (cellAt K′ k (cellNo p)) ≡ symmetryOf K k c
 
-  keep-mask : Answer (Unit {0}) SameMask (keep C k c K)
+  keep-symmetry : Answer (Unit {0}) SameSymmetry (keep C k c K)
   unfolding keep
-  keep-mask = go (ltb (length (cellsAt K k)) C) refl
+  keep-symmetry = go (ltb (length (cellsAt K k)) C) refl
     where
       go : (b : Bool) → ltb (length (cellsAt K k)) C ≡ b
-          → Answer (Unit {0}) SameMask (cond b (added (pointer 0 (length (cellsAt K k))) (set K k (cellsAt K k ++ (c ∷ [])))) full)
+          → Answer (Unit {0}) SameSymmetry (cond b (added (pointer 0 (length (cellsAt K k))) (set K k (cellsAt K k ++ (c ∷ [])))) full)
       go false e = tt
       go true e =
           let K″ : List (List Cell) = K⁺ K k hk c in
-          ap (λ (n : ℕ). symmetries K″ k (cellAt K″ k n)) (pointer-cell 0 (length (cellsAt K k)) (omega (arith, ltb-true (length (cellsAt K k)) C e)))
-          ∙ ap (symmetries K″ k) (keep-cell K k hk c) ∙ ext-symmetries (keep-extends K k hk c) (sd .ok) k c okc
+          ap (λ (n : ℕ). symmetryOf K″ k (cellAt K″ k n)) (pointer-cell 0 (length (cellsAt K k)) (omega (arith, ltb-true (length (cellsAt K k)) C e)))
+          ∙ ap (symmetryOf K″ k) (keep-cell K k hk c) ∙ ext-symmetry-of (keep-extends K k hk c) (sd .ok) k c okc
 
-  found-mask : (p : ℕ) → Found (λ b t. matches K k c b t) (cellsAt K k) 0 p → SameMask p K
-  found-mask p f =
-      ap (λ (n : ℕ). symmetries K k (cellAt K k n)) (ap cellNo (sym (found-pointer f)) ∙ pointer-cell (f .mirror) (f .cell) (found-small f))
-      ∙ sym (mask-match-same K k c (cellAt K k (f .cell)) (f .mirror) (f .is-mirror) (ok-fits K k c okc)
+  found-symmetry : (p : ℕ) → Found (λ b t. matches K k c b t) (cellsAt K k) 0 p → SameSymmetry p K
+  found-symmetry p f =
+      ap (λ (n : ℕ). symmetryOf K k (cellAt K k n)) (ap cellNo (sym (found-pointer f)) ∙ pointer-cell (f .mirror) (f .cell) (found-small f))
+      ∙ sym (symmetry-match-same K k c (cellAt K k (f .cell)) (f .mirror) (f .is-mirror) (ok-fits K k c okc)
       (ok-fits K k (cellAt K k (f .cell)) (sd .ok k (f .cell) (f .is-cell))) (f .passes))
 
-  pub addCell-mask : Answer (Unit {0}) SameMask (addCell C k c K)
+  pub addCell-symmetry : Answer (Unit {0}) SameSymmetry (addCell C k c K)
   unfolding addCell
-  addCell-mask = go (find (λ b t. matches K k c b t) (cellsAt K k) 0) (find-is (λ b t. matches K k c b t) (cellsAt K k) 0)
+  addCell-symmetry = go (find (λ b t. matches K k c b t) (cellsAt K k) 0) (find-is (λ b t. matches K k c b t) (cellsAt K k) 0)
     where
-      go : (o : Option ℕ) → Sought (λ b t. matches K k c b t) (cellsAt K k) 0 o → Answer (Unit {0}) SameMask (orKeep o K (keep C k c K))
-      go O.none f = keep-mask
-      go (some p) f = found-mask p f
+      go : (o : Option ℕ) → Sought (λ b t. matches K k c b t) (cellsAt K k) 0 o → Answer (Unit {0}) SameSymmetry (orKeep o K (keep C k c K))
+      go O.none f = keep-symmetry
+      go (some p) f = found-symmetry p f

@@ -17,7 +17,7 @@ use Rattle.paper.specs.Match.{Adding, full, added, orKeep, keep, find, matches,
 use Rattle.paper.specs.Calls.{nextScene, scenesFull, adding, withScene}
 use Rattle.laws.proofs.OutlineFits.{Fits, outline-fits}
 use Rattle.laws.proofs.Words.{Lists, lists-snoc, Fine, scene-fine, wordsOf-length}
-use Rattle.laws.proofs.Undamaged.{Headed, header-fine}
+use Rattle.laws.proofs.Undamaged.{FineHeader, header-fine}
 use Rattle.laws.proofs.Adding.{Answer, then-answer}
 use Rattle.laws.proofs.AddingTrees.{Each, enil, econs}
 use Rattle.laws.proofs.Capacity.{Grows, addTree-grows}
@@ -79,7 +79,7 @@ addTree-lists C (node a b c d e g i j) k f K h =
 
 -- ---- the store after adding
 
-module _ (ws file : List ℕ) (h : Headed ws) where
+module _ (ws file : List ℕ) (h : FineHeader ws) where
   pub adding-lists : ListsAfter (capacityOf ws) (adding ws file)
   unfolding adding storeOf
   adding-lists = addTree-lists (capacityOf ws) (outlineTree file) (fileDepth file - 2) (outline-fits file) (keptOf ws) (header-fine ws h .of-cells)

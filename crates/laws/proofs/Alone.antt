@@ -64,7 +64,7 @@ module _ (D h : ℕ) where
       })
 
   differing-same : (r s : Room) → Same (2 ^ D) r s → (cs : List Room) → Differing (alone D r) h cs → Differing (alone D s) h cs
-  differing-same r s e cs d = record { occur = λ i l. alone-same r s e (getD cs i (λ v. false)) (d .occur i l); full = d .full; apart = d .apart }
+  differing-same r s e cs d = record { occur = λ i l. alone-same r s e (getD cs i (λ v. false)) (d .occur i l); non-empty = d .non-empty; apart = d .apart }
 
   -- they have the same number of cells
   pub number-same : (r s : Room) (n : ℕ) → Same (2 ^ D) r s → Number (alone D r) h n → Number (alone D s) h n
@@ -79,7 +79,7 @@ module _ (D h : ℕ) where
   pub number-none : (r : Room) → ((v : Point) → r v ≡ false) → Number (alone D r) h 0
   number-none r e = record {
     cells = [];
-    differing = record { occur = λ i l. absurd (not-suc-le-zero l); full = λ i l. absurd (not-suc-le-zero l); apart = λ i j l m. absurd (not-suc-le-zero m) };
+    differing = record { occur = λ i l. absurd (not-suc-le-zero l); non-empty = λ i l. absurd (not-suc-le-zero l); apart = λ i j l m. absurd (not-suc-le-zero m) };
     all = refl;
     most = none;
   }
@@ -87,7 +87,7 @@ module _ (D h : ℕ) where
       none : (cs : List Room) → Differing (alone D r) h cs → length cs ≤ 0
       none [] d = omega arith
       none (c ∷ cs) d =
-          let f = d .full 0 (omega arith) in
+          let f = d .non-empty 0 (omega arith) in
           absurd (false≢true (sym (e _) ∙ sym (alone-cell D r h c (d .occur 0 (omega arith)) .same (f .0) (f .1)) ∙ f .2))
 
 -- two such numbers are one

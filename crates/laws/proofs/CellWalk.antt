@@ -18,7 +18,7 @@ use Rattle.paper.specs.Store.{Cell, cellsAt, tagOf, cellNo}
 use Rattle.paper.specs.Meaning.{pointerVoxel, cellVoxel}
 use Rattle.paper.specs.Questions.{taken, below, pointerTo}
 use Rattle.laws.proofs.Eight.{xor8-lt}
-use Rattle.laws.proofs.CellPlaces.{placeAt, mirror-place, childNo-place, inChild-place}
+use Rattle.laws.proofs.CellPoints.{pointAt, mirror-pointAt, childNo-pointAt, inChild-pointAt}
 use Rattle.laws.proofs.Mirrors.{mirror-inside, mirror-twice, mirrored-trans, childNo-lt, inChild-inside}
 use Rattle.laws.proofs.Matching.{tag-lt}
 use Rattle.laws.proofs.Occurring.{cell-down, cell-whole, same-cell}
@@ -43,7 +43,7 @@ module _ (K : List (List Cell)) (ok : OkCells K) (j : ℕ) where
   -- from every pointer of list k, d heights above list j
   abbrev Leads : ℕ → ℕ → Type 0
   Leads d k = (p : ℕ) → OkPointer (length (cellsAt K k)) p → (c u : Point) → Inside (2 ^ d) c → Inside (edge j) u
-      → Ends K j (cellOf (roomAt k p) (suc (suc j)) c) (pointerTo K j k p (placeAt (edge j) c u))
+      → Ends K j (cellOf (roomAt k p) (suc (suc j)) c) (pointerTo K j k p (pointAt (edge j) c u))
 
   pointerTo-here : (i p : ℕ) (v : Point) → pointerTo K i i p v ≡ p
   unfolding pointerTo
@@ -51,7 +51,7 @@ module _ (K : List (List Cell)) (ok : OkCells K) (j : ℕ) where
   pointerTo-here (suc i) p v = rw (le-leb (suc i) (suc i) (omega arith))
 
   leads-here : Leads 0 j
-  leads-here p okp c u lc lu = rw (pointerTo-here j p (placeAt (edge j) c u)) (record {
+  leads-here p okp c u lc lu = rw (pointerTo-here j p (pointAt (edge j) c u)) (record {
     okq = okp;
     turn = 0;
     is-turn = lit< tt;
@@ -110,42 +110,42 @@ module _ (K : List (List Cell)) (ok : OkCells K) (j : ℕ) where
     in-cell = mirror-inside (tagOf p) (edge j) u lu
 
     -- a voxel of the cell at c, mirrored, is one of the cell at c′
-    turned : (v : Point) → Inside (edge j) v → mirror (tagOf p) (edge (suc k)) (placeAt (edge j) c v) ≡ placeAt (edge j) c′ (mirror (tagOf p) (edge j) v)
+    turned : (v : Point) → Inside (edge j) v → mirror (tagOf p) (edge (suc k)) (pointAt (edge j) c v) ≡ pointAt (edge j) c′ (mirror (tagOf p) (edge j) v)
     turned v l =
-        ap (λ (E : ℕ). mirror (tagOf p) E (placeAt (edge j) c v)) here-edge ∙ mirror-place (tagOf p) (edge j) (2 ^ suc d) c v lc l
+        ap (λ (E : ℕ). mirror (tagOf p) E (pointAt (edge j) c v)) here-edge ∙ mirror-pointAt (tagOf p) (edge j) (2 ^ suc d) c v lc l
 
-    next : pointerTo K j (suc k) p (placeAt (edge j) c u) ≡ pointerTo K j k (getD a i 0) (placeAt (edge j) c″ u′)
+    next : pointerTo K j (suc k) p (pointAt (edge j) c u) ≡ pointerTo K j k (getD a i 0) (pointAt (edge j) c″ u′)
     next =
-        pointerTo-some k p (placeAt (edge j) c u) (omega arith) (names-ne h)
+        pointerTo-some k p (pointAt (edge j) c u) (omega arith) (names-ne h)
         ∙ ap (λ (w : Point). pointerTo K j k (taken k a w) (inChild (edge k) w)) (turned u lu)
-        ∙ ap (λ (S : ℕ). pointerTo K j k (getD a (childNo S (placeAt (edge j) c′ u′)) 0) (inChild S (placeAt (edge j) c′ u′))) below-edge
-        ∙ ap₂ (λ (n : ℕ) (w : Point). pointerTo K j k (getD a n 0) w) (childNo-place (edge j) (2 ^ d) c′ u′ (pow-pos d) in-cell) (inChild-place (edge j) (2 ^ d) c′ u′ (pow-pos d) in-cell)
+        ∙ ap (λ (S : ℕ). pointerTo K j k (getD a (childNo S (pointAt (edge j) c′ u′)) 0) (inChild S (pointAt (edge j) c′ u′))) below-edge
+        ∙ ap₂ (λ (n : ℕ) (w : Point). pointerTo K j k (getD a n 0) w) (childNo-pointAt (edge j) (2 ^ d) c′ u′ (pow-pos d) in-cell) (inChild-pointAt (edge j) (2 ^ d) c′ u′ (pow-pos d) in-cell)
 
     cell-next : Same (edge j) (cellOf (roomAt (suc k) p) (suc (suc j)) c) (mirrored (tagOf p) (edge j) (cellOf (roomAt k (getD a i 0)) (suc (suc j)) c″))
     cell-next v l =
         let w : Point = mirror (tagOf p) (edge j) v in
         let lw : Inside (edge j) w = mirror-inside (tagOf p) (edge j) v l in
         let R : Room = cellVoxel K (suc k) a in
-        pointer-at (cellVoxel K (suc k)) (cellsAt K (suc k)) (edge (suc k)) p (names-ne h) (placeAt (edge j) c v)
+        pointer-at (cellVoxel K (suc k)) (cellsAt K (suc k)) (edge (suc k)) p (names-ne h) (pointAt (edge j) c v)
         ∙ ap R (turned v l)
         ∙ cell-down (suc (suc j)) d (edge k) R c′ below-edge in-halves w
         ∙ same-cell (suc (suc j)) d (edge k) (childRoom (edge k) i R) (roomAt k (getD a i 0)) c″ below-edge (cell-child K k a i (childNo-lt (2 ^ d) c′ in-halves))
         (inChild-inside (2 ^ d) c′ in-halves) w lw
 
-    ends-next : Leads d k → Ends K j (cellOf (roomAt (suc k) p) (suc (suc j)) c) (pointerTo K j (suc k) p (placeAt (edge j) c u))
+    ends-next : Leads d k → Ends K j (cellOf (roomAt (suc k) p) (suc (suc j)) c) (pointerTo K j (suc k) p (pointAt (edge j) c u))
     ends-next ih =
-        let r : Ends K j (cellOf (roomAt k (getD a i 0)) (suc (suc j)) c″) (pointerTo K j k (getD a i 0) (placeAt (edge j) c″ u′)) =
+        let r : Ends K j (cellOf (roomAt k (getD a i 0)) (suc (suc j)) c″) (pointerTo K j k (getD a i 0) (pointAt (edge j) c″ u′)) =
         ih (getD a i 0) (ok (suc k) (cellNo p) (names-lt h) i (childNo-lt (2 ^ d) c′ in-halves)) c″ u′ (inChild-inside (2 ^ d) c′ in-halves) in-cell in
         rw next (record {
           okq = r .okq;
           turn = bitXor (tagOf p) (r .turn);
           is-turn = xor8-lt (tagOf p) (r .turn) (tag-lt p) (r .is-turn);
           is = mirrored-trans (tagOf p) (r .turn) (edge j) (cellOf (roomAt (suc k) p) (suc (suc j)) c) (cellOf (roomAt k (getD a i 0)) (suc (suc j)) c″)
-              (roomAt j (pointerTo K j k (getD a i 0) (placeAt (edge j) c″ u′))) (tag-lt p) (r .is-turn) cell-next (r .is);
+              (roomAt j (pointerTo K j k (getD a i 0) (pointAt (edge j) c″ u′))) (tag-lt p) (r .is-turn) cell-next (r .is);
         })
 
   leads-step : (d k : ℕ) → k ≡ j + d → Leads d k → Leads (suc d) (suc k)
-  leads-step d k e ih p (inl z) c u lc lu = ends-none k p c (placeAt (edge j) c u) z (omega arith)
+  leads-step d k e ih p (inl z) c u lc lu = ends-none k p c (pointAt (edge j) c u) z (omega arith)
   leads-step d k e ih p (inr h) c u lc lu = ends-next d k e p h c u lc lu ih
 
   pub leads : (d k : ℕ) → k ≡ j + d → Leads d k
@@ -154,8 +154,8 @@ module _ (K : List (List Cell)) (ok : OkCells K) (j : ℕ) where
 
 -- ---- none exactly where the cell is empty
 
-pub ends-full : (K : List (List Cell)) → Invs K → (j : ℕ) (r : Room) (q : ℕ) → Ends K j r q → not (eqb q 0) ≡ nonEmpty (edge j) r
-ends-full K I j r q s = go (s .okq)
+pub ends-nonEmpty : (K : List (List Cell)) → Invs K → (j : ℕ) (r : Room) (q : ℕ) → Ends K j r q → not (eqb q 0) ≡ nonEmpty (edge j) r
+ends-nonEmpty K I j r q s = go (s .okq)
   where
     go : OkPointer (length (cellsAt K j)) q → not (eqb q 0) ≡ nonEmpty (edge j) r
     go (inl e) =

@@ -37,7 +37,7 @@ pub differing-table : (held : Held) (h n : ℕ) (rooms : ℕ → Room) → ((i :
     → Distinct (2 ^ h) n rooms → Differing held h (tabulate 0 n rooms)
 differing-table held h n rooms occur solid one = record {
   occur = λ i l. subst (Occurs held h) (sym (at i (below i l))) (occur i (below i l));
-  full = λ i l. subst (NonEmpty (2 ^ h)) (sym (at i (below i l))) (solid i (below i l));
+  non-empty = λ i l. subst (NonEmpty (2 ^ h)) (sym (at i (below i l))) (solid i (below i l));
   apart = λ i j l m z. omega (
     arith,
     one i j (below i (omega arith)) (below j m)
@@ -65,7 +65,7 @@ module _ {held : Held} (K : List (List Cell)) (k : ℕ)
   -- there are no more than those
   pub images-most : (cs : List Room) → Differing held (suc (suc k)) cs → length cs ≤ length (cellsAt K k)
   images-most cs d =
-      kept-at-least K k (length cs) (λ i. getD cs i (λ v. false)) (λ i h. image (getD cs i (λ v. false)) (d .occur i h) (d .full i h)) (differing-distinct cs d)
+      kept-at-least K k (length cs) (λ i. getD cs i (λ v. false)) (λ i h. image (getD cs i (λ v. false)) (d .occur i h) (d .non-empty i h)) (differing-distinct cs d)
 
   -- and where as many differing ones occur, those are the number
   pub images-number : (rooms : ℕ → Room) → ((q : ℕ) → q < length (cellsAt K k) → Occurs held (suc (suc k)) (rooms q)) → ((q : ℕ) → q < length (cellsAt K k) → NonEmpty (edge k) (rooms q))

@@ -1,4 +1,4 @@
--- Lists that grow: what the kept cells stand for stays, and so do their pointers, tags, matches and masks. By induction on the height, a cell
+-- Lists that grow: what the kept cells stand for stays, and so do their pointers, tags, matches and symmetries. By induction on the height, a cell
 -- that is kept being found under its number in the longer list. Assumes nothing.
 use mathlib.Core.Path.{_≡_, refl, sym, _∙_, subst, ap}
 use mathlib.Core.List.{List, [], _++_, append-nil, append-assoc}
@@ -17,8 +17,8 @@ use Rattle.laws.proofs.Tests.{all-same}
 use Rattle.laws.proofs.Mirrors.{mirror-inside, childNo-lt, inChild-inside}
 use Rattle.laws.proofs.Matching.{selfAt}
 use Rattle.laws.proofs.Invariant.{OkPointer, OkCell, OkCells, Alike, LowTag, Shape, names-lt, names-ne, pointer-none, pointer-at}
-use Rattle.laws.specs.Masks.{symmetries}
-use Rattle.laws.proofs.Masks.{mask-same, pointer-agree}
+use Rattle.laws.specs.Symmetries.{symmetryOf}
+use Rattle.laws.proofs.Symmetries.{symmetry-same, pointer-agree}
 
 -- every list of K is the beginning of that of K′
 pub record Extends (K K′ : List (List Cell)) : Type 0 where
@@ -107,10 +107,10 @@ module _ {K K′ : List (List Cell)} (x : Extends K K′) where
         (λ i hi. pointer-agree (selfAt K′ k) (selfAt K k) t (getD a i 0) (getD b (bitXor i t) 0) ht
         (self-same-at k (λ c u hu oc. ext-matches k c c u hu oc) (getD a i 0) (o i hi)))
 
-    pub ext-symmetries : (k : ℕ) (c : Cell) → OkCell K k c → symmetries K′ k c ≡ symmetries K k c
-    ext-symmetries k c o = mask-same (matches K′ k c c) (matches K k c c) (λ t ht. ext-matches k c c t ht o)
+    pub ext-symmetry-of : (k : ℕ) (c : Cell) → OkCell K k c → symmetryOf K′ k c ≡ symmetryOf K k c
+    ext-symmetry-of k c o = symmetry-same (matches K′ k c c) (matches K k c c) (λ t ht. ext-matches k c c t ht o)
 
-    -- the mask of the cell that a pointer names
-    pub ext-mask : (k p : ℕ) → OkPointer (length (cellsAt K k)) p → (p ≡ 0 → ⊥) → symmetries K′ k (cellAt K′ k (cellNo p)) ≡ symmetries K k (cellAt K k (cellNo p))
-    ext-mask k p (inl e) ne = absurd (ne e)
-    ext-mask k p (inr h) ne = ap (symmetries K′ k) (ext-cell k (cellNo p) (names-lt h)) ∙ ext-symmetries k (cellAt K k (cellNo p)) (ok k (cellNo p) (names-lt h))
+    -- the symmetry of the cell that a pointer names
+    pub ext-symmetry : (k p : ℕ) → OkPointer (length (cellsAt K k)) p → (p ≡ 0 → ⊥) → symmetryOf K′ k (cellAt K′ k (cellNo p)) ≡ symmetryOf K k (cellAt K k (cellNo p))
+    ext-symmetry k p (inl e) ne = absurd (ne e)
+    ext-symmetry k p (inr h) ne = ap (symmetryOf K′ k) (ext-cell k (cellNo p) (names-lt h)) ∙ ext-symmetry-of k (cellAt K k (cellNo p)) (ok k (cellNo p) (names-lt h))

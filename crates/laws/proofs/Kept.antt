@@ -7,7 +7,7 @@ use native.Mathlib.Nat.{le-of-suc-le-suc, mul-zero, zero-add}
 use native.Mathlib.Omega.{arith}
 use lib.ListN.{length, take, drop, getD}
 use lib.Seq.{drop-drop, getD-take, getD-drop}
-use Rattle.paper.specs.Store.{Cell, mostScenes, heights, capacityOf, keptCount, firstScene, sceneWords, scenePlace, cellLength, stride, listPlace, cellPlace, groups, keptIn, keptOf, storeOf, cellsAt, cellAt}
+use Rattle.paper.specs.Store.{Cell, mostScenes, heights, capacityOf, keptCount, firstScene, sceneWords, scenePosition, cellLength, stride, listPosition, cellPosition, groups, keptIn, keptOf, storeOf, cellsAt, cellAt}
 use Rattle.laws.proofs.Lists.{getD-tabulate, length-tabulate}
 
 pub groups-length : (s w n : ℕ) (l : List ℕ) → length (groups s w n l) ≡ n
@@ -28,9 +28,9 @@ pub cell-fills : (k : ℕ) → cellLength k ≡ stride k
 cell-fills zero = refl
 cell-fills (suc k) = refl
 
-pub kept-rows : (ws : List ℕ) (k : ℕ) → keptIn ws k ≡ groups (stride k) (stride k) (keptCount ws k) (drop (listPlace (capacityOf ws) k) ws)
+pub kept-rows : (ws : List ℕ) (k : ℕ) → keptIn ws k ≡ groups (stride k) (stride k) (keptCount ws k) (drop (listPosition (capacityOf ws) k) ws)
 unfolding keptIn
-kept-rows ws k = ap (λ (w : ℕ). groups (stride k) w (keptCount ws k) (drop (listPlace (capacityOf ws) k) ws)) (cell-fills k)
+kept-rows ws k = ap (λ (w : ℕ). groups (stride k) w (keptCount ws k) (drop (listPosition (capacityOf ws) k) ws)) (cell-fills k)
 
 pub kept-list : (ws : List ℕ) (k : ℕ) → k < heights → cellsAt (keptOf ws) k ≡ keptIn ws k
 unfolding keptOf
@@ -38,7 +38,7 @@ kept-list ws k h = getD-tabulate heights 0 k (keptIn ws) [] h ∙ ap (keptIn ws)
 
 pub keptIn-length : (ws : List ℕ) (k : ℕ) → length (keptIn ws k) ≡ keptCount ws k
 unfolding keptIn
-keptIn-length ws k = groups-length (stride k) (cellLength k) (keptCount ws k) (drop (listPlace (capacityOf ws) k) ws)
+keptIn-length ws k = groups-length (stride k) (cellLength k) (keptCount ws k) (drop (listPosition (capacityOf ws) k) ws)
 
 pub kept-length : (ws : List ℕ) (k : ℕ) → k < heights → length (cellsAt (keptOf ws) k) ≡ keptCount ws k
 kept-length ws k h = ap length (kept-list ws k h) ∙ keptIn-length ws k
@@ -53,19 +53,19 @@ pub places-length : (ws : List ℕ) → length (storeOf ws .scenes) ≡ mostScen
 unfolding storeOf
 places-length ws = groups-length sceneWords sceneWords mostScenes (drop firstScene ws)
 
-pub kept-cell : (ws : List ℕ) (k q : ℕ) → k < heights → q < keptCount ws k → cellAt (keptOf ws) k q ≡ take (cellLength k) (drop (cellPlace (capacityOf ws) k q) ws)
+pub kept-cell : (ws : List ℕ) (k q : ℕ) → k < heights → q < keptCount ws k → cellAt (keptOf ws) k q ≡ take (cellLength k) (drop (cellPosition (capacityOf ws) k q) ws)
 unfolding keptIn
 kept-cell ws k q h l =
     ap (λ (cs : List Cell). getD cs q []) (kept-list ws k h)
-    ∙ groups-at (stride k) (cellLength k) (keptCount ws k) q (drop (listPlace (capacityOf ws) k) ws) l
-    ∙ ap (take (cellLength k)) (drop-drop (stride k * q) (listPlace (capacityOf ws) k) ws)
+    ∙ groups-at (stride k) (cellLength k) (keptCount ws k) q (drop (listPosition (capacityOf ws) k) ws) l
+    ∙ ap (take (cellLength k)) (drop-drop (stride k * q) (listPosition (capacityOf ws) k) ws)
 
 -- word i of place n of the scenes
-pub scene-word : (ws : List ℕ) (n i : ℕ) → n < mostScenes → i < sceneWords → getD (getD (storeOf ws .scenes) n []) i 0 ≡ getD ws (scenePlace n + i) 0
+pub scene-word : (ws : List ℕ) (n i : ℕ) → n < mostScenes → i < sceneWords → getD (getD (storeOf ws .scenes) n []) i 0 ≡ getD ws (scenePosition n + i) 0
 unfolding storeOf
 scene-word ws n i l h =
     let from : List ℕ = drop firstScene ws in
-    let sum : firstScene + (sceneWords * n + i) ≡ scenePlace n + i = omega arith in
+    let sum : firstScene + (sceneWords * n + i) ≡ scenePosition n + i = omega arith in
     ap (λ (c : Cell). getD c i 0) (groups-at sceneWords sceneWords mostScenes n from l) ∙ getD-take sceneWords (drop (sceneWords * n) from) i 0 h
     ∙ getD-drop (sceneWords * n) from i 0
     ∙ getD-drop firstScene ws (sceneWords * n + i) 0 ∙ ap (λ (j : ℕ). getD ws j 0) sum

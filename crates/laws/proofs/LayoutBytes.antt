@@ -8,7 +8,7 @@ use lib.Dec.{eqb, lit<}
 use lib.ListN.{length}
 use Rattle.paper.specs.Numbers.{bytes, flatten}
 use Rattle.paper.specs.Store.{Cell, heights, tagOf, cellsAt}
-use Rattle.paper.specs.Packed.{packedFront, packedHead, emptyMark, codeFor}
+use Rattle.paper.specs.Packed.{packedVersion, packedHead, emptyMark, codeFor}
 use Rattle.paper.specs.Pack.{placeOf, pointerBytes, header, recordBytes, leafBytes, places, size, listBytes, sizeBytes, body, layout, emptyFile}
 use Rattle.paper.specs.Runs.{Bytes}
 use Rattle.laws.proofs.Bytes.{bytes-nil, bytes-cons, bytes-append, bytes-below}
@@ -48,12 +48,12 @@ pub layout-bytes : (k m : ℕ) (K : List (List Cell)) → k < heights → m < 8 
 unfolding layout
 layout-bytes k m K hk hm =
     let tail : List ℕ = sizeBytes K k ++ body K k in
-    bytes-cons packedFront (bytes 4 (packedHead + length tail) ++ (suc (suc k) ∷ m ∷ tail)) (lit< tt)
+    bytes-cons packedVersion (bytes 4 (packedHead + length tail) ++ (suc (suc k) ∷ m ∷ tail)) (lit< tt)
     (bytes-append (bytes 4 (packedHead + length tail)) (suc (suc k) ∷ m ∷ tail) (bytes-below 4 (packedHead + length tail))
     (bytes-cons (suc (suc k)) (m ∷ tail) (omega arith) (bytes-cons m tail (omega arith) (bytes-append (sizeBytes K k) (body K k) (size-bytes K k) (body-bytes K k)))))
 
 pub empty-bytes : (D : ℕ) → D < 256 → Bytes (emptyFile D)
 unfolding emptyFile
 empty-bytes D h =
-    bytes-cons packedFront (bytes 4 packedHead ++ (D ∷ emptyMark ∷ [])) (lit< tt)
+    bytes-cons packedVersion (bytes 4 packedHead ++ (D ∷ emptyMark ∷ [])) (lit< tt)
     (bytes-append (bytes 4 packedHead) (D ∷ emptyMark ∷ []) (bytes-below 4 packedHead) (bytes-cons D (emptyMark ∷ []) h (bytes-cons emptyMark [] (lit< tt) bytes-nil)))

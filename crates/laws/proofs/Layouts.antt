@@ -13,10 +13,10 @@ use lib.ListN.{length, getD, drop, length-append}
 use lib.Seq.{take-at, drop-at, drop-drop, drop-append-add, ext-getD}
 use Rattle.paper.specs.Numbers.{allBelow, bytes, num, count, tabulate}
 use Rattle.paper.specs.Rooms.{Point, mirror, least, deepest, depthOk}
-use Rattle.paper.specs.Outline.{edge, fileDepth, frontOk, lengthOk}
+use Rattle.paper.specs.Outline.{edge, fileDepth, versionOk, lengthOk}
 use Rattle.paper.specs.Store.{Cell, heights, cellsAt, cellAt}
 use Rattle.paper.specs.Meaning.{cellVoxel}
-use Rattle.paper.specs.Packed.{packedFront, packedHead, emptyMark, rootTag, topOf, sizeAt, tailAt, startAt, listAt, placesAt, cellsOf, graphOf, sizesOk, topOk, wholeAt, linksOk, graphOk, listsOk, rootOk, headOk, packedRules, proper, packedRoom}
+use Rattle.paper.specs.Packed.{packedVersion, packedHead, emptyMark, rootTag, topOf, sizeAt, tailAt, startAt, listAt, placesAt, cellsOf, graphOf, sizesOk, topOk, wholeAt, packedPointersOk, graphOk, listsOk, rootOk, headOk, packedRules, proper, packedRoom}
 use Rattle.paper.specs.Pack.{places, size, listBytes, sizeBytes, body, layout}
 use Rattle.laws.proofs.Tests.{T-true, true-T, and-T, all-T}
 use Rattle.laws.proofs.Lists.{Once, length-count, getD-count, length-tabulate, getD-tabulate}
@@ -117,7 +117,7 @@ module _ (k m : ℕ) (K : List (List Cell)) (g : Layable k K) (short : packedHea
   abbrev pub rest : List ℕ
   rest = sizeBytes K k ++ body K k
 
-  file-is : file ≡ (packedFront ∷ bytes 4 (packedHead + length rest) ++ (suc (suc k) ∷ m ∷ [])) ++ rest
+  file-is : file ≡ (packedVersion ∷ bytes 4 (packedHead + length rest) ++ (suc (suc k) ∷ m ∷ [])) ++ rest
   unfolding layout bytes
   file-is = refl
 
@@ -137,7 +137,7 @@ module _ (k m : ℕ) (K : List (List Cell)) (g : Layable k K) (short : packedHea
   unfolding sizeAt layout bytes
   size-said j h =
       rw top-said
-      (ap (num 4) (drop-append-add (packedFront ∷ bytes 4 (packedHead + length rest) ++ (suc (suc k) ∷ m ∷ [])) rest (4 * (k - j)) ∙ size-drop K k j h (body K k))
+      (ap (num 4) (drop-append-add (packedVersion ∷ bytes 4 (packedHead + length rest) ++ (suc (suc k) ∷ m ∷ [])) rest (4 * (k - j)) ∙ size-drop K k j h (body K k))
       ∙ size-first K j (body K k) (omega (arith, g .sizes j h)))
 
   tail-said : (j : ℕ) → j ≤ k → tailAt file j ≡ length (body K j)
@@ -148,7 +148,7 @@ module _ (k m : ℕ) (K : List (List Cell)) (g : Layable k K) (short : packedHea
   rest-said : (j : ℕ) → j ≤ k → drop (startAt file j) file ≡ body K j
   rest-said j h =
       let s : (pre : List ℕ) × (body K k ≡ pre ++ body K j) = body-split K k j h in
-      let head : List ℕ = packedFront ∷ bytes 4 (packedHead + length rest) ++ (suc (suc k) ∷ m ∷ []) in
+      let head : List ℕ = packedVersion ∷ bytes 4 (packedHead + length rest) ++ (suc (suc k) ∷ m ∷ []) in
       let e : file ≡ (head ++ (sizeBytes K k ++ s .0)) ++ body K j =
       file-is ∙ ap (λ (x : List ℕ). head ++ (sizeBytes K k ++ x)) (s .1) ∙ ap (λ (x : List ℕ). head ++ x) (sym (append-assoc (sizeBytes K k) (s .0) (body K j)))
       ∙ sym (append-assoc head (sizeBytes K k ++ s .0) (body K j)) in
@@ -184,9 +184,9 @@ module _ (k m : ℕ) (K : List (List Cell)) (g : Layable k K) (short : packedHea
   whole-said zero h = rw (places-said 0 h) (leaves-at .good)
   whole-said (suc j) h = rw (places-said (suc j) h) (read-at j h .good)
 
-  links-said : (j : ℕ) → j < k → T (linksOk file j)
-  unfolding linksOk places
-  links-said j h =
+  pointers-said : (j : ℕ) → j < k → T (packedPointersOk file j)
+  unfolding packedPointersOk places
+  pointers-said j h =
       rw (places-said (suc j) h, places-said j (omega arith))
       (list-good (places K j) (places-apart k K g j) (listAt file (suc j)) 0 (cellsAt K (suc j)) (rows-at k K g j h) (read-at j h))
 
@@ -201,9 +201,9 @@ module _ (k m : ℕ) (K : List (List Cell)) (g : Layable k K) (short : packedHea
       getD-tabulate (suc k) 0 j (cellsOf file) [] i ∙ ap (cellsOf file) (omega arith) ∙ cells-said j (omega arith)))
 
   -- the tests on bytes
-  pub front-ok : T (frontOk packedFront file)
+  pub version-ok : T (versionOk packedVersion file)
   unfolding layout
-  front-ok = and-T (ltb 0 (length file)) (eqb (getD file 0 0) packedFront) (true-T (lt-ltb 0 (length file) (omega (arith, file-length)))) tt
+  version-ok = and-T (ltb 0 (length file)) (eqb (getD file 0 0) packedVersion) (true-T (lt-ltb 0 (length file) (omega (arith, file-length)))) tt
 
   pub length-ok : T (lengthOk packedHead file)
   unfolding layout
@@ -235,9 +235,9 @@ module _ (k m : ℕ) (K : List (List Cell)) (g : Layable k K) (short : packedHea
   pub lists-ok : length (cellsAt K k) ≡ 1 → T (listsOk file)
   unfolding listsOk
   lists-ok e =
-      and-T (topOk file && allBelow (suc (topOf file)) (wholeAt file)) (allBelow (topOf file) (linksOk file))
+      and-T (topOk file && allBelow (suc (topOf file)) (wholeAt file)) (allBelow (topOf file) (packedPointersOk file))
       (and-T (topOk file) (allBelow (suc (topOf file)) (wholeAt file)) (top-ok e) (rw top-said (all-T (suc k) (wholeAt file) (λ j h. whole-said j (omega arith)))))
-      (rw top-said (all-T k (linksOk file) links-said))
+      (rw top-said (all-T k (packedPointersOk file) pointers-said))
 
   rules-ok : length K ≡ suc k → m < 8 → length (cellsAt K k) ≡ 1 → T (graphOk k m K) → T (packedRules file)
   unfolding packedRules headOk
@@ -248,7 +248,7 @@ module _ (k m : ℕ) (K : List (List Cell)) (g : Layable k K) (short : packedHea
   pub layout-proper : length K ≡ suc k → k < heights → m < 8 → length (cellsAt K k) ≡ 1 → T (graphOk k m K) → T (proper file)
   unfolding proper
   layout-proper n hk hm e t =
-      rw (T-true {b = frontOk packedFront file} front-ok, T-true {b = lengthOk packedHead file} length-ok, T-true {b = depthOk (fileDepth file)} (depth-ok hk)) (rules-ok n hm e t)
+      rw (T-true {b = versionOk packedVersion file} version-ok, T-true {b = lengthOk packedHead file} length-ok, T-true {b = depthOk (fileDepth file)} (depth-ok hk)) (rules-ok n hm e t)
 
   -- and means the room of its top cell, mirrored
   pub layout-room : length K ≡ suc k → m < 8 → (v : Point) → packedRoom file v ≡ cellVoxel K k (cellAt K k 0) (mirror m (edge k) v)

@@ -9,7 +9,7 @@ pub mod Eight
 pub mod Mirrors
 pub mod Leaves
 pub mod Trees
-pub mod CellPlaces
+pub mod CellPoints
 -- outlines
 pub mod Orders
 pub mod OutlineCells
@@ -32,8 +32,8 @@ pub mod CellVoxels
 -- matching and adding
 pub mod Matching
 pub mod Invariant
-pub mod Masks
-pub mod MaskLoop
+pub mod Symmetries
+pub mod SymmetryLoop
 pub mod Seeking
 pub mod Growing
 pub mod Keeping
@@ -92,7 +92,7 @@ pub mod PackedOrder
 pub mod Weights
 pub mod RenumberedPointers
 pub mod Renumbering
-pub mod PackedReached
+pub mod PackedReachable
 pub mod PackedGraph
 pub mod Packing
 pub mod PackedMost

@@ -7,7 +7,7 @@ use Prim.Native.Nat.{ℕ}
 use borrow.Author.Tests.{not-false}
 use lib.Dec.{T}
 use Rattle.paper.specs.Rooms.{depthOk}
-use Rattle.paper.specs.Outline.{outlineFront, outlineHead, frontOk, lengthOk, fileDepth, outlineRules}
+use Rattle.paper.specs.Outline.{outlineVersion, outlineHead, versionOk, lengthOk, fileDepth, outlineRules}
 use Rattle.paper.specs.Order.{Test, firstOf}
 use Rattle.paper.specs.Calls.{outlineOrder}
 use Rattle.paper.specs.Claims.{outlineRefusal, C2}
@@ -18,13 +18,13 @@ use Rattle.laws.proofs.Outlines.{Accepted, accepted-exactly, same-room-
 -- the tests of a file, others following
 pub file-accepted : (bs : List ℕ) (ts : List Test) → firstOf (outlineOrder bs ++ ts) ≡ 0 → Accepted bs × (firstOf ts ≡ 0)
 file-accepted bs ts e =
-    let a = none-passed (not (frontOk outlineFront bs)) 2 _ e in
+    let a = none-passed (not (versionOk outlineVersion bs)) 2 _ e in
     let b = none-passed (not (lengthOk outlineHead bs)) 3 _ (a .1) in
     let c = none-passed (not (depthOk (fileDepth bs))) 4 _ (b .1) in
     let d = none-passed (not (outlineRules bs)) 5 ts (c .1) in
     let pass : (t : Bool) → not t ≡ false → T t = λ t n. true-T (not-false t n) in (
       record {
-        front = pass (frontOk outlineFront bs) (a .0);
+        version = pass (versionOk outlineVersion bs) (a .0);
         long = pass (lengthOk outlineHead bs) (b .0);
         deep = pass (depthOk (fileDepth bs)) (c .0);
         rules = pass (outlineRules bs) (d .0);
@@ -38,7 +38,7 @@ refusal-none bs e = file-accepted bs [] e .0
 pub none-refusal : (bs : List ℕ) → Accepted bs → outlineRefusal bs ≡ 0
 none-refusal bs a =
     let failed : (t : Bool) → T t → not t ≡ false = λ t p. ap not (T-true {b = t} p) in
-    first-failed (not (frontOk outlineFront bs)) 3 _ (failed (frontOk outlineFront bs) (a .front))
+    first-failed (not (versionOk outlineVersion bs)) 3 _ (failed (versionOk outlineVersion bs) (a .version))
     (first-failed (not (lengthOk outlineHead bs)) 4 _ (failed (lengthOk outlineHead bs) (a .long))
     (first-failed (not (depthOk (fileDepth bs))) 5 _ (failed (depthOk (fileDepth bs)) (a .deep))
     (first-failed (not (outlineRules bs)) 6 [] (failed (outlineRules bs) (a .rules)) no-tests)))

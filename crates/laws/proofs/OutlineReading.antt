@@ -13,7 +13,7 @@ use lib.Seq.{take-at, drop-at, length-take-le}
 use Rattle.paper.specs.Numbers.{bitFor, gather, bytes, be, num, flatten, tabulate}
 use Rattle.paper.specs.Rooms.{Room, Same, nonEmpty}
 use Rattle.paper.specs.Leaf.{leafVoxel, leafOf}
-use Rattle.paper.specs.Outline.{edge, childOf, childFull, maskOf, recordOf, Tree, none, leaf, nodeOf, treeVoxel}
+use Rattle.paper.specs.Outline.{edge, childOf, childNonEmpty, maskOf, recordOf, Tree, none, leaf, nodeOf, treeVoxel}
 use Rattle.paper.specs.Outline.{Read, bad, ok, bind, before, readLeaf, readChildren, readRecord}
 use Rattle.paper.specs.Runs.{Bytes}
 use Rattle.laws.proofs.Bits.{gather-same, gather-shift, gather-some, bitFor-pos}
@@ -37,15 +37,15 @@ leaf-read n x h p =
     )
 
 -- children of which some are there, each read as it is written
-module _ (rd : List ℕ → Read Tree) (full : ℕ → Bool) (rec : ℕ → List ℕ) (tree : ℕ → Tree) where
+module _ (rd : List ℕ → Read Tree) (there : ℕ → Bool) (rec : ℕ → List ℕ) (tree : ℕ → Tree) where
   abbrev parts : ℕ → ℕ → List ℕ
-  parts a n = flatten (tabulate a n (λ i. cond (full i) (rec i) []))
+  parts a n = flatten (tabulate a n (λ i. cond (there i) (rec i) []))
 
   abbrev trees : ℕ → ℕ → List Tree
-  trees a n = tabulate a n (λ i. cond (full i) (tree i) none)
+  trees a n = tabulate a n (λ i. cond (there i) (tree i) none)
 
   abbrev mask : ℕ → ℕ → ℕ
-  mask a n = gather a n (λ i. bitFor (full i))
+  mask a n = gather a n (λ i. bitFor (there i))
 
   child-read : (a n : ℕ) (x : List ℕ) (b : Bool) → (b ≡ true → (y : List ℕ) → rd (rec a ++ y) ≡ ok (tree a) y)
       → readChildren rd n (mask (suc a) n) (parts (suc a) n ++ x) ≡ ok (trees (suc a) n) x
@@ -58,11 +58,11 @@ module _ (rd : List ℕ → Read Tree) (full : ℕ → Bool) (rec : ℕ → List
       let half : (0 + 2 * mask (suc a) n) / 2 ≡ mask (suc a) n = omega arith in
       rw (ne-eqb ((0 + 2 * mask (suc a) n) % 2) 1 (λ e. omega arith), half, ih)
 
-  children-read : ((i : ℕ) → full i ≡ true → (y : List ℕ) → rd (rec i ++ y) ≡ ok (tree i) y) → (n a : ℕ) (x : List ℕ)
+  children-read : ((i : ℕ) → there i ≡ true → (y : List ℕ) → rd (rec i ++ y) ≡ ok (tree i) y) → (n a : ℕ) (x : List ℕ)
       → readChildren rd n (mask a n) (parts a n ++ x) ≡ ok (trees a n) x
   unfolding readChildren gather flatten tabulate
   children-read h zero a x = refl
-  children-read h (suc n) a x = child-read a n x (full a) (h a) (children-read h n (suc a) x)
+  children-read h (suc n) a x = child-read a n x (there a) (h a) (children-read h n (suc a) x)
 
 pub record-read : (k : ℕ) (r : Room) → nonEmpty (edge k) r ≡ true → (x : List ℕ) → readRecord k (recordOf k r ++ x) ≡ ok (treeFor k r) x
 unfolding readRecord recordOf treeFor
@@ -70,7 +70,7 @@ record-read zero r e x = leaf-read (leafOf r) x (leafOf-lt r) (leafOf-solid r (n
 record-read (suc k) r e x =
     rw (
       ne-eqb (maskOf k r) 0 (λ q. omega (arith, mask-pos k r e)),
-      children-read (readRecord k) (childFull k r) (λ i. recordOf k (childOf k r i)) (λ i. treeFor k (childOf k r i)) (λ i h. record-read k (childOf k r i) h) 8 0 x,
+      children-read (readRecord k) (childNonEmpty k r) (λ i. recordOf k (childOf k r i)) (λ i. treeFor k (childOf k r i)) (λ i h. record-read k (childOf k r i) h) 8 0 x,
     )
 
 -- ---- what is read is written
@@ -93,8 +93,8 @@ pos n ne = omega arith
 abbrev roomOf : ℕ → Tree → Room
 roomOf k t = treeVoxel t (suc (suc k))
 
-abbrev full : ℕ → Tree → Bool
-full k t = nonEmpty (edge k) (roomOf k t)
+abbrev there : ℕ → Tree → Bool
+there k t = nonEmpty (edge k) (roomOf k t)
 
 -- bs begins with the record of the room of t, which is non-empty; the bytes x follow
 pub record Recorded (k : ℕ) (bs : List ℕ) (t : Tree) (x : List ℕ) : Type 0 where
@@ -129,21 +129,21 @@ leaf-written bs h = go (leb 8 (length bs)) refl (eqb (num 8 bs) 0) refl
 
 -- bs begins with the records of n children, those that the mask m calls for; the bytes x follow
 record Children (k n m : ℕ) (bs : List ℕ) (ts : List Tree) (x : List ℕ) : Type 0 where
-  called : m ≡ gather 0 n (λ i. bitFor (full k (getD ts i none)))
-  written : bs ≡ flatten (tabulate 0 n (λ i. cond (full k (getD ts i none)) (recordOf k (roomOf k (getD ts i none))) [])) ++ x
+  called : m ≡ gather 0 n (λ i. bitFor (there k (getD ts i none)))
+  written : bs ≡ flatten (tabulate 0 n (λ i. cond (there k (getD ts i none)) (recordOf k (roomOf k (getD ts i none))) [])) ++ x
   after : Bytes x
 
 children-nil : (k m : ℕ) (bs : List ℕ) → m < 1 → Bytes bs → Children k 0 m bs [] bs
 unfolding gather flatten tabulate
 children-nil k m bs l h = record { called = omega arith; written = refl; after = h }
 
-children-cons : (k n m : ℕ) (bs : List ℕ) (t : Tree) (y : List ℕ) (ts : List Tree) (x : List ℕ) → m % 2 ≡ bitFor (full k t)
-    → bs ≡ cond (full k t) (recordOf k (roomOf k t)) [] ++ y → Children k n (m / 2) y ts x → Children k (suc n) m bs (t ∷ ts) x
+children-cons : (k n m : ℕ) (bs : List ℕ) (t : Tree) (y : List ℕ) (ts : List Tree) (x : List ℕ) → m % 2 ≡ bitFor (there k t)
+    → bs ≡ cond (there k t) (recordOf k (roomOf k t)) [] ++ y → Children k n (m / 2) y ts x → Children k (suc n) m bs (t ∷ ts) x
 unfolding gather flatten tabulate
 children-cons k n m bs t y ts x low w c =
-    let bits : ℕ → ℕ = λ i. bitFor (full k (getD (t ∷ ts) i none)) in
-    let here : List ℕ = cond (full k t) (recordOf k (roomOf k t)) [] in
-    let parts : ℕ → List ℕ = λ i. cond (full k (getD (t ∷ ts) i none)) (recordOf k (roomOf k (getD (t ∷ ts) i none))) [] in
+    let bits : ℕ → ℕ = λ i. bitFor (there k (getD (t ∷ ts) i none)) in
+    let here : List ℕ = cond (there k t) (recordOf k (roomOf k t)) [] in
+    let parts : ℕ → List ℕ = λ i. cond (there k (getD (t ∷ ts) i none)) (recordOf k (roomOf k (getD (t ∷ ts) i none))) [] in
     let high : gather 1 n bits ≡ m / 2 = gather-shift 0 n bits ∙ sym (c .called) in
     record {
       called = omega arith;
@@ -153,7 +153,7 @@ children-cons k n m bs t y ts x low w c =
       after = c .after;
     }
 
-none-empty : (k : ℕ) → full k none ≡ false
+none-empty : (k : ℕ) → there k none ≡ false
 unfolding treeVoxel
 none-empty k = no-voxel-empty (edge k)
 
@@ -184,15 +184,15 @@ unfolding recordOf
 node-recorded k m bs ts x ne c =
     let R : Room = roomOf (suc k) (nodeOf ts) in
     let child : (i : ℕ) → i < 8 → Same (edge k) (childOf k R i) (roomOf k (getD ts i none)) = node-child (suc (suc k)) ts in
-    let same : (i : ℕ) → i < 8 → childFull k R i ≡ full k (getD ts i none) = λ i h. nonEmpty-same (edge k) (childOf k R i) (roomOf k (getD ts i none)) (child i h) in
-    let bits : ℕ → ℕ = λ i. bitFor (full k (getD ts i none)) in
-    let mask : maskOf k R ≡ m = gather-same 0 8 (λ i. bitFor (childFull k R i)) bits (λ i h. ap bitFor (same i h)) ∙ sym (c .called) in
+    let same : (i : ℕ) → i < 8 → childNonEmpty k R i ≡ there k (getD ts i none) = λ i h. nonEmpty-same (edge k) (childOf k R i) (roomOf k (getD ts i none)) (child i h) in
+    let bits : ℕ → ℕ = λ i. bitFor (there k (getD ts i none)) in
+    let mask : maskOf k R ≡ m = gather-same 0 8 (λ i. bitFor (childNonEmpty k R i)) bits (λ i h. ap bitFor (same i h)) ∙ sym (c .called) in
     let w : (i : ℕ) × (i < 8) × (0 < bits i) = gather-some 0 8 bits (rw (c .called) at (pos m ne)) in
-    let solid : childFull k R (w .0) ≡ true = same (w .0) (w .1) ∙ bitFor-pos (full k (getD ts (w .0) none)) (w .2) in
+    let solid : childNonEmpty k R (w .0) ≡ true = same (w .0) (w .1) ∙ bitFor-pos (there k (getD ts (w .0) none)) (w .2) in
     record {
       solid = some-nonEmpty (edge (suc k)) R (rw (edge-twice k) (child-nonEmpty (edge k) (w .0) R (nonEmpty-some (edge k) (childOf k R (w .0)) solid)));
       written = ap₂ _∷_ (sym mask) (c .written ∙ ap (λ (l : List (List ℕ)). flatten l ++ x) (sym (tabulate-same 0 8
-          (λ i. cond (childFull k R i) (recordOf k (childOf k R i)) []) (λ i. cond (full k (getD ts i none)) (recordOf k (roomOf k (getD ts i none))) [])
+          (λ i. cond (childNonEmpty k R i) (recordOf k (childOf k R i)) []) (λ i. cond (there k (getD ts i none)) (recordOf k (roomOf k (getD ts i none))) [])
           (λ i h. ap₂ (λ (b : Bool) (l : List ℕ). cond b l []) (same i h) (record-same k (childOf k R i) (roomOf k (getD ts i none)) (child i h))))));
       after = c .after;
     }

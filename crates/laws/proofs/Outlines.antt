@@ -13,9 +13,9 @@ use lib.ListN.{length, take, drop, getD, length-drop, take-append-drop}
 use lib.Seq.{drop-cons, drop-drop, length-take-le}
 use Rattle.paper.specs.Numbers.{bytes, be, num}
 use Rattle.paper.specs.Rooms.{Room, Inside, Same, depthOk, least, deepest, nonEmpty}
-use Rattle.paper.specs.Outline.{outlineFront, outlineHead, longest, recordOf, rootRecord, outlineOf, IsOutline}
+use Rattle.paper.specs.Outline.{outlineVersion, outlineHead, longest, recordOf, rootRecord, outlineOf, IsOutline}
 use Rattle.paper.specs.Outline.{Tree, none, treeVoxel, Read, bad, ok, readRecord, readRoot, readWhole, treeRead}
-use Rattle.paper.specs.Outline.{frontOk, lengthOk, fileDepth, outlineRead, outlineRules, outlineTree, fileRoom}
+use Rattle.paper.specs.Outline.{versionOk, lengthOk, fileDepth, outlineRead, outlineRules, outlineTree, fileRoom}
 use Rattle.paper.specs.Runs.{Bytes}
 use Rattle.laws.proofs.Tests.{true-T, and-left, and-right, and-T}
 use Rattle.laws.proofs.Bytes.{bytes-take, bytes-drop, be-bytes, bytes-be, be-lt}
@@ -25,7 +25,7 @@ use Rattle.laws.proofs.OutlineReading.{record-read, OkRead, Recorded, r
 
 -- refused by none of 3, 4, 5 and 6
 pub record Accepted (bs : List ℕ) : Type 0 where
-  pub front : T (frontOk outlineFront bs)
+  pub version : T (versionOk outlineVersion bs)
   pub long : T (lengthOk outlineHead bs)
   pub deep : T (depthOk (fileDepth bs))
   pub rules : T (outlineRules bs)
@@ -109,9 +109,9 @@ outline-field : (D : ℕ) (r : Room) → num 4 (drop 1 (outlineOf D r)) ≡ be 0
 unfolding outlineOf bytes
 outline-field D r = refl
 
-outline-front : (D : ℕ) (r : Room) → getD (outlineOf D r) 0 0 ≡ outlineFront
+outline-version : (D : ℕ) (r : Room) → getD (outlineOf D r) 0 0 ≡ outlineVersion
 unfolding outlineOf
-outline-front D r = refl
+outline-version D r = refl
 
 outline-read : (D : ℕ) (r : Room) → T (depthOk D) → outlineRead (outlineOf D r) ≡ ok (rootTree D r) []
 outline-read D r d = rw (written-depth D r, outline-rest D r) (root-read D r d)
@@ -125,10 +125,10 @@ written-accepted D r d l =
     let n : length bs ≡ outlineHead + length (rootRecord D r) = outline-length D r in
     let short : length bs ≤ longest = leb→le (length bs) longest l in
     let field : num 4 (drop 1 bs) ≡ length bs = outline-field D r ∙ be-bytes 4 (outlineHead + length (rootRecord D r)) 0 ∙ omega arith in
-    let is : T (eqb (getD bs 0 0) outlineFront) = true-T (eq-eqb (getD bs 0 0) outlineFront (outline-front D r)) in
+    let is : T (eqb (getD bs 0 0) outlineVersion) = true-T (eq-eqb (getD bs 0 0) outlineVersion (outline-version D r)) in
     let fits : T (eqb (num 4 (drop 1 bs)) (length bs)) = true-T (eq-eqb (num 4 (drop 1 bs)) (length bs) field) in
     record {
-      front = and-T (ltb 0 (length bs)) (eqb (getD bs 0 0) outlineFront) (lt→ltb 0 (length bs) (omega arith)) is;
+      version = and-T (ltb 0 (length bs)) (eqb (getD bs 0 0) outlineVersion) (lt→ltb 0 (length bs) (omega arith)) is;
       long = and-T (leb outlineHead (length bs)) (eqb (num 4 (drop 1 bs)) (length bs)) (le→leb outlineHead (length bs) (omega arith)) fits;
       deep = rw (written-depth D r) d;
       rules = rw (outline-read D r d) tt;
@@ -147,8 +147,8 @@ header-split bs h =
     (sym (take-append-drop 4 (drop 1 bs)) ∙ ap (λ (l : List ℕ). take 4 (drop 1 bs) ++ l) (drop-drop 4 1 bs ∙ drop-cons bs 5 0 (omega arith)))
 
 module _ (bs : List ℕ) (h : Bytes bs) (a : Accepted bs) where
-  front-is : getD bs 0 0 ≡ outlineFront
-  front-is = eqb→eq (getD bs 0 0) outlineFront (and-right (ltb 0 (length bs)) (eqb (getD bs 0 0) outlineFront) (a .front))
+  version-is : getD bs 0 0 ≡ outlineVersion
+  version-is = eqb→eq (getD bs 0 0) outlineVersion (and-right (ltb 0 (length bs)) (eqb (getD bs 0 0) outlineVersion) (a .version))
 
   head-in : outlineHead ≤ length bs
   head-in = leb→le outlineHead (length bs) (and-left (leb outlineHead (length bs)) (eqb (num 4 (drop 1 bs)) (length bs)) (a .long))
@@ -180,8 +180,8 @@ module _ (bs : List ℕ) (h : Bytes bs) (a : Accepted bs) where
   unfolding outlineOf
   read-written =
       let n : outlineHead + length (drop outlineHead bs) ≡ length bs = ap (λ (m : ℕ). outlineHead + m) (length-drop outlineHead bs) ∙ omega (arith, head-in) in
-      ap (λ (l : List ℕ). outlineFront ∷ bytes 4 (outlineHead + length l) ++ (fileDepth bs ∷ l)) rest-written
-      ∙ ap₂ (λ (x m : ℕ). x ∷ bytes 4 m ++ (fileDepth bs ∷ drop outlineHead bs)) (sym front-is) n
+      ap (λ (l : List ℕ). outlineVersion ∷ bytes 4 (outlineHead + length l) ++ (fileDepth bs ∷ l)) rest-written
+      ∙ ap₂ (λ (x m : ℕ). x ∷ bytes 4 m ++ (fileDepth bs ∷ drop outlineHead bs)) (sym version-is) n
       ∙ ap (λ (l : List ℕ). getD bs 0 0 ∷ l ++ (fileDepth bs ∷ drop outlineHead bs)) field-written
       ∙ sym (header-split bs head-in)
 
@@ -193,7 +193,7 @@ module _ (bs : List ℕ) (h : Bytes bs) (a : Accepted bs) where
 -- what is written goes by the voxels
 pub outline-same : (D : ℕ) (r r′ : Room) → T (depthOk D) → Same (2 ^ D) r r′ → outlineOf D r ≡ outlineOf D r′
 unfolding outlineOf
-outline-same D r r′ d e = ap (λ (l : List ℕ). outlineFront ∷ bytes 4 (outlineHead + length l) ++ (D ∷ l)) (root-same D r r′ d e)
+outline-same D r r′ d e = ap (λ (l : List ℕ). outlineVersion ∷ bytes 4 (outlineHead + length l) ++ (D ∷ l)) (root-same D r r′ d e)
 
 -- two outlines of one depth that mean the same room are the same bytes
 pub same-room-same-bytes : {bs bs′ : List ℕ} {D : ℕ} {r r′ : Room} → IsOutline bs D r → IsOutline bs′ D r′ → Same (2 ^ D) r r′ → bs ≡ bs′

@@ -26,7 +26,7 @@ use Rattle.laws.proofs.Refusals.{settled-accepted}
 use Rattle.laws.proofs.Running.{reached-running}
 use Rattle.laws.proofs.Holding.{Means, Holds, HeldAt, root-room, held-at, below-there, running-capacity, reached-holds}
 use Rattle.laws.proofs.ProperClaim.{check-accepts, proper-voxel}
-use Rattle.laws.proofs.PackedReached.{Packable}
+use Rattle.laws.proofs.PackedReachable.{Packable}
 use Rattle.laws.proofs.SamePack.{scenes-same}
 use Rattle.laws.proofs.Packing.{pack-proper, pack-depth, pack-room, pack-bytes}
 use Rattle.laws.proofs.PackedMost.{pack-most}

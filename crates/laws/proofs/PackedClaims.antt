@@ -5,8 +5,8 @@ use mathlib.Core.List.{List, [], _∷_}
 use Prim.Native.Nat.{ℕ, _^_}
 use Rattle.paper.specs.Numbers.{bitFor}
 use Rattle.paper.specs.Rooms.{Point, Inside, depthOk}
-use Rattle.paper.specs.Outline.{fileDepth, frontOk, lengthOk}
-use Rattle.paper.specs.Packed.{packedFront, packedHead, headOk, proper, packedRoom, packedPath, startsOf}
+use Rattle.paper.specs.Outline.{fileDepth, versionOk, lengthOk}
+use Rattle.paper.specs.Packed.{packedVersion, packedHead, headOk, proper, packedRoom, packedPath, startsOf}
 use Rattle.paper.specs.Answers.{told, outcome}
 use Rattle.paper.specs.Order.{firstOf}
 use Rattle.paper.specs.Calls.{openOrder, openOutcome, askOutcome}
@@ -27,7 +27,7 @@ proper-opens file e =
     let p : Proper file = proper-passes file (true-T e) in
     let none : firstOf (openOrder file) ≡ 0 =
     rw (
-      T-true {b = frontOk packedFront file} (p .front),
+      T-true {b = versionOk packedVersion file} (p .version),
       T-true {b = lengthOk packedHead file} (p .long),
       T-true {b = depthOk (fileDepth file)} (p .deep),
       T-true {b = headOk file} (p .head),

@@ -26,7 +26,7 @@ use Rattle.laws.proofs.Invariant.{Names, names-ne, LowTag, Inv}
 use Rattle.laws.proofs.RenumberedPointers.{Listed, listed-cell, listed-tag}
 use Rattle.laws.proofs.Renumbering.{Renumbered, renumbered-length, renumbered-cell, renumbered-pointer, renumbered-voxels, renumbered-popularity, pointer-low, renumbered-inv}
 use Rattle.laws.proofs.PackedOrder.{every-at, pairs-at, Before, Counted}
-use Rattle.laws.proofs.PackedReached.{Packable, numbers, keptAt, uses, N-top, N-chosen, N-few, N-used, N-falls, all-listed, before-le}
+use Rattle.laws.proofs.PackedReachable.{Packable, numbers, keptAt, uses, N-top, N-chosen, N-few, N-used, N-falls, all-listed, before-le}
 
 -- ---- the lists of a scene's graph
 

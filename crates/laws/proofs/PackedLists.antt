@@ -13,7 +13,7 @@ use lib.Dec.{T, eqb, leb, ltb, eqb→eq, ltb→lt, lit<}
 use lib.ListN.{length, getD, drop, length-map, length-take, length-drop}
 use Rattle.paper.specs.Numbers.{be, num, count, allIn, isIn, indexIn}
 use Rattle.paper.specs.Store.{Cell, pointer, cellsAt, cellAt}
-use Rattle.paper.specs.Packed.{packedHead, topOf, sizeAt, tailAt, startAt, sizesOk, listAt, headerAt, halves, Link, linkOf, noLink, readLinks, linksAt, leafAt, recordOk, farthestShort, codeFor, startsFrom, placesAt, byNumber, cellsOf, graphOf, wholeAt}
+use Rattle.paper.specs.Packed.{packedHead, topOf, sizeAt, tailAt, startAt, sizesOk, listAt, headerAt, halves, PackedPointer, pointerOf, noPointer, readPointers, pointersAt, leafAt, recordOk, farthestShort, codeFor, startsFrom, placesAt, byNumber, cellsOf, graphOf, wholeAt}
 use Rattle.paper.specs.Runs.{Bytes}
 use Rattle.laws.proofs.Tests.{and-left, and-right}
 use Rattle.laws.proofs.Lists.{map-at, allIn-head, allIn-tail, At, isIn-at, getD-tabulate, length-count, count-below}
@@ -36,21 +36,21 @@ num4-lt (a ∷ b ∷ c ∷ []) h = omega (arith, h 0, h 1, h 2)
 num4-lt (a ∷ b ∷ c ∷ d ∷ l) h = omega (arith, h 0, h 1, h 2, h 3)
 
 -- a pointer of the right width: three mirror bits, 29 bits of place at most
-abbrev pub Fits : Link → Type 0
+abbrev pub Fits : PackedPointer → Type 0
 Fits r = r .code ≡ codeFor (r .place) → (r .tag < 8) × (r .place < 2 ^ 29)
 
-pub link-fits : (c : ℕ) (l : List ℕ) → Bytes l → Fits (linkOf c (num (2 * c) l))
-link-fits c l h e = go (leb (linkOf c (num (2 * c) l) .place) farthestShort) e
+pub packedPointer-fits : (c : ℕ) (l : List ℕ) → Bytes l → Fits (pointerOf c (num (2 * c) l))
+packedPointer-fits c l h e = go (leb (pointerOf c (num (2 * c) l) .place) farthestShort) e
   where
-    go : (b : Bool) → c ≡ cond b 1 2 → (linkOf c (num (2 * c) l) .tag < 8) × (linkOf c (num (2 * c) l) .place < 2 ^ 29)
+    go : (b : Bool) → c ≡ cond b 1 2 → (pointerOf c (num (2 * c) l) .tag < 8) × (pointerOf c (num (2 * c) l) .place < 2 ^ 29)
     go true q = rw q (omega (arith, num2-lt l h), omega (arith, num2-lt l h))
     go false q = rw q (omega (arith, num4-lt l h), omega (arith, num4-lt l h))
 
-pub links-fit : (n h : ℕ) (l : List ℕ) → Bytes l → (i : ℕ) → Fits (getD (readLinks n h l) i noLink)
-unfolding readLinks
-links-fit zero h l b i = λ e. absurd (omega arith)
-links-fit (suc n) h l b zero = link-fits (h % 4) l b
-links-fit (suc n) h l b (suc i) = links-fit n (h / 4) (drop (2 * (h % 4)) l) (bytes-drop (2 * (h % 4)) l b) i
+pub pointers-fit : (n h : ℕ) (l : List ℕ) → Bytes l → (i : ℕ) → Fits (getD (readPointers n h l) i noPointer)
+unfolding readPointers
+pointers-fit zero h l b i = λ e. absurd (omega arith)
+pointers-fit (suc n) h l b zero = packedPointer-fits (h % 4) l b
+pointers-fit (suc n) h l b (suc i) = pointers-fit n (h / 4) (drop (2 * (h % 4)) l) (bytes-drop (2 * (h % 4)) l b) i
 
 -- ---- records have two half-words or more, so the record with number q starts at 2q or later
 
@@ -164,8 +164,8 @@ module _ (bs : List ℕ) (by : Bytes bs) (whole : (k : ℕ) → k ≤ topOf bs �
 
 -- ---- the graph's cells
 
-pub link-some : (ps : List ℕ) (l : Link) → (l .code ≡ 0 → ⊥) → byNumber ps l ≡ pointer (l .tag) (indexIn (l .place) ps)
-link-some ps l ne = rw (ne-eqb (l .code) 0 ne)
+pub packedPointer-some : (ps : List ℕ) (l : PackedPointer) → (l .code ≡ 0 → ⊥) → byNumber ps l ≡ pointer (l .tag) (indexIn (l .place) ps)
+packedPointer-some ps l ne = rw (ne-eqb (l .code) 0 ne)
 
 module _ (bs : List ℕ) where
   pub graph-cells : (k : ℕ) → k ≤ topOf bs → cellsAt (graphOf bs) k ≡ cellsOf bs k
@@ -177,7 +177,7 @@ module _ (bs : List ℕ) where
   unfolding cellsOf
   records-length zero h = ap length (graph-cells 0 h) ∙ length-map (placesAt bs 0) (leafAt (listAt bs 0))
   records-length (suc k) h =
-      ap length (graph-cells (suc k) h) ∙ length-map (placesAt bs (suc k)) (λ p. map (byNumber (placesAt bs k)) (linksAt (listAt bs (suc k)) p))
+      ap length (graph-cells (suc k) h) ∙ length-map (placesAt bs (suc k)) (λ p. map (byNumber (placesAt bs k)) (pointersAt (listAt bs (suc k)) p))
 
   -- the record at a start is the cell of that start's number
   graph-at : (k p : ℕ) (f : ℕ → Cell) → k ≤ topOf bs → cellsOf bs k ≡ map f (placesAt bs k) → T (isIn p (placesAt bs k))
@@ -188,9 +188,9 @@ module _ (bs : List ℕ) where
       ap (λ (l : List Cell). getD l i []) (graph-cells k h ∙ e) ∙ map-at f (placesAt bs k) i 0 [] (a .inside) ∙ ap f (a .is)
 
   pub record-cell : (k p : ℕ) → k < topOf bs → T (isIn p (placesAt bs (suc k)))
-      → cellAt (graphOf bs) (suc k) (indexIn p (placesAt bs (suc k))) ≡ map (byNumber (placesAt bs k)) (linksAt (listAt bs (suc k)) p)
+      → cellAt (graphOf bs) (suc k) (indexIn p (placesAt bs (suc k))) ≡ map (byNumber (placesAt bs k)) (pointersAt (listAt bs (suc k)) p)
   unfolding cellsOf
-  record-cell k p h t = graph-at (suc k) p (λ p. map (byNumber (placesAt bs k)) (linksAt (listAt bs (suc k)) p)) h refl t
+  record-cell k p h t = graph-at (suc k) p (λ p. map (byNumber (placesAt bs k)) (pointersAt (listAt bs (suc k)) p)) h refl t
 
   pub leaf-cell : (p : ℕ) → T (isIn p (placesAt bs 0)) → cellAt (graphOf bs) 0 (indexIn p (placesAt bs 0)) ≡ leafAt (listAt bs 0) p
   unfolding cellsOf

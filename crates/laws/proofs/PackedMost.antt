@@ -17,7 +17,7 @@ use Rattle.laws.proofs.Undamaged.{depth-low}
 use Rattle.laws.proofs.Invariant.{Names, OkPointer, names-ne}
 use Rattle.laws.proofs.RecordSizes.{size-le}
 use Rattle.laws.proofs.Layouts.{list-size, leaf-size, sizes-length}
-use Rattle.laws.proofs.PackedReached.{Packable, N-top, N-chosen}
+use Rattle.laws.proofs.PackedReachable.{Packable, N-top, N-chosen}
 use Rattle.laws.proofs.PackedGraph.{graph-length}
 use Rattle.laws.proofs.Packing.{scene-good, none-pack, some-pack}
 

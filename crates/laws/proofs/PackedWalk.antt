@@ -15,7 +15,7 @@ use Rattle.paper.specs.Outline.{fileDepth, lengthOk}
 use Rattle.paper.specs.Store.{Cell, leafNo, pointer, cellAt}
 use Rattle.paper.specs.Walk.{absent, unless, none, wrong, to, walkIn, rootWalk}
 use Rattle.paper.specs.Questions.{childFor, graphReading}
-use Rattle.paper.specs.Packed.{packedHead, emptyMark, rootTag, isEmpty, topOf, sizeAt, tailAt, listAt, headerAt, halves, Link, noLink, linksAt, leafAt, recordOk, leafOk, codeFor, startsFrom, placesAt, byNumber, graphOf, sizesOk, topOk, wholeAt, linkOk, linksOk, listsOk, headOk, rootOf, linkTo, entryOk, fileReading, fileWalk}
+use Rattle.paper.specs.Packed.{packedHead, emptyMark, rootTag, isEmpty, topOf, sizeAt, tailAt, listAt, headerAt, halves, PackedPointer, noPointer, pointersAt, leafAt, recordOk, leafOk, codeFor, startsFrom, placesAt, byNumber, graphOf, sizesOk, topOk, wholeAt, packedPointerOk, packedPointersOk, listsOk, headOk, rootOf, packedChild, entryOk, fileReading, fileWalk}
 use Rattle.paper.specs.Runs.{Bytes}
 use Rattle.laws.proofs.Tests.{T-true, true-T, and-left, and-right, all-at}
 use Rattle.laws.proofs.Lists.{allIn-at, allIn-isIn}
@@ -23,20 +23,20 @@ use Rattle.laws.proofs.Bytes.{bytes-drop}
 use Rattle.laws.proofs.Adding.{pointer-cell, pointer-tag}
 use Rattle.laws.proofs.Walking.{Mirrors, Seen, OneCell, SameChild, Agree, SameWalk, walks-same, seen-damaged, root-absent, root-seen}
 use Rattle.laws.proofs.CellVoxels.{tagTaken}
-use Rattle.laws.proofs.PackedLists.{num4-lt, Fits, links-fit, list-bytes, sizes-whole, tail-in, start-inside, start-small, link-some, record-cell, leaf-cell}
+use Rattle.laws.proofs.PackedLists.{num4-lt, Fits, pointers-fit, list-bytes, sizes-whole, tail-in, start-inside, start-small, packedPointer-some, record-cell, leaf-cell}
 
 module _ (bs : List ℕ) (by : Bytes bs) where
   -- ---- a pointer's tag is a mirror
 
-  link-at : (k p i : ℕ) → Fits (getD (linksAt (listAt bs (suc k)) p) i noLink)
-  unfolding linksAt
-  link-at k p i =
+  packedPointer-at : (k p i : ℕ) → Fits (getD (pointersAt (listAt bs (suc k)) p) i noPointer)
+  unfolding pointersAt
+  packedPointer-at k p i =
       let l : List ℕ = listAt bs (suc k) in
-      links-fit 8 (headerAt l p) (drop (2 * p + 2) l) (bytes-drop (2 * p + 2) l (list-bytes bs by (suc k))) i
+      pointers-fit 8 (headerAt l p) (drop (2 * p + 2) l) (bytes-drop (2 * p + 2) l (list-bytes bs by (suc k))) i
 
-  link-tag : (k : ℕ) (l : Link) → Fits l → (t q : ℕ) → linkTo bs k l ≡ to t q → t < 8
-  unfolding linkTo
-  link-tag k l f t q e = go (eqb (l .code) 0) (ltb (l .place) (sizeAt bs k)) (eqb (l .code) (codeFor (l .place))) refl e
+  packedPointer-tag : (k : ℕ) (l : PackedPointer) → Fits l → (t q : ℕ) → packedChild bs k l ≡ to t q → t < 8
+  unfolding packedChild
+  packedPointer-tag k l f t q e = go (eqb (l .code) 0) (ltb (l .place) (sizeAt bs k)) (eqb (l .code) (codeFor (l .place))) refl e
     where
       go : (a b c : Bool) → eqb (l .code) (codeFor (l .place)) ≡ c → cond a none (cond (b && c) (to (l .tag) (l .place)) wrong) ≡ to t q → t < 8
       go true b c w r = omega (arith, ap tagTaken r)
@@ -45,10 +45,10 @@ module _ (bs : List ℕ) (by : Bytes bs) where
       go false false c w r = omega (arith, ap tagTaken r)
 
   pub file-mirrors : Mirrors (fileReading bs)
-  file-mirrors k p i t q e = link-tag k (getD (linksAt (listAt bs (suc k)) p) i noLink) (link-at k p i) t q e
+  file-mirrors k p i t q e = packedPointer-tag k (getD (pointersAt (listAt bs (suc k)) p) i noPointer) (packedPointer-at k p i) t q e
 
 module _ (bs : List ℕ) (by : Bytes bs) (few : 8 * sizeAt bs 0 + 8 < 2 ^ 32) (whole : (k : ℕ) → k ≤ topOf bs → T (wholeAt bs k))
-    (linked : (k : ℕ) → k < topOf bs → T (linksOk bs k)) where
+    (pointed : (k : ℕ) → k < topOf bs → T (packedPointersOk bs k)) where
   abbrev G : List (List Cell)
   G = graphOf bs
 
@@ -58,9 +58,9 @@ module _ (bs : List ℕ) (by : Bytes bs) (few : 8 * sizeAt bs 0 + 8 < 2 ^ 32) (w
     pub starts : T (isIn p (placesAt bs k))
     pub number : n ≡ indexIn p (placesAt bs k)
 
-  link-same : (k : ℕ) → k ≤ topOf bs → (l : Link) → Fits l → T (linkOk (placesAt bs k) l) → SameChild (Record k) (linkTo bs k l) (childFor (byNumber (placesAt bs k) l))
-  unfolding linkOk linkTo
-  link-same k h l f t = go (eqb (l .code) 0) refl t
+  packedPointer-same : (k : ℕ) → k ≤ topOf bs → (l : PackedPointer) → Fits l → T (packedPointerOk (placesAt bs k) l) → SameChild (Record k) (packedChild bs k l) (childFor (byNumber (placesAt bs k) l))
+  unfolding packedPointerOk packedChild
+  packedPointer-same k h l f t = go (eqb (l .code) 0) refl t
     where
       ps : List ℕ
       ps = placesAt bs k
@@ -75,7 +75,7 @@ module _ (bs : List ℕ) (by : Bytes bs) (few : 8 * sizeAt bs 0 + 8 < 2 ^ 32) (w
           let n : ℕ = indexIn (l .place) ps in
           let small : suc n < 2 ^ 29 = start-small bs by whole few k (l .place) h i (fit .1) in
           rw (
-            link-some ps l (eqb-false (l .code) 0 e),
+            packedPointer-some ps l (eqb-false (l .code) 0 e),
             ne-eqb (pointer (l .tag) n) 0 (λ q. omega arith),
             pointer-cell (l .tag) n small,
             pointer-tag (l .tag) n (fit .0) small,
@@ -94,16 +94,16 @@ module _ (bs : List ℕ) (by : Bytes bs) (few : 8 * sizeAt bs 0 + 8 < 2 ^ 32) (w
   file-leaves p n r = ap leafNo (sym (ap (cellAt G 0) (r .number) ∙ leaf-cell bs p (r .starts)))
 
   file-children : (k p n i : ℕ) → Record (suc k) p n
-      → SameChild (Record k) (linkTo bs k (getD (linksAt (listAt bs (suc k)) p) i noLink)) (childFor (getD (cellAt G (suc k) n) i 0))
-  unfolding linksOk linkOk
+      → SameChild (Record k) (packedChild bs k (getD (pointersAt (listAt bs (suc k)) p) i noPointer)) (childFor (getD (cellAt G (suc k) n) i 0))
+  unfolding packedPointersOk packedPointerOk
   file-children k p n i r =
       let l : List ℕ = listAt bs (suc k) in
       let ps : List ℕ = placesAt bs (suc k) in
-      let os : T (allIn (linkOk (placesAt bs k)) (linksAt l p)) = allIn-isIn (λ q. allIn (linkOk (placesAt bs k)) (linksAt l q)) ps p (linked k (r .low)) (r .starts) in
-      let is : getD (cellAt G (suc k) n) i 0 ≡ byNumber (placesAt bs k) (getD (linksAt l p) i noLink) =
-      ap (λ (c : Cell). getD c i 0) (ap (cellAt G (suc k)) (r .number) ∙ record-cell bs k p (r .low) (r .starts)) ∙ List·getD-map (byNumber (placesAt bs k)) (linksAt l p) i noLink in
-      subst (λ (q : ℕ). SameChild (Record k) (linkTo bs k (getD (linksAt l p) i noLink)) (childFor q)) (sym is)
-      (link-same k (omega (arith, r .low)) (getD (linksAt l p) i noLink) (link-at bs by k p i) (allIn-at (linkOk (placesAt bs k)) noLink tt (linksAt l p) os i))
+      let os : T (allIn (packedPointerOk (placesAt bs k)) (pointersAt l p)) = allIn-isIn (λ q. allIn (packedPointerOk (placesAt bs k)) (pointersAt l q)) ps p (pointed k (r .low)) (r .starts) in
+      let is : getD (cellAt G (suc k) n) i 0 ≡ byNumber (placesAt bs k) (getD (pointersAt l p) i noPointer) =
+      ap (λ (c : Cell). getD c i 0) (ap (cellAt G (suc k)) (r .number) ∙ record-cell bs k p (r .low) (r .starts)) ∙ List·getD-map (byNumber (placesAt bs k)) (pointersAt l p) i noPointer in
+      subst (λ (q : ℕ). SameChild (Record k) (packedChild bs k (getD (pointersAt l p) i noPointer)) (childFor q)) (sym is)
+      (packedPointer-same k (omega (arith, r .low)) (getD (pointersAt l p) i noPointer) (packedPointer-at bs by k p i) (allIn-at (packedPointerOk (placesAt bs k)) noPointer tt (pointersAt l p) os i))
 
   -- records by place and cells of the graph by number
   pub file-agrees : Agree (fileReading bs) (graphReading G) Record
@@ -144,7 +144,7 @@ pub record SoundLists (bs : List ℕ) : Type 0 where
   pub sizes : T (sizesOk bs)
   pub top : T (topOk bs)
   pub whole : (k : ℕ) → k ≤ topOf bs → T (wholeAt bs k)
-  pub linked : (k : ℕ) → k < topOf bs → T (linksOk bs k)
+  pub pointed : (k : ℕ) → k < topOf bs → T (packedPointersOk bs k)
 
 pub lists-of : (bs : List ℕ) → T (sizesOk bs) → T (listsOk bs) → SoundLists bs
 unfolding listsOk
@@ -152,7 +152,7 @@ lists-of bs s t = record {
   sizes = s;
   top = search and-left;
   whole = λ k h. all-at (suc (topOf bs)) (wholeAt bs) (search (and-left, and-right)) k (omega arith);
-  linked = λ k h. all-at (topOf bs) (linksOk bs) (search and-right) k h;
+  pointed = λ k h. all-at (topOf bs) (packedPointersOk bs) (search and-right) k h;
 }
 
 module _ (bs : List ℕ) (by : Bytes bs) (long : T (lengthOk packedHead bs)) (p : SoundLists bs) where
@@ -171,7 +171,7 @@ module _ (bs : List ℕ) (by : Bytes bs) (long : T (lengthOk packedHead bs)) (p 
   pub top-same : (t : ℕ) (v : Point) → SameWalk (walkIn (fileReading bs) (topOf bs) 0 t v) (walkIn (graphReading (graphOf bs)) (topOf bs) 0 t v)
   top-same t v =
       let f : First (placesAt bs (topOf bs)) = root-first in
-      walks-same (fileReading bs) (graphReading (graphOf bs)) (Record bs by few-leaves (p .whole) (p .linked)) (file-agrees bs by few-leaves (p .whole) (p .linked)) (topOf bs) 0 0 t v
+      walks-same (fileReading bs) (graphReading (graphOf bs)) (Record bs by few-leaves (p .whole) (p .pointed)) (file-agrees bs by few-leaves (p .whole) (p .pointed)) (topOf bs) 0 0 t v
       (record { low = omega arith; starts = f .there; number = sym (f .number) })
 
 -- ---- a packed voxel question on any bytes

@@ -27,11 +27,11 @@ use Rattle.laws.proofs.Matching.{tag-lt}
 use Rattle.laws.proofs.Invariant.{Names, OkPointer, LowTag, TwoWords, names-ne}
 use Rattle.laws.proofs.Adding.{pointer-names}
 use Rattle.laws.proofs.RecordSizes.{size-le}
-use Rattle.laws.proofs.RecordReading.{NamesWord, OkLink, Row}
+use Rattle.laws.proofs.RecordReading.{NamesWord, OkPackedPointer, Row}
 use Rattle.laws.proofs.RecordCells.{LeafRow}
 use Rattle.laws.proofs.Layouts.{Layable, list-size, leaf-size, sizes-length, layout-proper, layout-room}
 use Rattle.laws.proofs.LayoutBytes.{layout-bytes, empty-bytes}
-use Rattle.laws.proofs.PackedReached.{InList, none-renumbered, listed-is, listed-small, listed-some, Packable, numbers, N-top, N-chosen, N-few, all-listed}
+use Rattle.laws.proofs.PackedReachable.{InList, none-renumbered, listed-is, listed-small, listed-some, Packable, numbers, N-top, N-chosen, N-few, all-listed}
 use Rattle.laws.proofs.PackedGraph.{graph-length, graph-leaf, graph-cell, graph-pointer, graph-voxels, graph-ok}
 
 -- ---- sizes: a record has at most 17 half-words
@@ -75,9 +75,9 @@ module _ (K : List (List Cell)) (s : Packable K) (k p : ℕ) (hk : k < heights) 
       row : LeafRow (cellAt K 0 q)
       row = record { two = two; solid = solid-leaf (leafNo (cellAt K 0 q)) (s .invs 0 .solid q hq .0) (s .invs 0 .solid q hq .2) }
 
-  link-in : (ns : List ℕ) → length ns ≤ mostCapacity → (r : ℕ) → InList ns r → OkLink (length ns) (renumber ns r)
-  link-in ns few r (inl e) = inl (none-renumbered ns r e)
-  link-in ns few r (inr w) =
+  packedPointer-in : (ns : List ℕ) → length ns ≤ mostCapacity → (r : ℕ) → InList ns r → OkPackedPointer (length ns) (renumber ns r)
+  packedPointer-in ns few r (inl e) = inl (none-renumbered ns r e)
+  packedPointer-in ns few r (inr w) =
       let n : ℕ = indexIn (cellNo r) ns in
       inr (subst (NamesWord (length ns)) (sym (listed-is ns r w))
       (record { names = pointer-names (tagOf r) n (length ns) (listed-small ns few r w) (w .at .inside); small = omega (arith, listed-small ns few r w) }))
@@ -90,7 +90,7 @@ module _ (K : List (List Cell)) (s : Packable K) (k p : ℕ) (hk : k < heights) 
   row-of : (j : ℕ) → j < k → (n : ℕ) → n < length (cellsAt g (suc j)) → Row (length (cellsAt g j)) (cellAt g (suc j) n)
   row-of j h n m = record {
     eight = ap length (graph-cell K s k p hp j h n l) ∙ length-map (cellAt K (suc j) q) (renumber (Ns j)) ∙ s .invs (suc j) .shape q hq .0;
-    links = λ i. subst₂ OkLink (sym (graph-length K s k p hp j (omega arith))) (sym (graph-pointer K s k p hp j h n l i)) (link-in (Ns j) few (getD (cellAt K (suc j) q) i 0) (all-listed K s k p hp j h n l i));
+    pointers = λ i. subst₂ OkPackedPointer (sym (graph-length K s k p hp j (omega arith))) (sym (graph-pointer K s k p hp j h n l i)) (packedPointer-in (Ns j) few (getD (cellAt K (suc j) q) i 0) (all-listed K s k p hp j h n l i));
     one = childNo (edge j) v;
     there = λ e.
         some-in (Ns j) (getD (cellAt K (suc j) q) (childNo (edge j) v) 0) (all-listed K s k p hp j h n l (childNo (edge j) v))

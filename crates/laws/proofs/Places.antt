@@ -12,7 +12,7 @@ use lib.Dec.{T, eqb, lit<}
 use lib.ListN.{length, drop, getD, List·getD-eq-default}
 use lib.Seq.{getD-take, getD-drop}
 use Rattle.paper.specs.Numbers.{allBelow}
-use Rattle.paper.specs.Store.{Cell, cellsAt, cellAt, leafNo, badPointer, anyBad, heights, capacityOf, keptCount, cellLength, cellPlace, keptOf, cellUsable, listUsable}
+use Rattle.paper.specs.Store.{Cell, cellsAt, cellAt, leafNo, badPointer, anyBad, heights, capacityOf, keptCount, cellLength, cellPosition, keptOf, cellUsable, listUsable}
 use Rattle.laws.proofs.Tests.{T-true, and-right, none-at}
 use Rattle.laws.proofs.Lists.{allIn-in}
 use Rattle.laws.proofs.Kept.{kept-length}
@@ -29,16 +29,16 @@ kept-none ws k h = List·getD-eq-default (keptOf ws) [] {n = k} (rw (kept-tall w
 
 -- word i of cell q of list k
 pub kept-word : (ws : List ℕ) (k q i : ℕ) → k < heights → q < keptCount ws k → i < cellLength k
-    → getD (cellAt (keptOf ws) k q) i 0 ≡ getD ws (cellPlace (capacityOf ws) k q + i) 0
+    → getD (cellAt (keptOf ws) k q) i 0 ≡ getD ws (cellPosition (capacityOf ws) k q + i) 0
 kept-word ws k q i h hq hi =
-    let a : ℕ = cellPlace (capacityOf ws) k q in
+    let a : ℕ = cellPosition (capacityOf ws) k q in
     ap (λ (c : Cell). getD c i 0) (kept-cell ws k q h hq) ∙ getD-take (cellLength k) (drop a ws) i 0 hi ∙ getD-drop a ws i 0
 
 -- a leaf is two words
 pub leaf-fits : (ws : List ℕ) → ((i : ℕ) → getD ws i 0 < 2 ^ 32) → (q : ℕ) → q < keptCount ws 0 → leafNo (cellAt (keptOf ws) 0 q) < 2 ^ 64
 leaf-fits ws words q h =
     let C : ℕ = capacityOf ws in
-    omega (arith, kept-word ws 0 q 0 (lit< tt) h (lit< tt), kept-word ws 0 q 1 (lit< tt) h (lit< tt), words (cellPlace C 0 q + 0), words (cellPlace C 0 q + 1))
+    omega (arith, kept-word ws 0 q 0 (lit< tt) h (lit< tt), kept-word ws 0 q 1 (lit< tt) h (lit< tt), words (cellPosition C 0 q + 0), words (cellPosition C 0 q + 1))
 
 -- ---- an undamaged store's cells are ok
 

@@ -10,12 +10,12 @@ use lib.Dec.{T, ltb}
 use lib.ListN.{length}
 use Rattle.paper.specs.Numbers.{bitFor}
 use Rattle.paper.specs.Rooms.{Point, Inside, depthOk, mirror}
-use Rattle.paper.specs.Outline.{fileDepth, frontOk, lengthOk}
+use Rattle.paper.specs.Outline.{fileDepth, versionOk, lengthOk}
 use Rattle.paper.specs.Store.{Cell, cellAt}
 use Rattle.paper.specs.Meaning.{cellVoxel}
 use Rattle.paper.specs.Walk.{none, to, isDamaged, solidAt, rootWalk}
 use Rattle.paper.specs.Questions.{graphReading}
-use Rattle.paper.specs.Packed.{packedFront, packedHead, rootTag, isEmpty, topOf, graphOf, sizesOk, listsOk, graphOk, rootOk, headOk, packedRules, proper, packedRoom, packedPath, rootOf, fileReading, fileWalk}
+use Rattle.paper.specs.Packed.{packedVersion, packedHead, rootTag, isEmpty, topOf, graphOf, sizesOk, listsOk, graphOk, rootOk, headOk, packedRules, proper, packedRoom, packedPath, rootOf, fileReading, fileWalk}
 use Rattle.paper.specs.Answers.{told, outcome}
 use Rattle.paper.specs.Order.{when, firstOf}
 use Rattle.paper.specs.Calls.{cleared, checkOrder, checkOutcome, packedOutside, packedBroken, packedVoxelOrder, packedValues, packedVoxelOutcome}
@@ -54,13 +54,13 @@ module _ (file scratch : List ℕ) where
   pub check-passed : firstOf (checkOrder file scratch) ≡ 0 → (proper file ≡ true) × (length file ≤ length scratch)
   unfolding proper
   check-passed e =
-      let p = five-pass (ltb (length scratch) (length file)) (frontOk packedFront file) (lengthOk packedHead file) (depthOk (fileDepth file)) (packedRules file) e in
+      let p = five-pass (ltb (length scratch) (length file)) (versionOk packedVersion file) (lengthOk packedHead file) (depthOk (fileDepth file)) (packedRules file) e in
       (p .0, ltb-false (length scratch) (length file) (p .1))
 
   pub passed-check : proper file ≡ true → length file ≤ length scratch → firstOf (checkOrder file scratch) ≡ 0
   unfolding proper
   passed-check e h =
-      pass-five (ltb (length scratch) (length file)) (frontOk packedFront file) (lengthOk packedHead file) (depthOk (fileDepth file)) (packedRules file) e
+      pass-five (ltb (length scratch) (length file)) (versionOk packedVersion file) (lengthOk packedHead file) (depthOk (fileDepth file)) (packedRules file) e
       (le-ltb (length scratch) (length file) h)
 
   pub check-number : checkOutcome file scratch .number ≡ firstOf (checkOrder file scratch)
@@ -76,7 +76,7 @@ module _ (file scratch : List ℕ) where
 
 -- what a proper file passes
 pub record Proper (bs : List ℕ) : Type 0 where
-  pub front : T (frontOk packedFront bs)
+  pub version : T (versionOk packedVersion bs)
   pub long : T (lengthOk packedHead bs)
   pub deep : T (depthOk (fileDepth bs))
   pub head : T (headOk bs)
@@ -85,7 +85,7 @@ pub record Proper (bs : List ℕ) : Type 0 where
 pub proper-passes : (bs : List ℕ) → T (proper bs) → Proper bs
 unfolding proper packedRules
 proper-passes bs t = record {
-  front = search (and-left, and-right);
+  version = search (and-left, and-right);
   long = search (and-left, and-right);
   deep = search (and-left, and-right);
   head = search (and-left, and-right);
@@ -143,7 +143,7 @@ proper-voxel bs v by e l =
     let p : Proper bs = proper-passes bs (true-T e) in
     let none : firstOf (packedVoxelOrder bs v) ≡ 0 =
     rw (
-      T-true {b = frontOk packedFront bs} (p .front),
+      T-true {b = versionOk packedVersion bs} (p .version),
       T-true {b = lengthOk packedHead bs} (p .long),
       T-true {b = depthOk (fileDepth bs)} (p .deep),
       lt-ltb (v .x) (2 ^ fileDepth bs) (l .inX),

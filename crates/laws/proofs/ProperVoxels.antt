@@ -19,7 +19,7 @@ use Rattle.paper.specs.Outline.{edge, lengthOk, fileDepth}
 use Rattle.paper.specs.Store.{Cell, leafNo, tagOf, cellNo, cellsAt, cellAt}
 use Rattle.paper.specs.Meaning.{pointerVoxel, cellVoxel}
 use Rattle.paper.specs.Match.{matches}
-use Rattle.paper.specs.Packed.{packedHead, topOf, listAt, headerAt, Link, noLink, readLinks, linksAt, leafAt, recordOk, leafOk, codeFor, placesAt, byNumber, cellsOf, graphOf, wholeAt, linkOk, linksOk, namedOk, apartOk, tagLow, pointerLow, tagsOk, fallingOk, rootTag, isEmpty, sizesOk, listsOk, topOk, graphOk, emptyMark, headOk, proper, packedRoom}
+use Rattle.paper.specs.Packed.{packedHead, topOf, listAt, headerAt, PackedPointer, noPointer, readPointers, pointersAt, leafAt, recordOk, leafOk, codeFor, placesAt, byNumber, cellsOf, graphOf, wholeAt, packedPointerOk, packedPointersOk, namedOk, apartOk, tagLow, pointerLow, tagsOk, fallingOk, rootTag, isEmpty, sizesOk, listsOk, topOk, graphOk, emptyMark, headOk, proper, packedRoom}
 use Rattle.paper.specs.Runs.{Bytes}
 use Rattle.paper.specs.Claims.{recordRoom, pointerAt, RecordsDiffer}
 use Rattle.laws.proofs.Tests.{true-T, and-left, and-right, and5, all-at, all-at2}
@@ -32,7 +32,7 @@ use Rattle.laws.proofs.Outlines.{depth-two}
 use Rattle.laws.proofs.Matching.{tag-lt}
 use Rattle.laws.proofs.Invariant.{Names, OkPointer, names-lt, names-ne, OkCell, Alike, LowTag, TwoWords, Inv, pointer-solid, cell-child, match-complete}
 use Rattle.laws.proofs.Adding.{pointer-names}
-use Rattle.laws.proofs.PackedLists.{num2-lt, num4-lt, Fits, links-fit, list-bytes, start-small, link-some, graph-cells, records-length}
+use Rattle.laws.proofs.PackedLists.{num2-lt, num4-lt, Fits, pointers-fit, list-bytes, start-small, packedPointer-some, graph-cells, records-length}
 use Rattle.laws.proofs.PackedWalk.{SoundLists, lists-of, few-leaves}
 use Rattle.laws.proofs.ProperClaim.{Proper, proper-passes, head-sizes}
 
@@ -62,22 +62,22 @@ module _ (K : List (List Cell)) (k : ℕ) where
 
 -- ---- a record's eight pointers
 
-links-length : (n h : ℕ) (l : List ℕ) → length (readLinks n h l) ≡ n
-unfolding readLinks
-links-length zero h l = refl
-links-length (suc n) h l = ap suc (links-length n (h / 4) (drop (2 * (h % 4)) l))
+packedPointers-length : (n h : ℕ) (l : List ℕ) → length (readPointers n h l) ≡ n
+unfolding readPointers
+packedPointers-length zero h l = refl
+packedPointers-length (suc n) h l = ap suc (packedPointers-length n (h / 4) (drop (2 * (h % 4)) l))
 
 -- a header that is not zero has a pointer
-some-link : (n h : ℕ) (l : List ℕ) → h < 4 ^ n → 0 < h → (i : ℕ) × (i < n) × (getD (readLinks n h l) i noLink .code ≡ 0 → ⊥)
-unfolding readLinks
-some-link zero h l m p = absurd (omega arith)
-some-link (suc n) h l m p = go (ℕ-discrete (h % 4) 0) (some-link n (h / 4) (drop (2 * (h % 4)) l))
+some-packedPointer : (n h : ℕ) (l : List ℕ) → h < 4 ^ n → 0 < h → (i : ℕ) × (i < n) × (getD (readPointers n h l) i noPointer .code ≡ 0 → ⊥)
+unfolding readPointers
+some-packedPointer zero h l m p = absurd (omega arith)
+some-packedPointer (suc n) h l m p = go (ℕ-discrete (h % 4) 0) (some-packedPointer n (h / 4) (drop (2 * (h % 4)) l))
   where
-    rest : List Link
-    rest = readLinks n (h / 4) (drop (2 * (h % 4)) l)
+    rest : List PackedPointer
+    rest = readPointers n (h / 4) (drop (2 * (h % 4)) l)
 
-    go : Dec (h % 4 ≡ 0) → (h / 4 < 4 ^ n → 0 < h / 4 → (i : ℕ) × (i < n) × (getD rest i noLink .code ≡ 0 → ⊥))
-        → (i : ℕ) × (i < suc n) × (getD (readLinks (suc n) h l) i noLink .code ≡ 0 → ⊥)
+    go : Dec (h % 4 ≡ 0) → (h / 4 < 4 ^ n → 0 < h / 4 → (i : ℕ) × (i < n) × (getD rest i noPointer .code ≡ 0 → ⊥))
+        → (i : ℕ) × (i < suc n) × (getD (readPointers (suc n) h l) i noPointer .code ≡ 0 → ⊥)
     go (no ne) ih = (0, omega arith, ne)
     go (yes e) ih = let s = ih (omega (arith, pow-succ' 4 n)) (omega arith) in (suc (s .0), omega (arith, s .1), s .2)
 
@@ -166,8 +166,8 @@ module _ (bs : List ℕ) (by : Bytes bs) (long : T (lengthOk packedHead bs)) (li
     abbrev placeAt : ℕ → ℕ
     placeAt q = getD (placesAt bs (suc k)) q 0
 
-    abbrev linkAt : ℕ → ℕ → Link
-    linkAt q i = getD (linksAt l (placeAt q)) i noLink
+    abbrev packedPointerAt : ℕ → ℕ → PackedPointer
+    packedPointerAt q i = getD (pointersAt l (placeAt q)) i noPointer
 
     Ik : Inv G k
     Ik = inv k (omega arith)
@@ -179,48 +179,48 @@ module _ (bs : List ℕ) (by : Bytes bs) (long : T (lengthOk packedHead bs)) (li
       there : q < length (placesAt bs (suc k))
       there = omega (arith, records-length bs (suc k) h)
 
-      record-is : c ≡ map (byNumber ps) (linksAt l (placeAt q))
+      record-is : c ≡ map (byNumber ps) (pointersAt l (placeAt q))
       unfolding cellsOf
       record-is =
           ap (λ (cs : List Cell). getD cs q []) (graph-cells bs (suc k) h)
-          ∙ map-at (λ p. map (byNumber ps) (linksAt l p)) (placesAt bs (suc k)) q 0 [] there
+          ∙ map-at (λ p. map (byNumber ps) (pointersAt l p)) (placesAt bs (suc k)) q 0 [] there
 
-      pointer-is : (i : ℕ) → getD c i 0 ≡ byNumber ps (linkAt q i)
-      pointer-is i = ap (λ (c : Cell). getD c i 0) record-is ∙ List·getD-map (byNumber ps) (linksAt l (placeAt q)) i noLink
+      pointer-is : (i : ℕ) → getD c i 0 ≡ byNumber ps (packedPointerAt q i)
+      pointer-is i = ap (λ (c : Cell). getD c i 0) record-is ∙ List·getD-map (byNumber ps) (pointersAt l (placeAt q)) i noPointer
 
-      link-good : (i : ℕ) → T (linkOk ps (linkAt q i))
-      unfolding linksOk linkOk
-      link-good i =
-          allIn-at (linkOk ps) noLink tt (linksAt l (placeAt q))
-          (allIn-in (λ p. allIn (linkOk ps) (linksAt l p)) 0 (placesAt bs (suc k)) (lists .linked k h) q there) i
+      packedPointer-good : (i : ℕ) → T (packedPointerOk ps (packedPointerAt q i))
+      unfolding packedPointersOk packedPointerOk
+      packedPointer-good i =
+          allIn-at (packedPointerOk ps) noPointer tt (pointersAt l (placeAt q))
+          (allIn-in (λ p. allIn (packedPointerOk ps) (pointersAt l p)) 0 (placesAt bs (suc k)) (lists .pointed k h) q there) i
 
-      link-fits : (i : ℕ) → Fits (linkAt q i)
-      unfolding linksAt
-      link-fits i = links-fit 8 (headerAt l (placeAt q)) (drop (2 * placeAt q + 2) l) (bytes-drop (2 * placeAt q + 2) l (list-bytes bs by (suc k))) i
+      packedPointer-fits : (i : ℕ) → Fits (packedPointerAt q i)
+      unfolding pointersAt
+      packedPointer-fits i = pointers-fit 8 (headerAt l (placeAt q)) (drop (2 * placeAt q + 2) l) (bytes-drop (2 * placeAt q + 2) l (list-bytes bs by (suc k))) i
 
       -- a pointer names a record of the next list
-      link-names : (r : Link) → Fits r → T (linkOk ps r) → (r .code ≡ 0 → ⊥) → Names (length (cellsAt G k)) (byNumber ps r)
-      unfolding linkOk
-      link-names r f t ne =
+      packedPointer-names : (r : PackedPointer) → Fits r → T (packedPointerOk ps r) → (r .code ≡ 0 → ⊥) → Names (length (cellsAt G k)) (byNumber ps r)
+      unfolding packedPointerOk
+      packedPointer-names r f t ne =
           let s : T (isIn (r .place) ps && eqb (r .code) (codeFor (r .place))) =
           subst (λ (b : Bool). T (cond b true (isIn (r .place) ps && eqb (r .code) (codeFor (r .place))))) (ne-eqb (r .code) 0 ne) t in
           let i : T (isIn (r .place) ps) = search and-left in
           let fit : (r .tag < 8) × (r .place < 2 ^ 29) = f (eqb→eq (r .code) (codeFor (r .place)) (search and-right)) in
           let a : At (r .place) ps = isIn-at (r .place) ps i in
-          rw (link-some ps r ne, records-length bs k (omega arith))
+          rw (packedPointer-some ps r ne, records-length bs k (omega arith))
           (pointer-names (r .tag) (indexIn (r .place) ps) (length ps)
           (start-small bs by (lists .whole) (few-leaves bs by long lists) k (r .place) (omega arith) i (fit .1)) (a .inside))
 
       pointer-ok : (i : ℕ) → OkPointer (length (cellsAt G k)) (getD c i 0)
-      pointer-ok i = subst (OkPointer (length (cellsAt G k))) (sym (pointer-is i)) (go (ℕ-discrete (linkAt q i .code) 0))
+      pointer-ok i = subst (OkPointer (length (cellsAt G k))) (sym (pointer-is i)) (go (ℕ-discrete (packedPointerAt q i .code) 0))
         where
-          go : Dec (linkAt q i .code ≡ 0) → OkPointer (length (cellsAt G k)) (byNumber ps (linkAt q i))
-          go (yes e) = inl (rw (eq-eqb (linkAt q i .code) 0 e))
-          go (no n) = inr (link-names (linkAt q i) (link-fits i) (link-good i) n)
+          go : Dec (packedPointerAt q i .code ≡ 0) → OkPointer (length (cellsAt G k)) (byNumber ps (packedPointerAt q i))
+          go (yes e) = inl (rw (eq-eqb (packedPointerAt q i .code) 0 e))
+          go (no n) = inr (packedPointer-names (packedPointerAt q i) (packedPointer-fits i) (packedPointer-good i) n)
 
       record-eight : length c ≡ 8
-      unfolding linksAt
-      record-eight = ap length record-is ∙ length-map (linksAt l (placeAt q)) (byNumber ps) ∙ links-length 8 (headerAt l (placeAt q)) (drop (2 * placeAt q + 2) l)
+      unfolding pointersAt
+      record-eight = ap length record-is ∙ length-map (pointersAt l (placeAt q)) (byNumber ps) ∙ packedPointers-length 8 (headerAt l (placeAt q)) (drop (2 * placeAt q + 2) l)
 
       -- no lower tag
       pointer-low : (i : ℕ) → i < 8 → LowTag G k (getD c i 0)
@@ -239,11 +239,11 @@ module _ (bs : List ℕ) (by : Bytes bs) (long : T (lengthOk packedHead bs)) (li
               (low-said G k (tagOf p) (cellNo p) (tags-said G k (lowest k h) q i m hi (names-ne w)) u hu)
 
       -- a solid voxel
-      header-some : (i : ℕ) × (i < 8) × (linkAt q i .code ≡ 0 → ⊥)
-      unfolding wholeAt recordOk linksAt
+      header-some : (i : ℕ) × (i < 8) × (packedPointerAt q i .code ≡ 0 → ⊥)
+      unfolding wholeAt recordOk pointersAt
       header-some =
           let o : T (recordOk l (placeAt q)) = allIn-in (recordOk l) 0 (placesAt bs (suc k)) (lists .whole (suc k) h) q there in
-          some-link 8 (headerAt l (placeAt q)) (drop (2 * placeAt q + 2) l)
+          some-packedPointer 8 (headerAt l (placeAt q)) (drop (2 * placeAt q + 2) l)
           (omega (arith, num2-lt (drop (2 * placeAt q) l) (bytes-drop (2 * placeAt q) l (list-bytes bs by (suc k)))))
           (ltb→lt 0 (headerAt l (placeAt q)) (search (and-left, and-right)))
 
@@ -251,7 +251,7 @@ module _ (bs : List ℕ) (by : Bytes bs) (long : T (lengthOk packedHead bs)) (li
       record-solid =
           let i : ℕ = header-some .0 in
           let n : Names (length (cellsAt G k)) (getD c i 0) =
-          subst (Names (length (cellsAt G k))) (sym (pointer-is i)) (link-names (linkAt q i) (link-fits i) (link-good i) (header-some .2)) in
+          subst (Names (length (cellsAt G k))) (sym (pointer-is i)) (packedPointer-names (packedPointerAt q i) (packedPointer-fits i) (packedPointer-good i) (header-some .2)) in
           let s : NonEmpty (edge k) (pointerVoxel (cellVoxel G k) (cellsAt G k) (edge k) (getD c i 0)) =
           pointer-solid (cellVoxel G k) (cellsAt G k) (edge k) (Ik .solid) (getD c i 0) n in (
             fromChild (edge k) i (s .0),
@@ -367,7 +367,7 @@ module _ (file : List ℕ) (by : Bytes file) (e : proper file ≡ true) (some : 
 
   pub records-differ : RecordsDiffer file
   records-differ = record {
-    full = λ k q h. proper-inv k .solid q h;
+    non-empty = λ k q h. proper-inv k .solid q h;
     apart = λ k q r l m i. omega (arith, proper-inv k .apart q r (i .0) m (omega arith) (i .1) (i .2));
     tags = λ k n i u hn hi ne hu e.
         let p : ℕ = pointerAt file k n i in

@@ -12,7 +12,7 @@ use lib.ListN.{length, getD, take, drop, take-append-drop, length-drop, drop-of-
 use lib.Seq.{length-take-le, take-add, drop-drop}
 use Rattle.paper.specs.Numbers.{bytes, num, flatten, count, allIn, isIn, indexIn}
 use Rattle.paper.specs.Store.{Cell, tagOf, pointer}
-use Rattle.paper.specs.Packed.{headerAt, halves, Link, linkOf, readLinks, linksAt, leafAt, recordOk, codeFor, startsFrom, byNumber, linkOk}
+use Rattle.paper.specs.Packed.{headerAt, halves, PackedPointer, pointerOf, readPointers, pointersAt, leafAt, recordOk, codeFor, startsFrom, byNumber, packedPointerOk}
 use Rattle.paper.specs.Pack.{placeOf, code, pointerBytes, header, width, recordBytes, leafBytes, placesFrom}
 use Rattle.paper.specs.Runs.{Bytes}
 use Rattle.laws.proofs.Tests.{and-left, and-right}
@@ -20,7 +20,7 @@ use Rattle.laws.proofs.Lists.{allIn-head, allIn-tail, isIn-at}
 use Rattle.laws.proofs.Bytes.{bytes-take, bytes-drop, bytes-be}
 use Rattle.laws.proofs.Adding.{pointer-cell, pointer-tag}
 use Rattle.laws.proofs.RecordSizes.{no-code, no-bytes, some-code, some-bytes}
-use Rattle.laws.proofs.PackedLists.{num2-lt, link-fits, halves-one, link-some}
+use Rattle.laws.proofs.PackedLists.{num2-lt, packedPointer-fits, halves-one, packedPointer-some}
 
 -- a number
 pub bytes-num : (n : ℕ) (l : List ℕ) → Bytes l → n ≤ length l → bytes n (num n l) ≡ take n l
@@ -34,8 +34,8 @@ module _ (ps : List ℕ) (small : (p : ℕ) → T (isIn p ps) → p < 2 ^ 29 →
     is-code : code ps p ≡ c
     are-bytes : pointerBytes ps p ≡ take (2 * c) l
 
-  pointer-back : (c : ℕ) (l : List ℕ) → Bytes l → 2 * c ≤ length l → T (linkOk ps (linkOf c (num (2 * c) l))) → PointerBack c l (byNumber ps (linkOf c (num (2 * c) l)))
-  unfolding linkOk
+  pointer-back : (c : ℕ) (l : List ℕ) → Bytes l → 2 * c ≤ length l → T (packedPointerOk ps (pointerOf c (num (2 * c) l))) → PointerBack c l (byNumber ps (pointerOf c (num (2 * c) l)))
+  unfolding packedPointerOk
   pointer-back c l b h t = go (eqb c 0) refl t
     where
       v : ℕ
@@ -44,22 +44,22 @@ module _ (ps : List ℕ) (small : (p : ℕ) → T (isIn p ps) → p < 2 ^ 29 →
       unit : ℕ
       unit = 2 ^ (16 * c - 3)
 
-      r : Link
-      r = linkOf c v
+      r : PackedPointer
+      r = pointerOf c v
 
       go : (z : Bool) → eqb c 0 ≡ z → T (cond z true (isIn (r .place) ps && eqb c (codeFor (r .place)))) → PointerBack c l (byNumber ps r)
       go true e s = rw (eqb-true c 0 e) (record { is-code = no-code ps 0 refl; are-bytes = no-bytes ps 0 refl })
       go false e s =
           let i : T (isIn (r .place) ps) = and-left (isIn (r .place) ps) (eqb c (codeFor (r .place))) s in
           let w : c ≡ codeFor (r .place) = eqb→eq c (codeFor (r .place)) (and-right (isIn (r .place) ps) (eqb c (codeFor (r .place))) s) in
-          let fit : (r .tag < 8) × (r .place < 2 ^ 29) = link-fits c l b w in
+          let fit : (r .tag < 8) × (r .place < 2 ^ 29) = packedPointer-fits c l b w in
           let n : ℕ = indexIn (r .place) ps in
           let m : suc n < 2 ^ 29 = small (r .place) i (fit .1) in
           let p : ℕ = pointer (r .tag) n in
           let some : p ≡ 0 → ⊥ = λ q. omega arith in
           let at : placeOf ps p ≡ r .place = ap (λ (x : ℕ). getD ps x 0) (pointer-cell (r .tag) n m) ∙ isIn-at (r .place) ps i .is in
           let short : codeFor (placeOf ps p) ≡ c = ap codeFor at ∙ sym w in
-          rw (link-some ps r (eqb-false c 0 e)) (record {
+          rw (packedPointer-some ps r (eqb-false c 0 e)) (record {
             is-code = some-code ps p some ∙ short;
             are-bytes =
                 some-bytes ps p some
@@ -70,23 +70,23 @@ module _ (ps : List ℕ) (small : (p : ℕ) → T (isIn p ps) → p < 2 ^ 29 →
           })
 
   -- a cell c of n pointers with the codes of h, read from l
-  record LinksBack (n h : ℕ) (l : List ℕ) (c : Cell) : Type 0 where
+  record PointersBack (n h : ℕ) (l : List ℕ) (c : Cell) : Type 0 where
     is-header : header ps c ≡ h
     is-width : width ps c ≡ halves n h
     are-bytes : flatten (map (pointerBytes ps) c) ≡ take (2 * (halves n h - 1)) l
 
-  links-back : (n h : ℕ) (l : List ℕ) → Bytes l → h < 4 ^ n → 2 * halves n h ≤ length l + 2 → T (allIn (linkOk ps) (readLinks n h l))
-      → LinksBack n h l (map (byNumber ps) (readLinks n h l))
-  unfolding readLinks halves header width flatten
-  links-back zero h l b m room t = record { is-header = omega arith; is-width = refl; are-bytes = refl }
-  links-back (suc n) h l b m room t =
+  pointers-back : (n h : ℕ) (l : List ℕ) → Bytes l → h < 4 ^ n → 2 * halves n h ≤ length l + 2 → T (allIn (packedPointerOk ps) (readPointers n h l))
+      → PointersBack n h l (map (byNumber ps) (readPointers n h l))
+  unfolding readPointers halves header width flatten
+  pointers-back zero h l b m room t = record { is-header = omega arith; is-width = refl; are-bytes = refl }
+  pointers-back (suc n) h l b m room t =
       let c : ℕ = h % 4 in
-      let r : Link = linkOf c (num (2 * c) l) in
+      let r : PackedPointer = pointerOf c (num (2 * c) l) in
       let rest : List ℕ = drop (2 * c) l in
       let one : 1 ≤ halves n (h / 4) = halves-one n (h / 4) in
-      let a : PointerBack c l (byNumber ps r) = pointer-back c l b (omega arith) (allIn-head (linkOk ps) r (readLinks n (h / 4) rest) t) in
-      let more : LinksBack n (h / 4) rest (map (byNumber ps) (readLinks n (h / 4) rest)) =
-      links-back n (h / 4) rest (bytes-drop (2 * c) l b) (omega arith) (omega (arith, length-drop (2 * c) l)) (allIn-tail (linkOk ps) r (readLinks n (h / 4) rest) t) in
+      let a : PointerBack c l (byNumber ps r) = pointer-back c l b (omega arith) (allIn-head (packedPointerOk ps) r (readPointers n (h / 4) rest) t) in
+      let more : PointersBack n (h / 4) rest (map (byNumber ps) (readPointers n (h / 4) rest)) =
+      pointers-back n (h / 4) rest (bytes-drop (2 * c) l b) (omega arith) (omega (arith, length-drop (2 * c) l)) (allIn-tail (packedPointerOk ps) r (readPointers n (h / 4) rest) t) in
       let sum : 2 * c + 2 * (halves n (h / 4) - 1) ≡ 2 * (c + halves n (h / 4) - 1) = omega arith in
       record {
         is-header = omega (arith, a .is-code, more .is-header);
@@ -99,21 +99,21 @@ module _ (ps : List ℕ) (small : (p : ℕ) → T (isIn p ps) → p < 2 ^ 29 →
 
   -- the cell of the record at place p of the list's bytes l
   abbrev pub cellRead : List ℕ → ℕ → Cell
-  cellRead l p = map (byNumber ps) (linksAt l p)
+  cellRead l p = map (byNumber ps) (pointersAt l p)
 
   record RecordBack (l : List ℕ) (p : ℕ) (c : Cell) : Type 0 where
     is-width : width ps c ≡ halves 8 (headerAt l p)
     are-bytes : recordBytes ps c ≡ take (2 * halves 8 (headerAt l p)) (drop (2 * p) l)
 
-  record-back : (l : List ℕ) (p : ℕ) → Bytes l → T (recordOk l p) → T (allIn (linkOk ps) (linksAt l p)) → RecordBack l p (cellRead l p)
-  unfolding recordOk linksAt recordBytes
+  record-back : (l : List ℕ) (p : ℕ) → Bytes l → T (recordOk l p) → T (allIn (packedPointerOk ps) (pointersAt l p)) → RecordBack l p (cellRead l p)
+  unfolding recordOk pointersAt recordBytes
   record-back l p b o t =
       let h : ℕ = headerAt l p in
       let room : 2 * (p + halves 8 h) ≤ length l = leb→le (2 * (p + halves 8 h)) (length l) (search and-right) in
       let one : 1 ≤ halves 8 h = halves-one 8 h in
       let here : List ℕ = drop (2 * p) l in
-      let r : LinksBack 8 h (drop (2 * p + 2) l) (cellRead l p) =
-      links-back 8 h (drop (2 * p + 2) l) (bytes-drop (2 * p + 2) l b) (omega (arith, num2-lt here (bytes-drop (2 * p) l b))) (omega (arith, length-drop (2 * p + 2) l)) t in
+      let r : PointersBack 8 h (drop (2 * p + 2) l) (cellRead l p) =
+      pointers-back 8 h (drop (2 * p + 2) l) (bytes-drop (2 * p + 2) l b) (omega (arith, num2-lt here (bytes-drop (2 * p) l b))) (omega (arith, length-drop (2 * p + 2) l)) t in
       let sum : 2 + 2 * (halves 8 h - 1) ≡ 2 * halves 8 h = omega arith in
       record {
         is-width = r .is-width;
@@ -131,7 +131,7 @@ module _ (ps : List ℕ) (small : (p : ℕ) → T (isIn p ps) → p < 2 ^ 29 →
     pub are-bytes : flatten (map (recordBytes ps) (map (cellRead l) ss)) ≡ drop (2 * a) l
 
   pub list-back : (l : List ℕ) → Bytes l → (n a : ℕ) → length l ≤ 2 * (a + n) → T (allIn (recordOk l) (startsFrom l n a))
-      → T (allIn (λ p. allIn (linkOk ps) (linksAt l p)) (startsFrom l n a)) → ListBack l a (startsFrom l n a)
+      → T (allIn (λ p. allIn (packedPointerOk ps) (pointersAt l p)) (startsFrom l n a)) → ListBack l a (startsFrom l n a)
   unfolding startsFrom placesFrom flatten
   list-back l b zero a m = λ o t. record { are-places = refl; are-bytes = sym (drop-of-length-le l {i = 2 * a} (omega arith)) }
   list-back l b (suc n) a m = go (ltb (2 * a) (length l)) refl (list-back l b n (a + halves 8 (headerAt l a)) (omega (arith, halves-one 8 (headerAt l a))))
@@ -142,15 +142,15 @@ module _ (ps : List ℕ) (small : (p : ℕ) → T (isIn p ps) → p < 2 ^ 29 →
       ss : List ℕ
       ss = startsFrom l n (a + w)
 
-      links : ℕ → Bool
-      links p = allIn (linkOk ps) (linksAt l p)
+      pointers : ℕ → Bool
+      pointers p = allIn (packedPointerOk ps) (pointersAt l p)
 
-      go : (c : Bool) → ltb (2 * a) (length l) ≡ c → (T (allIn (recordOk l) ss) → T (allIn links ss) → ListBack l (a + w) ss)
-          → T (allIn (recordOk l) (cond c (a ∷ ss) [])) → T (allIn links (cond c (a ∷ ss) [])) → ListBack l a (cond c (a ∷ ss) [])
+      go : (c : Bool) → ltb (2 * a) (length l) ≡ c → (T (allIn (recordOk l) ss) → T (allIn pointers ss) → ListBack l (a + w) ss)
+          → T (allIn (recordOk l) (cond c (a ∷ ss) [])) → T (allIn pointers (cond c (a ∷ ss) [])) → ListBack l a (cond c (a ∷ ss) [])
       go false e ih o t = record { are-places = refl; are-bytes = sym (drop-of-length-le l {i = 2 * a} (ltb-false (2 * a) (length l) e)) }
       go true e ih o t =
-          let r : RecordBack l a (cellRead l a) = record-back l a b (allIn-head (recordOk l) a ss o) (allIn-head links a ss t) in
-          let more : ListBack l (a + w) ss = ih (allIn-tail (recordOk l) a ss o) (allIn-tail links a ss t) in
+          let r : RecordBack l a (cellRead l a) = record-back l a b (allIn-head (recordOk l) a ss o) (allIn-head pointers a ss t) in
+          let more : ListBack l (a + w) ss = ih (allIn-tail (recordOk l) a ss o) (allIn-tail pointers a ss t) in
           let sum : 2 * (a + w) ≡ 2 * a + 2 * w = omega arith in
           let on : drop (2 * (a + w)) l ≡ drop (2 * w) (drop (2 * a) l) = ap (λ (x : ℕ). drop x l) sum ∙ sym (drop-drop (2 * w) (2 * a) l) in
           record {

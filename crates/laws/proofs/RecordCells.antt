@@ -11,62 +11,62 @@ use lib.ListN.{length, getD, drop, length-append}
 use lib.Seq.{drop-at, drop-drop}
 use Rattle.paper.specs.Numbers.{bytes, num, flatten, count, allIn, isIn}
 use Rattle.paper.specs.Store.{Cell, cellNo, leafNo}
-use Rattle.paper.specs.Packed.{linksAt, leafAt, leafOk, codeFor, byNumber, linkOk}
+use Rattle.paper.specs.Packed.{pointersAt, leafAt, leafOk, codeFor, byNumber, packedPointerOk}
 use Rattle.paper.specs.Pack.{placeOf, leafBytes, placesFrom}
 use Rattle.laws.proofs.Tests.{T-true}
 use Rattle.laws.proofs.Lists.{Once, index-getD, isIn-getD, allIn-map}
 use Rattle.laws.proofs.Bytes.{bytes-length}
 use Rattle.laws.proofs.Invariant.{TwoWords}
 use Rattle.laws.proofs.RecordSizes.{some-code, code-pos}
-use Rattle.laws.proofs.RecordReading.{num-bytes, OkLink, linkFor, no-link, some-link, word-some, Row, ListRead}
+use Rattle.laws.proofs.RecordReading.{num-bytes, OkPackedPointer, packedPointerFor, no-packedPointer, some-packedPointer, word-some, Row, ListRead}
 
 -- ---- pointers by number again
 
 module _ (ps : List ℕ) (once : Once ps) where
-  number-back : (p : ℕ) → OkLink (length ps) p → byNumber ps (linkFor ps p) ≡ p
-  number-back p (inl e) = rw (no-link ps p e) (sym e)
+  number-back : (p : ℕ) → OkPackedPointer (length ps) p → byNumber ps (packedPointerFor ps p) ≡ p
+  number-back p (inl e) = rw (no-packedPointer ps p e) (sym e)
   number-back p (inr w) =
       let h : cellNo p < length ps = omega arith in
       let n : (codeFor (placeOf ps p) ≡ 0 → ⊥) = λ e. omega (arith, code-pos ps p (word-some ps p w), some-code ps p (word-some ps p w)) in
-      rw (some-link ps p (word-some ps p w), ne-eqb (codeFor (placeOf ps p)) 0 n, index-getD ps once (cellNo p) h) (omega arith)
+      rw (some-packedPointer ps p (word-some ps p w), ne-eqb (codeFor (placeOf ps p)) 0 n, index-getD ps once (cellNo p) h) (omega arith)
 
-  link-good : (p : ℕ) → OkLink (length ps) p → T (linkOk ps (linkFor ps p))
-  unfolding linkOk
-  link-good p (inl e) = rw (no-link ps p e) tt
-  link-good p (inr w) =
+  packedPointer-good : (p : ℕ) → OkPackedPointer (length ps) p → T (packedPointerOk ps (packedPointerFor ps p))
+  unfolding packedPointerOk
+  packedPointer-good p (inl e) = rw (no-packedPointer ps p e) tt
+  packedPointer-good p (inr w) =
       let h : cellNo p < length ps = omega arith in
       let n : (codeFor (placeOf ps p) ≡ 0 → ⊥) = λ e. omega (arith, code-pos ps p (word-some ps p w), some-code ps p (word-some ps p w)) in
-      rw (some-link ps p (word-some ps p w), ne-eqb (codeFor (placeOf ps p)) 0 n, T-true {b = isIn (placeOf ps p) ps} (isIn-getD ps (cellNo p) h)) (eqb-refl (codeFor (placeOf ps p)))
+      rw (some-packedPointer ps p (word-some ps p w), ne-eqb (codeFor (placeOf ps p)) 0 n, T-true {b = isIn (placeOf ps p) ps} (isIn-getD ps (cellNo p) h)) (eqb-refl (codeFor (placeOf ps p)))
 
-  cell-back : (c : Cell) → ((i : ℕ) → OkLink (length ps) (getD c i 0)) → map (byNumber ps) (map (linkFor ps) c) ≡ c
+  cell-back : (c : Cell) → ((i : ℕ) → OkPackedPointer (length ps) (getD c i 0)) → map (byNumber ps) (map (packedPointerFor ps) c) ≡ c
   cell-back [] h = refl
   cell-back (p ∷ c) h = λ i. number-back p (h 0) i ∷ cell-back c (λ j. h (suc j)) i
 
-  cell-good : (c : Cell) → ((i : ℕ) → OkLink (length ps) (getD c i 0)) → T (allIn (linkOk ps) (map (linkFor ps) c))
+  cell-good : (c : Cell) → ((i : ℕ) → OkPackedPointer (length ps) (getD c i 0)) → T (allIn (packedPointerOk ps) (map (packedPointerFor ps) c))
   unfolding allIn
   cell-good [] h = tt
-  cell-good (p ∷ c) h = rw (T-true {b = linkOk ps (linkFor ps p)} (link-good p (h 0))) (cell-good c (λ j. h (suc j)))
+  cell-good (p ∷ c) h = rw (T-true {b = packedPointerOk ps (packedPointerFor ps p)} (packedPointer-good p (h 0))) (cell-good c (λ j. h (suc j)))
 
-  rows-back : (cs : List Cell) → ((q : ℕ) → q < length cs → Row (length ps) (getD cs q [])) → map (map (byNumber ps)) (map (map (linkFor ps)) cs) ≡ cs
+  rows-back : (cs : List Cell) → ((q : ℕ) → q < length cs → Row (length ps) (getD cs q [])) → map (map (byNumber ps)) (map (map (packedPointerFor ps)) cs) ≡ cs
   rows-back [] h = refl
-  rows-back (c ∷ cs) h = λ i. cell-back c (h 0 (omega arith) .links) i ∷ rows-back cs (λ q m. h (suc q) (omega arith)) i
+  rows-back (c ∷ cs) h = λ i. cell-back c (h 0 (omega arith) .pointers) i ∷ rows-back cs (λ q m. h (suc q) (omega arith)) i
 
-  rows-good : (cs : List Cell) → ((q : ℕ) → q < length cs → Row (length ps) (getD cs q [])) → T (allIn (allIn (linkOk ps)) (map (map (linkFor ps)) cs))
+  rows-good : (cs : List Cell) → ((q : ℕ) → q < length cs → Row (length ps) (getD cs q [])) → T (allIn (allIn (packedPointerOk ps)) (map (map (packedPointerFor ps)) cs))
   unfolding allIn
   rows-good [] h = tt
   rows-good (c ∷ cs) h =
-      rw (T-true {b = allIn (linkOk ps) (map (linkFor ps) c)} (cell-good c (h 0 (omega arith) .links))) (rows-good cs (λ q m. h (suc q) (omega arith)))
+      rw (T-true {b = allIn (packedPointerOk ps) (map (packedPointerFor ps) c)} (cell-good c (h 0 (omega arith) .pointers))) (rows-good cs (λ q m. h (suc q) (omega arith)))
 
   -- a list's cells, and its pointers' rule
   pub list-back : (l : List ℕ) (a : ℕ) (cs : List Cell) → ((q : ℕ) → q < length cs → Row (length ps) (getD cs q [])) → ListRead ps l a cs
-      → map (λ p. map (byNumber ps) (linksAt l p)) (placesFrom ps a cs) ≡ cs
+      → map (λ p. map (byNumber ps) (pointersAt l p)) (placesFrom ps a cs) ≡ cs
   list-back l a cs h r =
-      sym (map-map (map (byNumber ps)) (linksAt l) (placesFrom ps a cs)) ∙ ap (map (map (byNumber ps))) (r .links) ∙ rows-back cs h
+      sym (map-map (map (byNumber ps)) (pointersAt l) (placesFrom ps a cs)) ∙ ap (map (map (byNumber ps))) (r .pointers) ∙ rows-back cs h
 
   pub list-good : (l : List ℕ) (a : ℕ) (cs : List Cell) → ((q : ℕ) → q < length cs → Row (length ps) (getD cs q [])) → ListRead ps l a cs
-      → T (allIn (λ p. allIn (linkOk ps) (linksAt l p)) (placesFrom ps a cs))
+      → T (allIn (λ p. allIn (packedPointerOk ps) (pointersAt l p)) (placesFrom ps a cs))
   list-good l a cs h r =
-      subst T (ap (allIn (allIn (linkOk ps))) (sym (r .links)) ∙ allIn-map (allIn (linkOk ps)) (linksAt l) (placesFrom ps a cs)) (rows-good cs h)
+      subst T (ap (allIn (allIn (packedPointerOk ps))) (sym (r .pointers)) ∙ allIn-map (allIn (packedPointerOk ps)) (pointersAt l) (placesFrom ps a cs)) (rows-good cs h)
 
 -- ---- leaves
 

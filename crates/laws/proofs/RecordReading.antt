@@ -13,7 +13,7 @@ use lib.ListN.{length, getD, drop, length-append}
 use lib.Seq.{take-at, drop-at, drop-drop}
 use Rattle.paper.specs.Numbers.{be, bytes, num, flatten, allIn}
 use Rattle.paper.specs.Store.{Cell, cellNo, tagOf}
-use Rattle.paper.specs.Packed.{headerAt, halves, codesOk, Link, linkOf, noLink, readLinks, linksAt, recordOk, farthestShort, codeFor, startsFrom}
+use Rattle.paper.specs.Packed.{headerAt, halves, codesOk, PackedPointer, pointerOf, noPointer, readPointers, pointersAt, recordOk, farthestShort, codeFor, startsFrom}
 use Rattle.paper.specs.Pack.{placeOf, code, pointerBytes, header, width, recordBytes, placesFrom, sizeOf}
 use Rattle.laws.proofs.Tests.{T-true}
 use Rattle.laws.proofs.Bytes.{bytes-length, be-bytes}
@@ -31,20 +31,20 @@ pub record NamesWord (n p : ℕ) : Type 0 where
   pub names : Names n p
   pub small : p < 2 ^ 32
 
-abbrev pub OkLink : ℕ → ℕ → Type 0
-OkLink n p = (p ≡ 0) ⊎ NamesWord n p
+abbrev pub OkPackedPointer : ℕ → ℕ → Type 0
+OkPackedPointer n p = (p ≡ 0) ⊎ NamesWord n p
 
 -- what the file says of it
-unfoldable pub linkFor : List ℕ → ℕ → Link
-linkFor ps p = cond (eqb p 0) noLink (record { code = codeFor (placeOf ps p); tag = tagOf p; place = placeOf ps p })
+unfoldable pub packedPointerFor : List ℕ → ℕ → PackedPointer
+packedPointerFor ps p = cond (eqb p 0) noPointer (record { code = codeFor (placeOf ps p); tag = tagOf p; place = placeOf ps p })
 
 record PointerRead (ps : List ℕ) (p : ℕ) (rest : List ℕ) : Type 0 where
-  link : linkOf (code ps p) (num (2 * code ps p) (pointerBytes ps p ++ rest)) ≡ linkFor ps p
+  pointer : pointerOf (code ps p) (num (2 * code ps p) (pointerBytes ps p ++ rest)) ≡ packedPointerFor ps p
   after : drop (2 * code ps p) (pointerBytes ps p ++ rest) ≡ rest
 
 -- by its width
 Writes : ℕ → ℕ → ℕ → List ℕ → Type 0
-Writes c t l rest = linkOf c (num (2 * c) (bytes (2 * c) (t * 2 ^ (16 * c - 3) + l) ++ rest)) ≡ record { code = c; tag = t; place = l }
+Writes c t l rest = pointerOf c (num (2 * c) (bytes (2 * c) (t * 2 ^ (16 * c - 3) + l) ++ rest)) ≡ record { code = c; tag = t; place = l }
 
 short-read : (t l : ℕ) (rest : List ℕ) → t < 8 → l ≤ farthestShort → Writes 1 t l rest
 unfolding Writes
@@ -70,13 +70,13 @@ some-read t l rest ht hl = go (leb l farthestShort) refl
     go false e = long-read t l rest ht hl
 
 module _ (ps : List ℕ) (p : ℕ) where
-  pub no-link : p ≡ 0 → linkFor ps p ≡ noLink
-  unfolding linkFor
-  no-link e = rw (eq-eqb p 0 e)
+  pub no-packedPointer : p ≡ 0 → packedPointerFor ps p ≡ noPointer
+  unfolding packedPointerFor
+  no-packedPointer e = rw (eq-eqb p 0 e)
 
-  pub some-link : (p ≡ 0 → ⊥) → linkFor ps p ≡ record { code = codeFor (placeOf ps p); tag = tagOf p; place = placeOf ps p }
-  unfolding linkFor
-  some-link n = rw (ne-eqb p 0 n)
+  pub some-packedPointer : (p ≡ 0 → ⊥) → packedPointerFor ps p ≡ record { code = codeFor (placeOf ps p); tag = tagOf p; place = placeOf ps p }
+  unfolding packedPointerFor
+  some-packedPointer n = rw (ne-eqb p 0 n)
 
   pub word-some : {n : ℕ} → NamesWord n p → p ≡ 0 → ⊥
   word-some w e = omega arith
@@ -84,14 +84,14 @@ module _ (ps : List ℕ) (p : ℕ) where
 -- what a cell above a list of n must be: eight pointers, not all none
 pub record Row (n : ℕ) (c : Cell) : Type 0 where
   pub eight : length c ≡ 8
-  pub links : (i : ℕ) → OkLink n (getD c i 0)
+  pub pointers : (i : ℕ) → OkPackedPointer n (getD c i 0)
   pub one : ℕ
   pub there : getD c one 0 ≡ 0 → ⊥
 
 -- the starts, the pointers and the tests of a list with bytes l, from place a on
 pub record ListRead (ps l : List ℕ) (a : ℕ) (cs : List Cell) : Type 0 where
   pub starts : (n : ℕ) → sizeOf ps cs ≤ n → startsFrom l n a ≡ placesFrom ps a cs
-  pub links : map (linksAt l) (placesFrom ps a cs) ≡ map (map (linkFor ps)) cs
+  pub pointers : map (pointersAt l) (placesFrom ps a cs) ≡ map (map (packedPointerFor ps)) cs
   pub good : T (allIn (recordOk l) (placesFrom ps a cs))
 
 -- places rise, so each is found again under its number
@@ -122,10 +122,10 @@ module _ (ps : List ℕ) where
   places-once a (c ∷ cs) (suc i) (suc j) h g e = ap suc (places-once (a + width ps c) cs i j (le-of-suc-le-suc h) (le-of-suc-le-suc g) e)
 
 module _ (ps : List ℕ) (low : (q : ℕ) → q < length ps → getD ps q 0 < 2 ^ 29) where
-  pointer-read : (p : ℕ) (rest : List ℕ) → OkLink (length ps) p → PointerRead ps p rest
+  pointer-read : (p : ℕ) (rest : List ℕ) → OkPackedPointer (length ps) p → PointerRead ps p rest
   unfolding Writes be
   pointer-read p rest (inl e) = record {
-    link = rw (no-code ps p e, no-link ps p e);
+    pointer = rw (no-code ps p e, no-packedPointer ps p e);
     after = rw (no-code ps p e, no-bytes ps p e);
   }
   pointer-read p rest (inr w) =
@@ -133,22 +133,22 @@ module _ (ps : List ℕ) (low : (q : ℕ) → q < length ps → getD ps q 0 < 2 
       let b : ℕ = 2 * codeFor (placeOf ps p) in
       let v : ℕ = tagOf p * 2 ^ (16 * codeFor (placeOf ps p) - 3) + placeOf ps p in
       record {
-        link = rw (some-code ps p n, some-bytes ps p n, some-link ps p n) (some-read (tagOf p) (placeOf ps p) rest (omega arith) (low (cellNo p) (omega arith)));
+        pointer = rw (some-code ps p n, some-bytes ps p n, some-packedPointer ps p n) (some-read (tagOf p) (placeOf ps p) rest (omega arith) (low (cellNo p) (omega arith)));
         after = rw (some-code ps p n, some-bytes ps p n) (drop-at (bytes b v) rest b (bytes-length b v));
       }
 
   -- ---- a record
 
-  read-links : (c : Cell) (rest : List ℕ) → ((i : ℕ) → OkLink (length ps) (getD c i 0))
-      → readLinks (length c) (header ps c) (flatten (map (pointerBytes ps) c) ++ rest) ≡ map (linkFor ps) c
-  unfolding readLinks header flatten
-  read-links [] rest h = refl
-  read-links (p ∷ c) rest h =
+  read-pointers : (c : Cell) (rest : List ℕ) → ((i : ℕ) → OkPackedPointer (length ps) (getD c i 0))
+      → readPointers (length c) (header ps c) (flatten (map (pointerBytes ps) c) ++ rest) ≡ map (packedPointerFor ps) c
+  unfolding readPointers header flatten
+  read-pointers [] rest h = refl
+  read-pointers (p ∷ c) rest h =
       let more : List ℕ = flatten (map (pointerBytes ps) c) in
       let r : PointerRead ps p (more ++ rest) = pointer-read p (more ++ rest) (h 0) in
       let a : (code ps p + 4 * header ps c) % 4 ≡ code ps p = omega (arith, code-le ps p) in
       let b : (code ps p + 4 * header ps c) / 4 ≡ header ps c = omega (arith, code-le ps p) in
-      rw (append-assoc (pointerBytes ps p) more rest, a, b, r .link, r .after, read-links c rest (λ i. h (suc i)))
+      rw (append-assoc (pointerBytes ps p) more rest, a, b, r .pointer, r .after, read-pointers c rest (λ i. h (suc i)))
 
   halves-is : (c : Cell) → halves (length c) (header ps c) ≡ width ps c
   unfolding halves header width
@@ -170,14 +170,14 @@ module _ (ps : List ℕ) (low : (q : ℕ) → q < length ps → getD ps q 0 < 2 
 
   record RecordRead (l : List ℕ) (a : ℕ) (c : Cell) : Type 0 where
     head : halves 8 (headerAt l a) ≡ width ps c
-    links : linksAt l a ≡ map (linkFor ps) c
+    pointers : pointersAt l a ≡ map (packedPointerFor ps) c
     good : T (recordOk l a)
 
   record-read : (l before rest : List ℕ) (a : ℕ) (c : Cell) → Row (length ps) c → length before ≡ 2 * a → l ≡ before ++ (recordBytes ps c ++ rest) → RecordRead l a c
-  unfolding recordOk linksAt recordBytes
+  unfolding recordOk pointersAt recordBytes
   record-read l before rest a c r n e = record {
     head = rw headed wide;
-    links = rw (headed, pointed) (subst (λ (m : ℕ). readLinks m h (tail ++ rest) ≡ map (linkFor ps) c) (r .eight) (read-links c rest (r .links)));
+    pointers = rw (headed, pointed) (subst (λ (m : ℕ). readPointers m h (tail ++ rest) ≡ map (packedPointerFor ps) c) (r .eight) (read-pointers c rest (r .pointers)));
     good = rw (
       headed,
       wide,
@@ -212,7 +212,7 @@ module _ (ps : List ℕ) (low : (q : ℕ) → q < length ps → getD ps q 0 < 2 
 
   list-nil : (l : List ℕ) (a : ℕ) → length l ≡ 2 * a → ListRead ps l a []
   unfolding placesFrom sizeOf allIn startsFrom
-  list-nil l a done = record { starts = λ n h. ends n; links = refl; good = tt }
+  list-nil l a done = record { starts = λ n h. ends n; pointers = refl; good = tt }
     where
       ends : (n : ℕ) → startsFrom l n a ≡ []
       ends zero = refl
@@ -222,7 +222,7 @@ module _ (ps : List ℕ) (low : (q : ℕ) → q < length ps → getD ps q 0 < 2 
   unfolding placesFrom sizeOf allIn startsFrom
   list-cons l a c cs r inside more = record {
     starts = begin;
-    links = λ i. r .links i ∷ more .links i;
+    pointers = λ i. r .pointers i ∷ more .pointers i;
     good = rw (T-true {b = recordOk l a} (r .good)) (more .good);
   }
     where

@@ -1,4 +1,4 @@
--- On an undamaged store every kept cell has a solid voxel, so a record goes by pointers: child i of a cell seen under a mirror m is full exactly
+-- On an undamaged store every kept cell has a solid voxel, so a record goes by pointers: child i of a cell seen under a mirror m is non-empty exactly
 -- where pointer (i xor m) is there, and its room is that of the cell named, the tag joined to m. By induction on the list. Assumes nothing.
 use mathlib.Core.Path.{_≡_, refl, sym, ap, _∙_, subst}
 use mathlib.Core.Bool.{Bool, true, false, cond, not}
@@ -11,7 +11,7 @@ use lib.ListN.{getD}
 use Rattle.paper.specs.Numbers.{bytes}
 use Rattle.paper.specs.Rooms.{Point, Room, mirror, mirrored, Same, NonEmpty, nonEmpty, depthOk}
 use Rattle.paper.specs.Leaf.{mirrorLeaf}
-use Rattle.paper.specs.Outline.{edge, childOf, childFull, recordOf}
+use Rattle.paper.specs.Outline.{edge, childOf, childNonEmpty, recordOf}
 use Rattle.paper.specs.Store.{Cell, heights, keptCount, keptOf, cellsAt, cellAt, tagOf, cellNo, leafNo, badPointer, storeOk}
 use Rattle.paper.specs.Meaning.{pointerVoxel, cellVoxel, rootRoom}
 use Rattle.laws.proofs.Places.{leaf-fits}
@@ -117,8 +117,8 @@ module _ (ws : List ℕ) (ok : T (storeOk ws)) (w : Words ws) where
       (solid-same (edge k) (named K k p) (childOf k (cellVoxel K (suc k) c) (s .0)) (same-sym (cell-child K k c (s .0) (s .1))) there))
 
   -- a pointer that names a kept cell has a solid voxel, any other none
-  pub pointer-full : (k p m : ℕ) → k < heights → m < 8 → badPointer (keptCount ws k) p ≡ false → nonEmpty (edge k) (mirrored m (edge k) (named (keptOf ws) k p)) ≡ not (eqb p 0)
-  pointer-full k p m hk hm b = go (eqb p 0) refl
+  pub pointer-nonEmpty : (k p m : ℕ) → k < heights → m < 8 → badPointer (keptCount ws k) p ≡ false → nonEmpty (edge k) (mirrored m (edge k) (named (keptOf ws) k p)) ≡ not (eqb p 0)
+  pointer-nonEmpty k p m hk hm b = go (eqb p 0) refl
     where
       go : (z : Bool) → eqb p 0 ≡ z → nonEmpty (edge k) (mirrored m (edge k) (named (keptOf ws) k p)) ≡ not z
       go true e =
@@ -130,20 +130,20 @@ module _ (ws : List ℕ) (ok : T (storeOk ws)) (w : Words ws) where
           ∙ some-nonEmpty (edge k) (seenRoom (keptOf ws) k (cellNo p) (bitXor (tagOf p) m))
           (solid-mirrored (bitXor (tagOf p) m) (edge k) (cellVoxel (keptOf ws) k (cellAt (keptOf ws) k (cellNo p))) (kept-solid k (cellNo p) hk (names-kept (keptCount ws k) p b e)))
 
-  -- child i of a kept cell seen under m: full where its pointer is there
-  pub child-full : (k n m i : ℕ) → suc k < heights → n < keptCount ws (suc k) → m < 8 → i < 8
-      → childFull k (seenRoom (keptOf ws) (suc k) n m) i ≡ not (eqb (seenPointer (cellAt (keptOf ws) (suc k) n) m i) 0)
-  child-full k n m i hk hn hm hi =
+  -- child i of a kept cell seen under m: non-empty where its pointer is there
+  pub childNonEmpty-is : (k n m i : ℕ) → suc k < heights → n < keptCount ws (suc k) → m < 8 → i < 8
+      → childNonEmpty k (seenRoom (keptOf ws) (suc k) n m) i ≡ not (eqb (seenPointer (cellAt (keptOf ws) (suc k) n) m i) 0)
+  childNonEmpty-is k n m i hk hn hm hi =
       let c : Cell = cellAt (keptOf ws) (suc k) n in
       nonEmpty-same (edge k) (childOf k (seenRoom (keptOf ws) (suc k) n m) i) (mirrored m (edge k) (named (keptOf ws) k (seenPointer c m i)))
       (child-seen (keptOf ws) k c m i hm hi)
-      ∙ pointer-full k (seenPointer c m i) m (omega arith) hm
+      ∙ pointer-nonEmpty k (seenPointer c m i) m (omega arith) hm
       (none-at 8 (λ j. badPointer (keptCount ws k) (getD c j 0)) (cell-sound ws ok k n hk hn) (bitXor i m) (xor8-lt i m hi hm))
 
-  -- the root of a scene held: the room is full where its pointer is there
-  pub root-full : (D p : ℕ) → T (depthOk D) → badPointer (keptCount ws (D - 2)) p ≡ false → nonEmpty (2 ^ D) (rootRoom (keptOf ws) D p) ≡ not (eqb p 0)
+  -- the root of a scene held: the room is non-empty where its pointer is there
+  pub root-nonEmpty : (D p : ℕ) → T (depthOk D) → badPointer (keptCount ws (D - 2)) p ≡ false → nonEmpty (2 ^ D) (rootRoom (keptOf ws) D p) ≡ not (eqb p 0)
   unfolding rootRoom
-  root-full D p d b =
+  root-nonEmpty D p d b =
       let K : List (List Cell) = keptOf ws in
       let range = depth-range D d in
-      subst (λ (E : ℕ). nonEmpty E (pointerVoxel (cellVoxel K (D - 2)) (cellsAt K (D - 2)) E p) ≡ not (eqb p 0)) (edge-root D (range .0)) (pointer-full (D - 2) p 0 (omega arith) (lit< tt) b)
+      subst (λ (E : ℕ). nonEmpty E (pointerVoxel (cellVoxel K (D - 2)) (cellsAt K (D - 2)) E p) ≡ not (eqb p 0)) (edge-root D (range .0)) (pointer-nonEmpty (D - 2) p 0 (omega arith) (lit< tt) b)

@@ -8,7 +8,7 @@ use native.Mathlib.Nat.{suc-ne-zero}
 use borrow.Author.Tests.{eq-eqb, ne-eqb, eqb-true, eqb-false, not-true}
 use lib.Dec.{T, eqb}
 use Rattle.paper.specs.Rooms.{depthOk}
-use Rattle.paper.specs.Outline.{outlineFront, outlineHead, frontOk, lengthOk, fileDepth, outlineRules}
+use Rattle.paper.specs.Outline.{outlineVersion, outlineHead, versionOk, lengthOk, fileDepth, outlineRules}
 use Rattle.paper.specs.Store.{headerOk, sceneOk, storeOk}
 use Rattle.paper.specs.Answers.{told, outcome}
 use Rattle.paper.specs.Order.{Test, when, firstOf, settled}
@@ -95,8 +95,8 @@ seven-pass true true true true true false false e = (tt, tt, tt, tt, refl, refl)
 
 pub add-passed : (ws file : List ℕ) → firstOf (addOrder ws file) ≡ 0 → Passed ws file
 add-passed ws file e =
-    let p = seven-pass (storeOk ws) (frontOk outlineFront file) (lengthOk outlineHead file) (depthOk (fileDepth file)) (outlineRules file) (scenesFull ws) (cellsFull ws file) e in
-    record { accepted = record { front = p .0; long = p .1; deep = p .2; rules = p .3 }; scenes = p .4; cells = p .5 }
+    let p = seven-pass (storeOk ws) (versionOk outlineVersion file) (lengthOk outlineHead file) (depthOk (fileDepth file)) (outlineRules file) (scenesFull ws) (cellsFull ws file) e in
+    record { accepted = record { version = p .0; long = p .1; deep = p .2; rules = p .3 }; scenes = p .4; cells = p .5 }
 
 -- an outline that meets no earlier refusal
 pub add-number : (ws file : List ℕ) → T (storeOk ws) → Accepted file → scenesFull ws ≡ false → firstOf (addOrder ws file) ≡ cond (cellsFull ws file) 8 0
@@ -104,7 +104,7 @@ unfolding firstOf
 add-number ws file s a f =
     rw (
       T-true {b = storeOk ws} s,
-      T-true {b = frontOk outlineFront file} (a .front),
+      T-true {b = versionOk outlineVersion file} (a .version),
       T-true {b = lengthOk outlineHead file} (a .long),
       T-true {b = depthOk (fileDepth file)} (a .deep),
       T-true {b = outlineRules file} (a .rules),

@@ -16,7 +16,7 @@ use Rattle.paper.specs.Outline.{edge, longest, outlineOf, fileDepth, fileRoom}
 use Rattle.paper.specs.Store.{Cell, cellsAt, keptOf, sceneDepth, sceneRoot, storeOk}
 use Rattle.paper.specs.Meaning.{rootRoom, pointerVoxel, cellVoxel}
 use Rattle.paper.specs.Walk.{Walk, solidAt}
-use Rattle.paper.specs.Questions.{voxelWalk, corner, pointerTo, cellFull}
+use Rattle.paper.specs.Questions.{voxelWalk, corner, pointerTo, cellNonEmpty}
 use Rattle.paper.specs.Answers.{told, outcome}
 use Rattle.paper.specs.Order.{firstOf}
 use Rattle.paper.specs.Calls.{over, questionOrder, voxelOutside, voxelDamaged, voxelOutcome, cellOutside, cellDamaged, cellOutcome, axisOutside, boxOutside, boxDamaged, boxOutcome, outlineBytes, outlineShort, outlineOutOrder, outlineOutcome}
@@ -32,8 +32,8 @@ use Rattle.laws.proofs.Boxes.{box-same}
 use Rattle.laws.proofs.Holding.{Holds, HeldAt, header-ok, scene-ok, below-there, root-room}
 use Rattle.laws.proofs.NoDamage.{voxel-undamaged, cell-undamaged, box-undamaged}
 use Rattle.laws.proofs.CellVoxels.{voxel-means}
-use Rattle.laws.proofs.CellPlaces.{placeAt}
-use Rattle.laws.proofs.CellWalk.{Ends, leads, ends-full}
+use Rattle.laws.proofs.CellPoints.{pointAt}
+use Rattle.laws.proofs.CellWalk.{Ends, leads, ends-nonEmpty}
 
 -- ---- tests passed
 
@@ -53,18 +53,18 @@ module _ (K : List (List Cell)) (I : Invs K) (D p : ℕ) (deep : T (depthOk D)) 
       let z : Point = point 0 0 0 in
       let lz : Inside (edge j) z = record { inX = pow-pos (suc (suc j)); inY = pow-pos (suc (suc j)); inZ = pow-pos (suc (suc j)) } in
       let e : D - 2 ≡ j + (D - suc (suc j)) = omega arith in
-      let at : placeAt (edge j) c z ≡ corner (suc (suc j)) c = λ i. point (add-zero (c .x * edge j) i) (add-zero (c .y * edge j) i) (add-zero (c .z * edge j) i) in
+      let at : pointAt (edge j) c z ≡ corner (suc (suc j)) c = λ i. point (add-zero (c .x * edge j) i) (add-zero (c .y * edge j) i) (add-zero (c .z * edge j) i) in
       let r : Room = cellOf (pointerVoxel (cellVoxel K (D - 2)) (cellsAt K (D - 2)) (edge (D - 2)) p) (suc (suc j)) c in
-      let s : Ends K j r (pointerTo K j (D - 2) p (placeAt (edge j) c z)) = leads K (λ k q h. I k .ok q h) j (D - suc (suc j)) (D - 2) e p okp c z l lz in
+      let s : Ends K j r (pointerTo K j (D - 2) p (pointAt (edge j) c z)) = leads K (λ k q h. I k .ok q h) j (D - suc (suc j)) (D - 2) e p okp c z l lz in
       ap (λ (v : Point). not (eqb (pointerTo K j (D - 2) p v) 0)) (sym at)
-      ∙ ends-full K I j r (pointerTo K j (D - 2) p (placeAt (edge j) c z)) s
+      ∙ ends-nonEmpty K I j r (pointerTo K j (D - 2) p (pointAt (edge j) c z)) s
       ∙ ap (λ (x : Room). nonEmpty (edge j) (cellOf x (suc (suc j)) c)) (sym (root-room K D p deep))
 
-  pub cell-full : (h : ℕ) (c : Point) → h ≤ D → Inside (2 ^ (D - h)) c → cellFull K D p h c ≡ nonEmpty (2 ^ h) (cellOf (rootRoom K D p) h c)
-  unfolding cellFull
-  cell-full zero c h l = refl
-  cell-full (suc zero) c h l = refl
-  cell-full (suc (suc j)) c h l =
+  pub cellNonEmpty-is : (h : ℕ) (c : Point) → h ≤ D → Inside (2 ^ (D - h)) c → cellNonEmpty K D p h c ≡ nonEmpty (2 ^ h) (cellOf (rootRoom K D p) h c)
+  unfolding cellNonEmpty
+  cellNonEmpty-is zero c h l = refl
+  cellNonEmpty-is (suc zero) c h l = refl
+  cellNonEmpty-is (suc (suc j)) c h l =
       let e : suc (suc j) - 2 ≡ j = omega arith in
       rw (le-leb 2 (suc (suc j)) (omega arith), e) (cell-named j c h l)
 
@@ -111,10 +111,10 @@ module _ {ws : List ℕ} {held : Held} (s : Holds ws held) (n : ℕ) {sc : Scene
       let up : D ≡ h + (D - h) = omega arith in
       let e : 2 ^ D ≡ 2 ^ h * 2 ^ (D - h) = ap (λ (x : ℕ). 2 ^ x) up ∙ pow-add 2 h (D - h) in
       let out : cellOutside ws n h c ≡ false = rw (le-leb h D hD, inside-passes (2 ^ (D - h)) c m) in
-      settled-accepted (firstOf (questionOrder ws n (cellOutside ws n h c) (cellDamaged ws n h c))) (bitFor (cellFull K D (sceneRoot ws n) h c) ∷ []) [] []
+      settled-accepted (firstOf (questionOrder ws n (cellOutside ws n h c) (cellDamaged ws n h c))) (bitFor (cellNonEmpty K D (sceneRoot ws n) h c) ∷ []) [] []
       (question-0 (cellOutside ws n h c) (cellDamaged ws n h c) out (cell-undamaged s n h c (below-there s n (a .below))))
       ∙ ap (λ (b : Bool). outcome (told 0 (bitFor b ∷ [])) [])
-      (cell-full K (s .invs) D (sceneRoot ws n) deep (a .means .okp) h c hD m
+      (cellNonEmpty-is K (s .invs) D (sceneRoot ws n) deep (a .means .okp) h c hD m
       ∙ nonEmpty-same (2 ^ h) (cellOf R h c) (cellOf (sc .room) h c) (same-cell h (D - h) (2 ^ D) R (sc .room) c e room-is m))
 
   -- the box from low to high

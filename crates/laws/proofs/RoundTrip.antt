@@ -12,7 +12,7 @@ use lib.Seq.{take-add, drop-drop}
 use Rattle.paper.specs.Numbers.{bytes, num, flatten, count, isIn, indexIn}
 use Rattle.paper.specs.Outline.{fileDepth, lengthOk}
 use Rattle.paper.specs.Store.{Cell, cellsAt}
-use Rattle.paper.specs.Packed.{packedFront, packedHead, emptyMark, rootTag, isEmpty, topOf, sizeAt, tailAt, startAt, listAt, placesAt, cellsOf, graphOf, wholeAt, linksOk, headOk, proper}
+use Rattle.paper.specs.Packed.{packedVersion, packedHead, emptyMark, rootTag, isEmpty, topOf, sizeAt, tailAt, startAt, listAt, placesAt, cellsOf, graphOf, wholeAt, packedPointersOk, headOk, proper}
 use Rattle.paper.specs.Pack.{recordBytes, leafBytes, placesFrom, places, size, listBytes, sizeBytes, body, layout, emptyFile}
 use Rattle.paper.specs.Runs.{Bytes}
 use Rattle.laws.proofs.Tests.{and-left, and-right, true-T}
@@ -39,10 +39,10 @@ module _ (bs : List ℕ) (by : Bytes bs) (long : T (lengthOk packedHead bs)) (s 
   small-at j h p i m = start-small bs by (s .whole) (few-leaves bs by long s) j p h i m
 
   back-at : (j : ℕ) (h : suc j ≤ topOf bs) → ListBack (placesAt bs j) (small-at j (omega arith)) (listAt bs (suc j)) 0 (placesAt bs (suc j))
-  unfolding placesAt wholeAt linksOk
+  unfolding placesAt wholeAt packedPointersOk
   back-at j h =
       list-back (placesAt bs j) (small-at j (omega arith)) (listAt bs (suc j)) (list-bytes bs by (suc j)) (sizeAt bs (suc j)) 0
-      (omega (arith, inner-length bs whole j h)) (s .whole (suc j) h) (s .linked j h)
+      (omega (arith, inner-length bs whole j h)) (s .whole (suc j) h) (s .pointed j h)
 
   places-back : (j : ℕ) → j ≤ topOf bs → places G j ≡ placesAt bs j
   unfolding places placesAt cellsOf
@@ -116,21 +116,21 @@ module _ (bs : List ℕ) (by : Bytes bs) (p : Proper bs) where
   seven = leb→le packedHead (length bs) (and-left (leb packedHead (length bs)) (eqb (num 4 (drop 1 bs)) (length bs)) (p .long))
 
   -- what is written before a rest of the right length
-  head-back : (rest : List ℕ) → rest ≡ drop packedHead bs → bs ≡ packedFront ∷ bytes 4 (packedHead + length rest) ++ (fileDepth bs ∷ rootTag bs ∷ rest)
+  head-back : (rest : List ℕ) → rest ≡ drop packedHead bs → bs ≡ packedVersion ∷ bytes 4 (packedHead + length rest) ++ (fileDepth bs ∷ rootTag bs ∷ rest)
   head-back rest e =
-      let front : getD bs 0 0 ≡ packedFront = eqb→eq (getD bs 0 0) packedFront (and-right (ltb 0 (length bs)) (eqb (getD bs 0 0) packedFront) (p .front)) in
+      let version : getD bs 0 0 ≡ packedVersion = eqb→eq (getD bs 0 0) packedVersion (and-right (ltb 0 (length bs)) (eqb (getD bs 0 0) packedVersion) (p .version)) in
       let field : num 4 (drop 1 bs) ≡ length bs = eqb→eq (num 4 (drop 1 bs)) (length bs) (and-right (leb packedHead (length bs)) (eqb (num 4 (drop 1 bs)) (length bs)) (p .long)) in
       let n : packedHead + length rest ≡ num 4 (drop 1 bs) = omega (arith, ap length e, length-drop packedHead bs, field, seven) in
       let four : bytes 4 (packedHead + length rest) ≡ take 4 (drop 1 bs) = ap (bytes 4) n ∙ bytes-num 4 (drop 1 bs) (bytes-drop 1 bs by) (omega (arith, length-drop 1 bs, seven)) in
-      head-split bs seven ∙ ap₂ (λ (x : ℕ) (l : List ℕ). x ∷ l ++ (fileDepth bs ∷ rootTag bs ∷ drop packedHead bs)) front (sym four)
-      ∙ ap (λ (l : List ℕ). packedFront ∷ bytes 4 (packedHead + length rest) ++ (fileDepth bs ∷ rootTag bs ∷ l)) (sym e)
+      head-split bs seven ∙ ap₂ (λ (x : ℕ) (l : List ℕ). x ∷ l ++ (fileDepth bs ∷ rootTag bs ∷ drop packedHead bs)) version (sym four)
+      ∙ ap (λ (l : List ℕ). packedVersion ∷ bytes 4 (packedHead + length rest) ++ (fileDepth bs ∷ rootTag bs ∷ l)) (sym e)
 
   laid-out : SoundLists bs → bs ≡ layout (topOf bs) (rootTag bs) (graphOf bs)
   unfolding layout
   laid-out s =
       let tail : List ℕ = sizeBytes (graphOf bs) (topOf bs) ++ body (graphOf bs) (topOf bs) in
       head-back tail (rest-back bs by (p .long) s)
-      ∙ ap (λ (D : ℕ). packedFront ∷ bytes 4 (packedHead + length tail) ++ (D ∷ rootTag bs ∷ tail)) (sym (depth-two (fileDepth bs) (p .deep)))
+      ∙ ap (λ (D : ℕ). packedVersion ∷ bytes 4 (packedHead + length tail) ++ (D ∷ rootTag bs ∷ tail)) (sym (depth-two (fileDepth bs) (p .deep)))
 
   -- an empty file ends after its head
   pub nothing-more : isEmpty bs ≡ true → drop packedHead bs ≡ []
@@ -141,7 +141,7 @@ module _ (bs : List ℕ) (by : Bytes bs) (p : Proper bs) where
 
   laid-none : isEmpty bs ≡ true → bs ≡ emptyFile (fileDepth bs)
   unfolding emptyFile
-  laid-none e = head-back [] (sym (nothing-more e)) ∙ ap (λ (m : ℕ). packedFront ∷ bytes 4 packedHead ++ (fileDepth bs ∷ m ∷ [])) (eqb-true (rootTag bs) emptyMark e)
+  laid-none e = head-back [] (sym (nothing-more e)) ∙ ap (λ (m : ℕ). packedVersion ∷ bytes 4 packedHead ++ (fileDepth bs ∷ m ∷ [])) (eqb-true (rootTag bs) emptyMark e)
 
 -- ---- claimed of every proper file
 

@@ -17,7 +17,7 @@ use Rattle.paper.specs.Rooms.{Room, Inside, Same, NonEmpty, depthOk}
 use Rattle.paper.specs.Outline.{edge}
 use Rattle.paper.specs.Store.{Cell, tagOf, cellNo, cellsAt, cellAt, keptOf, sceneDepth, sceneRoot}
 use Rattle.paper.specs.Meaning.{pointerVoxel, cellVoxel, rootRoom}
-use Rattle.paper.specs.Pack.{layout, reached, listFor, sceneGraph, packedFile}
+use Rattle.paper.specs.Pack.{layout, reachable, listFor, sceneGraph, packedFile}
 use Rattle.paper.specs.Calls.{packBytes}
 use Rattle.paper.specs.Runs.{Scene, Held}
 use Rattle.laws.proofs.Mirrors.{mirrored-turn}
@@ -82,7 +82,7 @@ unfolding packedFile sceneGraph
 root-file K D p q (inl (ep, eq)) = rw (eq-eqb p 0 ep, eq-eqb q 0 eq)
 root-file K D p q (inr w) =
     rw (ne-eqb p 0 (w .left), ne-eqb q 0 (w .right))
-    (ap₂ (λ (t c : ℕ). layout (D - 2) t (tabulate 0 (suc (D - 2)) (listFor K (reached K (D - 2) (c ∷ []))))) (w .tag) (w .cell))
+    (ap₂ (λ (t c : ℕ). layout (D - 2) t (tabulate 0 (suc (D - 2)) (listFor K (reachable K (D - 2) (c ∷ []))))) (w .tag) (w .cell))
 
 module _ {ws : List ℕ} {held : Held} (h : Holds ws held) where
   abbrev K : List (List Cell)

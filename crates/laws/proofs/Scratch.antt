@@ -7,9 +7,9 @@ use lib.Dec.{eqb, ltb}
 use lib.ListN.{length, getD}
 use Rattle.paper.specs.Numbers.{isIn}
 use Rattle.paper.specs.Rooms.{depthOk}
-use Rattle.paper.specs.Outline.{fileDepth, frontOk, lengthOk}
+use Rattle.paper.specs.Outline.{fileDepth, versionOk, lengthOk}
 use Rattle.paper.specs.Store.{storeOk}
-use Rattle.paper.specs.Packed.{packedFront, packedHead, packedRules}
+use Rattle.paper.specs.Packed.{packedVersion, packedHead, packedRules}
 use Rattle.paper.specs.Answers.{Outcome}
 use Rattle.paper.specs.Order.{when, firstOf, settled}
 use Rattle.paper.specs.Calls.{over, cleared, noScene, scratchFor, packBytes, packShort, packOutcome, checkOutcome}
@@ -56,5 +56,5 @@ pub check-scratch : (file scratch : List ℕ)
     → getD (checkOutcome file scratch .lent) 0 [] ≡ cond (isIn (checkOutcome file scratch .number) (0 ∷ 6 ∷ [])) (cleared (length file) scratch) scratch
 unfolding checkOutcome
 check-scratch file scratch =
-    checked-scratch (ltb (length scratch) (length file)) (frontOk packedFront file) (lengthOk packedHead file) (depthOk (fileDepth file)) (packedRules file) (fileDepth file ∷ []) scratch
+    checked-scratch (ltb (length scratch) (length file)) (versionOk packedVersion file) (lengthOk packedHead file) (depthOk (fileDepth file)) (packedRules file) (fileDepth file ∷ []) scratch
     (cleared (length file) scratch)

@@ -10,14 +10,14 @@ use lib.Dec.{T, eqb, ltb}
 use lib.ListN.{length, drop, getD, length-append}
 use Rattle.paper.specs.Numbers.{allBelow}
 use Rattle.paper.specs.Rooms.{depthOk}
-use Rattle.paper.specs.Store.{Cell, Store, cellsAt, badPointer, mostScenes, heights, capacityOf, isHeld, keptCount, sceneWords, scenePlace, stride, listPlace, cellPlace}
+use Rattle.paper.specs.Store.{Cell, Store, cellsAt, badPointer, mostScenes, heights, capacityOf, isHeld, keptCount, sceneWords, scenePosition, stride, listPosition, cellPosition}
 use Rattle.paper.specs.Store.{keptOf, sceneDepth, sceneRoot, listRegions, wordsOf, blank, capacityOk, headerOk, sceneOk, placeOk, listUsable, listBlank, storeOk}
 use Rattle.laws.proofs.Tests.{T-true, and-true, all-T, true-T, all-same}
 use Rattle.laws.proofs.Kept.{scene-word}
 use Rattle.laws.proofs.Padded.{padded-blank}
 use Rattle.laws.proofs.Regions.{inRow}
 use Rattle.laws.proofs.Words.{storeWith, Fine, wordsOf-length, cells-sized, cells-few, zeros-from, cells-from, capacity-read, scenes-read, count-read, kept-read, storeOf-wordsOf}
-use Rattle.laws.proofs.Undamaged.{Headed, headed-ok, depth-list, list-blank-at}
+use Rattle.laws.proofs.Undamaged.{FineHeader, fine-header-ok, depth-list, list-blank-at}
 
 -- a scene's depth is in range, and its root pointer not bad
 abbrev pub sceneSound : List (List Cell) → Cell → Bool
@@ -43,12 +43,12 @@ module _ (C N : ℕ) (S : List Cell) (Ks : List (List Cell)) (f : Fine C N S Ks)
   pub held-read : (n : ℕ) → isHeld (wordsOf (storeWith C N S Ks) ++ l) n ≡ heldIn N S n
   held-read n = ap (ltb n) (scenes-read C N S Ks f l)
 
-  scene-read : (n i : ℕ) → n < mostScenes → i < sceneWords → getD ws (scenePlace n + i) 0 ≡ getD (getD S n []) i 0
+  scene-read : (n i : ℕ) → n < mostScenes → i < sceneWords → getD ws (scenePosition n + i) 0 ≡ getD (getD S n []) i 0
   scene-read n i h m =
       sym (scene-word ws n i h m) ∙ ap (λ (s : Store). getD (getD (s .scenes) n []) i 0) (storeOf-wordsOf C N S Ks f l)
 
   pub depth-read : (n : ℕ) → n < mostScenes → sceneDepth (wordsOf (storeWith C N S Ks) ++ l) n ≡ getD (getD S n []) 0 0
-  depth-read n h = ap (λ (j : ℕ). getD ws j 0) (sym (add-zero (scenePlace n))) ∙ scene-read n 0 h (omega arith)
+  depth-read n h = ap (λ (j : ℕ). getD ws j 0) (sym (add-zero (scenePosition n))) ∙ scene-read n 0 h (omega arith)
 
   pub root-read : (n : ℕ) → n < mostScenes → sceneRoot (wordsOf (storeWith C N S Ks) ++ l) n ≡ getD (getD S n []) 1 0
   root-read n h = scene-read n 1 h (omega arith)
@@ -67,8 +67,8 @@ module _ (C N : ℕ) (S : List Cell) (Ks : List (List Cell)) (f : Fine C N S Ks)
 
   -- ---- unused words are zero
 
-  pub words-headed : T (capacityOk C) → Headed (wordsOf (storeWith C N S Ks) ++ l)
-  words-headed c =
+  pub words-header : T (capacityOk C) → FineHeader (wordsOf (storeWith C N S Ks) ++ l)
+  words-header c =
       let e : capacityOf ws ≡ C = capacity-read C N S Ks f l in
       record {
         long = rw (e, length-append (wordsOf (storeWith C N S Ks)) l) (omega (arith, wordsOf-length C N S Ks f));
@@ -80,9 +80,9 @@ module _ (C N : ℕ) (S : List Cell) (Ks : List (List Cell)) (f : Fine C N S Ks)
 
   list-blank : (k : ℕ) → k < heights → listBlank ws k ≡ true
   list-blank k h =
-      ap₂ (λ (c m : ℕ). blank ws (cellPlace c k m) (stride k * (c - m))) (capacity-read C N S Ks f l) (count-read C N S Ks f l k h)
+      ap₂ (λ (c m : ℕ). blank ws (cellPosition c k m) (stride k * (c - m))) (capacity-read C N S Ks f l) (count-read C N S Ks f l k h)
       ∙ list-blank-at ws C k (length (cellsAt Ks k))
-      ∙ padded-blank ws (listPlace C k) (stride k * C) (inRow (drop (suc k) (listRegions C 0 Ks)) ++ l) (cells-sized C N S Ks f k h) (cells-from C N S Ks f l k h)
+      ∙ padded-blank ws (listPosition C k) (stride k * C) (inRow (drop (suc k) (listRegions C 0 Ks)) ++ l) (cells-sized C N S Ks f k h) (cells-from C N S Ks f l k h)
 
   -- ---- undamaged
 
@@ -94,6 +94,6 @@ module _ (C N : ℕ) (S : List Cell) (Ks : List (List Cell)) (f : Fine C N S Ks)
   sound-words c =
       join (headerOk ws) (allBelow mostScenes (placeOk ws)) (allBelow heights (listUsable (keptOf ws))) (allBelow heights (listBlank ws))
       (allBelow mostScenes (placeSound N S Ks)) (allBelow heights (listUsable Ks))
-      (T-true (headed-ok ws (words-headed c))) (all-same mostScenes (placeOk ws) (placeSound N S Ks) place-sound)
+      (T-true (fine-header-ok ws (words-header c))) (all-same mostScenes (placeOk ws) (placeSound N S Ks) place-sound)
       (ap (λ (K : List (List Cell)). allBelow heights (listUsable K)) (kept-read C N S Ks f l))
       (T-true (all-T heights (listBlank ws) (λ k h. true-T (list-blank k h))))

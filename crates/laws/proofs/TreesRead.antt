@@ -6,7 +6,7 @@ use mathlib.Core.List.{List, [], _∷_}
 use Prim.Native.Nat.{ℕ, zero, suc, _-_, _<_}
 use Rattle.paper.specs.Numbers.{tabulate}
 use Rattle.paper.specs.Rooms.{Room, NonEmpty, nonEmpty}
-use Rattle.paper.specs.Outline.{edge, childOf, childFull, Tree, none, treeVoxel, Read, bad, ok, readRecord, readRoot, treeRead}
+use Rattle.paper.specs.Outline.{edge, childOf, childNonEmpty, Tree, none, treeVoxel, Read, bad, ok, readRecord, readRoot, treeRead}
 use Rattle.paper.specs.Outline.{outlineHead, fileDepth, outlineTree}
 use Rattle.paper.specs.Runs.{Bytes}
 use lib.ListN.{drop}
@@ -22,15 +22,15 @@ use Rattle.laws.proofs.OutlineReading.{record-read, OkRead, Recorded, r
 
 -- child i of the tree of a cell
 abbrev childTree : ℕ → Room → ℕ → Tree
-childTree k r i = cond (childFull k r i) (treeFor k (childOf k r i)) none
+childTree k r i = cond (childNonEmpty k r i) (treeFor k (childOf k r i)) none
 
 treeFor-some : (k : ℕ) (r : Room) → treeFor k r ≡ none → ⊥
 unfolding treeFor
 treeFor-some zero r e = leaf≢none e
 treeFor-some (suc k) r e = node≢none e
 
-full-some : (k : ℕ) (r : Room) (i : ℕ) → childFull k r i ≡ true → childTree k r i ≡ none → ⊥
-full-some k r i f e = treeFor-some k (childOf k r i) (sym (ap (λ (b : Bool). cond b (treeFor k (childOf k r i)) none) f) ∙ e)
+childTree-some : (k : ℕ) (r : Room) (i : ℕ) → childNonEmpty k r i ≡ true → childTree k r i ≡ none → ⊥
+childTree-some k r i f e = treeFor-some k (childOf k r i) (sym (ap (λ (b : Bool). cond b (treeFor k (childOf k r i)) none) f) ∙ e)
 
 child-good : (k : ℕ) (r : Room) → (nonEmpty (edge k) r ≡ true → Good (treeFor k r) (suc (suc k))) → (b : Bool) → nonEmpty (edge k) r ≡ b
     → Good (cond b (treeFor k r) none) (suc (suc k))
@@ -42,11 +42,11 @@ pub treeFor-good : (k : ℕ) (r : Room) → nonEmpty (edge k) r ≡ true → Goo
 unfolding treeFor tabulate
 treeFor-good zero r e = gleaf (leafOf-lt r) (leafOf-solid r (nonEmpty-some 4 r e))
 treeFor-good (suc k) r e =
-    let g : (i : ℕ) → Good (childTree k r i) (suc (suc k)) = λ i. child-good k (childOf k r i) (treeFor-good k (childOf k r i)) (childFull k r i) refl in
+    let g : (i : ℕ) → Good (childTree k r i) (suc (suc k)) = λ i. child-good k (childOf k r i) (treeFor-good k (childOf k r i)) (childNonEmpty k r i) refl in
     let w : (i : ℕ) × (i < 8) × NonEmpty (edge k) (childOf k r i) = nonEmpty-child (edge k) r (rw (edge-twice k) at (nonEmpty-some (edge (suc k)) r e)) in
     let t : ℕ → Tree = childTree k r in
     gnode (g 0) (g 1) (g 2) (g 3) (g 4) (g 5) (g 6) (g 7) (w .0) (w .1)
-    (λ q. full-some k r (w .0) (some-nonEmpty (edge k) (childOf k r (w .0)) (w .2)) (sym (pick8-table t (w .0) (w .1)) ∙ q))
+    (λ q. childTree-some k r (w .0) (some-nonEmpty (edge k) (childOf k r (w .0)) (w .2)) (sym (pick8-table t (w .0) (w .1)) ∙ q))
 
 -- ---- what is read
 

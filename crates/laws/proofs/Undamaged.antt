@@ -12,7 +12,7 @@ use lib.ListN.{length, take, drop, getD, replicate, length-map, length-drop, tak
 use lib.Seq.{take-add, drop-drop, length-take-le, ext-getD, getD-take, getD-drop}
 use Rattle.paper.specs.Numbers.{tabulate, allBelow, allIn, flatten}
 use Rattle.paper.specs.Rooms.{depthOk}
-use Rattle.paper.specs.Store.{Cell, mostScenes, heights, used, capacityOf, scenesHeld, isHeld, keptCount, zerosPlace, firstScene, sceneWords, stride, listPlace, cellPlace, keptIn, keptOf, storeOf, padded, region, regionWords, listRegions, headerRow, regions, wordsOf, blank, capacityOk, headerOk, sceneOk, isFree, placeOk, listUsable, listBlank, storeOk}
+use Rattle.paper.specs.Store.{Cell, mostScenes, heights, used, capacityOf, scenesHeld, isHeld, keptCount, zerosPosition, firstScene, sceneWords, stride, listPosition, cellPosition, keptIn, keptOf, storeOf, padded, region, regionWords, listRegions, headerRow, regions, wordsOf, blank, capacityOk, headerOk, sceneOk, isFree, placeOk, listUsable, listBlank, storeOk}
 use Rattle.paper.specs.Calls.{nextScene, noScene}
 use Rattle.laws.proofs.Tests.{T-true, true-T, and-right, and4, and5, and5-T, all-at, all-T}
 use Rattle.laws.proofs.Lists.{map-at}
@@ -23,19 +23,19 @@ use Rattle.laws.proofs.Words.{Lists, lnil, lcons, list-in, words-fit, l
 
 -- ---- what the tests say
 
-pub record Headed (ws : List ℕ) : Type 0 where
+pub record FineHeader (ws : List ℕ) : Type 0 where
   pub long : used (capacityOf ws) ≤ length ws
   pub capacity : T (capacityOk (capacityOf ws))
   pub held : scenesHeld ws ≤ mostScenes
   pub few : (k : ℕ) → k < heights → keptCount ws k ≤ capacityOf ws
-  pub header-zeros : T (blank ws zerosPlace (firstScene - zerosPlace))
+  pub header-zeros : T (blank ws zerosPosition (firstScene - zerosPosition))
 
-pub headed : (ws : List ℕ) → T (headerOk ws) → Headed ws
+pub fine-header : (ws : List ℕ) → T (headerOk ws) → FineHeader ws
 unfolding headerOk
-headed ws t =
+fine-header ws t =
     let C : ℕ = capacityOf ws in
     let few : ℕ → Bool = λ k. leb (keptCount ws k) C in
-    let h = and5 (leb (used C) (length ws)) (capacityOk C) (leb (scenesHeld ws) mostScenes) (allBelow heights few) (blank ws zerosPlace (firstScene - zerosPlace)) t in
+    let h = and5 (leb (used C) (length ws)) (capacityOk C) (leb (scenesHeld ws) mostScenes) (allBelow heights few) (blank ws zerosPosition (firstScene - zerosPosition)) t in
     record {
       long = leb→le (used C) (length ws) (h .0);
       capacity = h .1;
@@ -44,12 +44,12 @@ headed ws t =
       header-zeros = h .4;
     }
 
-pub headed-ok : (ws : List ℕ) → Headed ws → T (headerOk ws)
+pub fine-header-ok : (ws : List ℕ) → FineHeader ws → T (headerOk ws)
 unfolding headerOk
-headed-ok ws h =
+fine-header-ok ws h =
     let C : ℕ = capacityOf ws in
     let few : ℕ → Bool = λ k. leb (keptCount ws k) C in
-    and5-T (leb (used C) (length ws)) (capacityOk C) (leb (scenesHeld ws) mostScenes) (allBelow heights few) (blank ws zerosPlace (firstScene - zerosPlace))
+    and5-T (leb (used C) (length ws)) (capacityOk C) (leb (scenesHeld ws) mostScenes) (allBelow heights few) (blank ws zerosPosition (firstScene - zerosPosition))
     (le→leb (used C) (length ws) (h .long)) (h .capacity) (le→leb (scenesHeld ws) mostScenes (h .held))
     (all-T heights few (λ k l. le→leb (keptCount ws k) C (h .few k l))) (h .header-zeros)
 
@@ -58,7 +58,7 @@ pub record Undamaged (ws : List ℕ) : Type 0 where
   pub capacity : T (capacityOk (capacityOf ws))
   pub held : scenesHeld ws ≤ mostScenes
   pub few : (k : ℕ) → k < heights → keptCount ws k ≤ capacityOf ws
-  pub header-zeros : T (blank ws zerosPlace (firstScene - zerosPlace))
+  pub header-zeros : T (blank ws zerosPosition (firstScene - zerosPosition))
   pub places : (n : ℕ) → n < mostScenes → T (placeOk ws n)
   pub usable : (k : ℕ) → k < heights → T (listUsable (keptOf ws) k)
   pub list-zeros : (k : ℕ) → k < heights → T (listBlank ws k)
@@ -75,7 +75,7 @@ store-header ws t = store-tests ws t .0
 pub undamaged : (ws : List ℕ) → T (storeOk ws) → Undamaged ws
 undamaged ws t =
     let s = store-tests ws t in
-    let h : Headed ws = headed ws (s .0) in
+    let h : FineHeader ws = fine-header ws (s .0) in
     record {
       long = h .long;
       capacity = h .capacity;
@@ -87,8 +87,8 @@ undamaged ws t =
       list-zeros = all-at heights (listBlank ws) (s .3);
     }
 
-pub undamaged-headed : {ws : List ℕ} → Undamaged ws → Headed ws
-undamaged-headed u = record { long = u .long; capacity = u .capacity; held = u .held; few = u .few; header-zeros = u .header-zeros }
+pub undamaged-header : {ws : List ℕ} → Undamaged ws → FineHeader ws
+undamaged-header u = record { long = u .long; capacity = u .capacity; held = u .held; few = u .few; header-zeros = u .header-zeros }
 
 -- a number held is no refusal 9, and any other is
 pub held-there : (ws : List ℕ) (n : ℕ) → T (isHeld ws n) → noScene ws n ≡ false
@@ -122,7 +122,7 @@ depth-list D f g e = go (depthOk D) refl
 
 -- ---- the store that words with a good header hold is fine
 
-module _ (ws : List ℕ) (h : Headed ws) where
+module _ (ws : List ℕ) (h : FineHeader ws) where
   tables-fine : (n j : ℕ) → j + n ≡ heights → Lists (capacityOf ws) j (tabulate j n (keptIn ws))
   unfolding tabulate
   tables-fine zero j e = lnil
@@ -130,8 +130,8 @@ module _ (ws : List ℕ) (h : Headed ws) where
       let C : ℕ = capacityOf ws in
       let m : ℕ = keptCount ws j in
       let hj : j < heights = omega arith in
-      let hl : m * stride j ≤ length (drop (listPlace C j) ws) = rw length-drop (omega (arith, h .long, list-in C j hj, words-fit j m C (h .few j hj))) in
-      lcons (subst (Sized (stride j)) (sym (kept-rows ws j)) (groups-sized (stride j) m (drop (listPlace C j) ws) hl)) (rw (keptIn-length ws j) (h .few j hj))
+      let hl : m * stride j ≤ length (drop (listPosition C j) ws) = rw length-drop (omega (arith, h .long, list-in C j hj, words-fit j m C (h .few j hj))) in
+      lcons (subst (Sized (stride j)) (sym (kept-rows ws j)) (groups-sized (stride j) m (drop (listPosition C j) ws) hl)) (rw (keptIn-length ws j) (h .few j hj))
       (tables-fine n (suc j) (omega arith))
 
   pub header-fine : Fine (capacityOf ws) (scenesHeld ws) (storeOf ws .scenes) (storeOf ws .kept)
@@ -152,7 +152,7 @@ take2 (x ∷ []) h = absurd (omega arith)
 take2 (x ∷ y ∷ ws) h = refl
 
 -- the zeros of list j, counted in groups
-pub list-blank-at : (ws : List ℕ) (C j n : ℕ) → blank ws (cellPlace C j n) (stride j * (C - n)) ≡ blank ws (listPlace C j + n * stride j) (stride j * C - n * stride j)
+pub list-blank-at : (ws : List ℕ) (C j n : ℕ) → blank ws (cellPosition C j n) (stride j * (C - n)) ≡ blank ws (listPosition C j + n * stride j) (stride j * C - n * stride j)
 list-blank-at ws C zero n = ap₂ (blank ws) (omega arith) (omega arith)
 list-blank-at ws C (suc j) n = ap₂ (blank ws) (omega arith) (omega arith)
 
@@ -173,29 +173,29 @@ module _ (ws : List ℕ) (u : Undamaged ws) where
   header-back =
       let A : List ℕ = take heights (drop 2 ws) in
       let R : List ℕ = getD ws 0 0 ∷ getD ws 1 0 ∷ A in
-      let n : ℕ = firstScene - zerosPlace in
+      let n : ℕ = firstScene - zerosPosition in
       let row : headerRow (storeOf ws) ≡ R = ap (λ (r : List ℕ). getD ws 0 0 ∷ getD ws 1 0 ∷ r) counts-back in
-      let long : length R ≡ zerosPlace = ap (λ (m : ℕ). suc (suc m)) (length-take-le heights (drop 2 ws) (rw length-drop (omega (arith, u .long)))) in
-      let whole : take firstScene ws ≡ R ++ take n (drop zerosPlace ws) =
+      let long : length R ≡ zerosPosition = ap (λ (m : ℕ). suc (suc m)) (length-take-le heights (drop 2 ws) (rw length-drop (omega (arith, u .long)))) in
+      let whole : take firstScene ws ≡ R ++ take n (drop zerosPosition ws) =
       take-add 2 30 ws ∙ ap₂ (λ (x y : List ℕ). x ++ y) (take2 ws (omega (arith, u .long))) (take-add heights n (drop 2 ws) ∙ ap (λ (x : List ℕ). A ++ take n x) (drop-drop heights 2 ws)) in
       ap (λ (r : List ℕ). r ++ replicate (firstScene - length r) 0) (append-nil (headerRow (storeOf ws)) ∙ row) ∙ ap (λ (m : ℕ). R ++ replicate (firstScene - m) 0) long
-      ∙ ap (λ (r : List ℕ). R ++ r) (sym (blank-zeros ws zerosPlace n (omega (arith, u .long)) (u .header-zeros)))
+      ∙ ap (λ (r : List ℕ). R ++ r) (sym (blank-zeros ws zerosPosition n (omega (arith, u .long)) (u .header-zeros)))
       ∙ sym whole
 
   scenes-back : padded (sceneWords * mostScenes) (storeOf ws .scenes) ≡ take (sceneWords * mostScenes) (drop firstScene ws)
   unfolding storeOf blank allIn
   scenes-back = padded-groups ws firstScene sceneWords mostScenes (sceneWords * mostScenes) (omega arith) (omega (arith, u .long)) tt
 
-  list-back : (j : ℕ) → j < heights → padded (stride j * capacityOf ws) (keptIn ws j) ≡ take (stride j * capacityOf ws) (drop (listPlace (capacityOf ws) j) ws)
+  list-back : (j : ℕ) → j < heights → padded (stride j * capacityOf ws) (keptIn ws j) ≡ take (stride j * capacityOf ws) (drop (listPosition (capacityOf ws) j) ws)
   list-back j h =
       let C : ℕ = capacityOf ws in
       let n : ℕ = keptCount ws j in
       ap (padded (stride j * C)) (kept-rows ws j)
-      ∙ padded-groups ws (listPlace C j) (stride j) n (stride j * C) (words-fit j n C (u .few j h)) (omega (arith, u .long, list-in C j h))
+      ∙ padded-groups ws (listPosition C j) (stride j) n (stride j * C) (words-fit j n C (u .few j h)) (omega (arith, u .long, list-in C j h))
       (subst T (list-blank-at ws C j n) (u .list-zeros j h))
 
   pub store-fine : Fine (capacityOf ws) (scenesHeld ws) (storeOf ws .scenes) (storeOf ws .kept)
-  store-fine = header-fine ws (undamaged-headed u)
+  store-fine = header-fine ws (undamaged-header u)
 
   words-long : length (wordsOf (storeOf ws)) ≡ used (capacityOf ws)
   unfolding storeOf
@@ -213,8 +213,8 @@ module _ (ws : List ℕ) (u : Undamaged ws) where
       let hk : k < heights = omega (arith, lists-many C 0 K, kept-tall ws) in
       let there : regionAt (listRegions C 0 K) k ≡ region (stride k * C) (keptIn ws k) =
       list-region C 0 K k (omega (arith, kept-tall ws)) ∙ ap₂ (λ (i : ℕ) (cs : List Cell). region (stride i * C) cs) (zero-add k) (kept-list ws k hk) in
-      let start : 0 + (firstScene + (sceneWords * mostScenes + regionPlace (listRegions C 0 K) k)) ≡ listPlace C k =
-      omega (arith, lists-place C 0 K k (omega (arith, kept-tall ws)) ∙ ap (listPlace C) (zero-add k)) in
+      let start : 0 + (firstScene + (sceneWords * mostScenes + regionPlace (listRegions C 0 K) k)) ≡ listPosition C k =
+      omega (arith, lists-place C 0 K k (omega (arith, kept-tall ws)) ∙ ap (listPosition C) (zero-add k)) in
       rw (there, start) (list-back k hk)
 
   pub words-front : wordsOf (storeOf ws) ≡ take (used (capacityOf ws)) ws

@@ -12,13 +12,13 @@ use Rattle.paper.specs.Outline.{longest, outlineOf}
 use Rattle.paper.specs.Store.{Cell, mostScenes, used, capacityOf, keptCount, headerOk, sceneOk, storeOk}
 use Rattle.paper.specs.Meaning.{rootRoom}
 use Rattle.paper.specs.Walk.{isDamaged, solidAt}
-use Rattle.paper.specs.Questions.{voxelWalk, cellFull, cellWay, boxSolid, boxWay}
+use Rattle.paper.specs.Questions.{voxelWalk, cellNonEmpty, cellWalkDamaged, boxSolid, boxWalkDamaged}
 use Rattle.paper.specs.Pack.{packedFile}
 use Rattle.paper.specs.Answers.{Outcome}
 use Rattle.paper.specs.Order.{when, firstOf, settled}
 use Rattle.paper.specs.Calls.{over, cleared, noScene, ofScene, axisOutside, voxelOutside, voxelDamaged, voxelOutcome, cellOutside, cellDamaged, cellOutcome, boxOutside, boxDamaged, boxOutcome}
 use Rattle.paper.specs.Calls.{keptOutcome, outShort, outlineBytes, outlineShort, outlineOutcome, packScratch, packBytes, packShort, packOutcome}
-use Rattle.laws.proofs.Undamaged.{headed, depth-low, store-header, there-held, held-placed}
+use Rattle.laws.proofs.Undamaged.{fine-header, depth-low, store-header, there-held, held-placed}
 use Rattle.laws.proofs.UnseenWords.{capacity-unseen, number-unseen, count-unseen, header-unseen, kept-unseen, depth-unseen, root-unseen, scene-unseen, undamaged-unseen}
 
 -- ---- the answers, by what their tests give
@@ -78,7 +78,7 @@ module _ (f r : List ℕ) (whole : used (capacityOf f) ≤ length f) where
 
   -- a scene that is there has a place
   placed : (n : ℕ) → T (headerOk f) → noScene f n ≡ false → n < mostScenes
-  placed n h e = held-placed f n (headed f h .held) (there-held f n e)
+  placed n h e = held-placed f n (fine-header f h .held) (there-held f n e)
 
   -- whatever the kept cells and a scene's two words give
   scene-part : {A : Type 0} (F : List (List Cell) → ℕ → ℕ → A) (n : ℕ) → T (headerOk f) → noScene f n ≡ false → ofScene F (f ++ r) n ≡ ofScene F f n
@@ -103,14 +103,14 @@ module _ (f r : List ℕ) (whole : used (capacityOf f) ≤ length f) where
   pub cell-unseen : (n h : ℕ) (c : Point) → cellOutcome (f ++ r) n h c ≡ cellOutcome f n h c
   unfolding cellOutcome cellOutside cellDamaged
   cell-unseen n h c =
-      question-unseen n (λ K D p. not (leb h D) || not (inside (2 ^ (D - h)) c)) (λ K D p. cellWay K D p h c) (λ K D p. bitFor (cellFull K D p h c))
+      question-unseen n (λ K D p. not (leb h D) || not (inside (2 ^ (D - h)) c)) (λ K D p. cellWalkDamaged K D p h c) (λ K D p. bitFor (cellNonEmpty K D p h c))
 
   pub box-unseen : (n : ℕ) (low high : Point) → boxOutcome (f ++ r) n low high ≡ boxOutcome f n low high
   unfolding boxOutcome boxOutside boxDamaged
   box-unseen n low high =
       question-unseen n
       (λ K D p. axisOutside (2 ^ D) (low .x) (high .x) || axisOutside (2 ^ D) (low .y) (high .y) || axisOutside (2 ^ D) (low .z) (high .z))
-      (λ K D p. boxWay K D p low high) (λ K D p. boxSolid K D p low high)
+      (λ K D p. boxWalkDamaged K D p low high) (λ K D p. boxSolid K D p low high)
 
   pub kept-answer-unseen : (h : ℕ) → keptOutcome (f ++ r) h ≡ keptOutcome f h
   unfolding keptOutcome

@@ -12,13 +12,13 @@ use lib.ListN.{length, take, drop, getD, length-append, length-drop, List·getD-
 use lib.Seq.{take-append-le, drop-append-le}
 use Rattle.paper.specs.Numbers.{allBelow, allIn}
 use Rattle.paper.specs.Rooms.{depthOk}
-use Rattle.paper.specs.Store.{Cell, badPointer, mostScenes, heights, used, capacityOf, scenesHeld, isHeld, keptCount, zerosPlace, firstScene, sceneWords, scenePlace, cellLength, stride, firstList, listPlace, cellPlace}
+use Rattle.paper.specs.Store.{Cell, badPointer, mostScenes, heights, used, capacityOf, scenesHeld, isHeld, keptCount, zerosPosition, firstScene, sceneWords, scenePosition, cellLength, stride, firstList, listPosition, cellPosition}
 use Rattle.paper.specs.Store.{groups, keptIn, keptOf, storeOf, sceneDepth, sceneRoot, blank, capacityOk, headerOk, sceneOk, placeOk, listUsable, listBlank, storeOk}
 use Rattle.laws.proofs.Tests.{true-T, all-same}
 use Rattle.laws.proofs.Lists.{tabulate-same}
 use Rattle.laws.proofs.Kept.{cell-fills}
 use Rattle.laws.proofs.Words.{list-in}
-use Rattle.laws.proofs.Undamaged.{Headed, headed, depth-list}
+use Rattle.laws.proofs.Undamaged.{FineHeader, fine-header, depth-list}
 
 -- ---- parts of a list
 
@@ -74,19 +74,19 @@ module _ (f r : List ℕ) (whole : used (capacityOf f) ≤ length f) where
       λ k l. ap₂ leb (count-unseen k l) capacity-unseen in
       ap₂ _&&_ (ap₂ _&&_ (ap₂ _&&_ (ap₂ _&&_ room (ap capacityOk capacity-unseen)) (ap (λ (n : ℕ). leb n mostScenes) held-unseen))
       (all-same heights (λ k. leb (keptCount (f ++ r) k) (capacityOf (f ++ r))) (λ k. leb (keptCount f k) (capacityOf f)) count))
-      (blank-part f r zerosPlace (firstScene - zerosPlace) (omega arith))
+      (blank-part f r zerosPosition (firstScene - zerosPosition) (omega arith))
 
   module _ (head : T (headerOk f)) where
     list-unseen : (k : ℕ) → k < heights → keptIn (f ++ r) k ≡ keptIn f k
     unfolding keptIn
     list-unseen k l =
-        let h : Headed f = headed f head in
+        let h : FineHeader f = fine-header f head in
         let C : ℕ = capacityOf f in
         let s : ℕ = stride k in
         let w : ℕ = cellLength k in
         let n : ℕ = keptCount f k in
-        ap₂ (λ (m c : ℕ). groups s w m (drop (listPlace c k) (f ++ r))) (count-unseen k l) capacity-unseen
-        ∙ groups-part s w n (listPlace C k) f r (omega (arith, cell-fills k)) (omega (arith, mul-le-mul-left s (h .few k l), list-in C k l))
+        ap₂ (λ (m c : ℕ). groups s w m (drop (listPosition c k) (f ++ r))) (count-unseen k l) capacity-unseen
+        ∙ groups-part s w n (listPosition C k) f r (omega (arith, cell-fills k)) (omega (arith, mul-le-mul-left s (h .few k l), list-in C k l))
 
     pub kept-unseen : keptOf (f ++ r) ≡ keptOf f
     unfolding keptOf
@@ -100,10 +100,10 @@ module _ (f r : List ℕ) (whole : used (capacityOf f) ≤ length f) where
         λ i. record { capacity = capacity-unseen i; held = held-unseen i; scenes = scenes i; kept = kept-unseen i }
 
     pub depth-unseen : (n : ℕ) → n < mostScenes → sceneDepth (f ++ r) n ≡ sceneDepth f n
-    depth-unseen n l = word-unseen (scenePlace n) (omega arith)
+    depth-unseen n l = word-unseen (scenePosition n) (omega arith)
 
     pub root-unseen : (n : ℕ) → n < mostScenes → sceneRoot (f ++ r) n ≡ sceneRoot f n
-    root-unseen n l = word-unseen (scenePlace n + 1) (omega arith)
+    root-unseen n l = word-unseen (scenePosition n + 1) (omega arith)
 
     pub scene-unseen : (n : ℕ) → n < mostScenes → sceneOk (f ++ r) n ≡ sceneOk f n
     unfolding sceneOk
@@ -123,9 +123,9 @@ module _ (f r : List ℕ) (whole : used (capacityOf f) ≤ length f) where
         let C : ℕ = capacityOf f in
         let w : ℕ = stride k in
         let n : ℕ = keptCount f k in
-        let all : w * n ≤ w * C = mul-le-mul-left w (headed f head .few k l) in
-        ap₂ (λ (c m : ℕ). blank (f ++ r) (cellPlace c k m) (w * (c - m))) capacity-unseen (count-unseen k l)
-        ∙ blank-part f r (cellPlace C k n) (w * (C - n)) (omega (arith, all, mul-sub w C n, list-in C k l))
+        let all : w * n ≤ w * C = mul-le-mul-left w (fine-header f head .few k l) in
+        ap₂ (λ (c m : ℕ). blank (f ++ r) (cellPosition c k m) (w * (c - m))) capacity-unseen (count-unseen k l)
+        ∙ blank-part f r (cellPosition C k n) (w * (C - n)) (omega (arith, all, mul-sub w C n, list-in C k l))
 
     tests-unseen : storeOk (f ++ r) ≡ storeOk f
     unfolding storeOk

@@ -19,7 +19,7 @@ use Rattle.laws.proofs.Tests.{true-T}
 use Rattle.laws.proofs.Orders.{none-passed, lent-first, told-number, told-values}
 use Rattle.laws.proofs.Outlines.{Accepted}
 use Rattle.laws.proofs.OutlineClaim.{file-accepted}
-use Rattle.laws.proofs.Undamaged.{headed, store-header}
+use Rattle.laws.proofs.Undamaged.{fine-header, store-header}
 use Rattle.laws.proofs.AddingFine.{add-length}
 use Rattle.laws.proofs.UnseenWords.{no-header, capacity-unseen, held-unseen, kept-unseen, store-unseen, undamaged-unseen}
 
@@ -131,7 +131,7 @@ module _ (f r file : List ℕ) (whole : used (capacityOf f) ≤ length f) where
       let t : T (storeOk f) = a .sound in
       let D : ℕ = fileDepth file in
       let W : List ℕ = wordsOf (withScene (storeOf f) (nextScene f) D (adding f file)) in
-      let long : length W ≡ used (capacityOf f) = add-length f file (headed f (store-header f t)) (a .room) in (
+      let long : length W ≡ used (capacityOf f) = add-length f file (fine-header f (store-header f t)) (a .room) in (
         (λ i. over (wordsOf (withScene (store-unseen f r whole (store-header f t) i) (held-unseen f r whole i) D (adding-unseen t i))) (f ++ r))
             ∙ ap (λ (l : List ℕ). W ++ l) (drop-append-le (length W) f r (omega arith)) ∙ sym (append-assoc W (drop (length W) f) r),
         length-append W (drop (length W) f) ∙ omega (arith, length-drop (length W) f),

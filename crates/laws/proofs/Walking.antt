@@ -19,7 +19,7 @@ use Rattle.laws.proofs.Eight.{xor8-lt}
 use Rattle.laws.proofs.OutlineWriting.{edge-twice}
 use Rattle.laws.proofs.Outlines.{depth-two}
 use Rattle.laws.proofs.Mirrors.{mirror-inside, mirror-mirror, inChild-inside}
-use Rattle.laws.proofs.CellPlaces.{placeAt, mirror-place, childNo-place, inChild-place, place-whole}
+use Rattle.laws.proofs.CellPoints.{pointAt, mirror-pointAt, childNo-pointAt, inChild-pointAt, point-whole}
 
 -- ---- without tests
 
@@ -190,9 +190,9 @@ reduced-mirror t H M v h l =
     let lc : Inside M c = record { inX = div-lt H M (v .x) h (l .inX); inY = div-lt H M (v .y) h (l .inY); inZ = div-lt H M (v .z) h (l .inZ) } in
     let lu : Inside H (mirror t H u) = mirror-inside t H u (reduced-inside H v h) in
     let at : Point = mirror t M c in
-    ap (λ (w : Point). inChild H (mirror t (M * H) w)) (sym (place-whole H v))
-    ∙ ap (λ (n : ℕ). inChild H (mirror t n (placeAt H c u))) (mul-comm M H)
-    ∙ ap (inChild H) (mirror-place t H M c u lc (reduced-inside H v h))
+    ap (λ (w : Point). inChild H (mirror t (M * H) w)) (sym (point-whole H v))
+    ∙ ap (λ (n : ℕ). inChild H (mirror t n (pointAt H c u))) (mul-comm M H)
+    ∙ ap (inChild H) (mirror-pointAt t H M c u lc (reduced-inside H v h))
     ∙ (λ i. point (digits-mod (at .x) (lu .inX) i) (digits-mod (at .y) (lu .inY) i) (digits-mod (at .z) (lu .inZ) i))
 
 -- the edge of list k in cells of list j
@@ -279,10 +279,10 @@ absent-same true s n h f g (to t p) below e = ap (after s) (below t p e)
 
 -- by the coordinates of the cell of height h that holds both
 placed-same : (R : Reading) (h k d p t : ℕ) (c u w : Point) → suc (suc k) ≡ h + d → Inside (2 ^ d) c → Inside (2 ^ h) u → Inside (2 ^ h) w
-    → walkIn R k p t (placeAt (2 ^ h) c u) .end ≡ absent h → walkIn R k p t (placeAt (2 ^ h) c w) ≡ walkIn R k p t (placeAt (2 ^ h) c u)
+    → walkIn R k p t (pointAt (2 ^ h) c u) .end ≡ absent h → walkIn R k p t (pointAt (2 ^ h) c w) ≡ walkIn R k p t (pointAt (2 ^ h) c u)
 unfolding walkIn
 placed-same R h zero d p t c u w e lc lu lw q = absurd (leaf-absent (R .ok 0 p) _ h _ _ q)
-placed-same R h (suc k) zero p t c u w e lc lu lw q = absurd (omega (arith, absent-low R (suc k) p t (placeAt (2 ^ h) c u) h q))
+placed-same R h (suc k) zero p t c u w e lc lu lw q = absurd (omega (arith, absent-low R (suc k) p t (pointAt (2 ^ h) c u) h q))
 placed-same R h (suc k) (suc d) p t c u w e lc lu lw q =
     let H : ℕ = 2 ^ h in
     let c′ : Point = mirror t (2 ^ suc d) c in
@@ -293,16 +293,16 @@ placed-same R h (suc k) (suc d) p t c u w e lc lu lw q =
     let down : suc (suc k) ≡ h + d = omega arith in
     let below-edge : edge k ≡ H * 2 ^ d = ap (λ (n : ℕ). 2 ^ n) down ∙ pow-add 2 h d in
     let here-edge : edge (suc k) ≡ H * 2 ^ suc d = ap (λ (n : ℕ). 2 ^ n) e ∙ pow-add 2 h (suc d) in
-    let on : Point → ℕ → ℕ → Walk = λ x t′ r. walkIn R k r t′ (placeAt H (inChild (2 ^ d) c′) (mirror t H x)) in
-    let is : (x : Point) → Inside H x → walkIn R (suc k) p t (placeAt H c x) ≡ unless (R .ok (suc k) p) (after here (onward (suc (suc k)) (on x) (R .child k p i))) =
+    let on : Point → ℕ → ℕ → Walk = λ x t′ r. walkIn R k r t′ (pointAt H (inChild (2 ^ d) c′) (mirror t H x)) in
+    let is : (x : Point) → Inside H x → walkIn R (suc k) p t (pointAt H c x) ≡ unless (R .ok (suc k) p) (after here (onward (suc (suc k)) (on x) (R .child k p i))) =
     λ x lx.
     let at : ℕ → Point → Walk = λ n y. unless (R .ok (suc k) p) (after here (onward (suc (suc k)) (λ t′ r. walkIn R k r t′ y) (R .child k p n))) in
     let lm : Inside H (mirror t H x) = mirror-inside t H x lx in
-    let turned : mirror t (edge (suc k)) (placeAt H c x) ≡ placeAt H c′ (mirror t H x) =
-    ap (λ (E : ℕ). mirror t E (placeAt H c x)) here-edge ∙ mirror-place t H (2 ^ suc d) c x lc lx in
+    let turned : mirror t (edge (suc k)) (pointAt H c x) ≡ pointAt H c′ (mirror t H x) =
+    ap (λ (E : ℕ). mirror t E (pointAt H c x)) here-edge ∙ mirror-pointAt t H (2 ^ suc d) c x lc lx in
     ap (λ (y : Point). at (childNo (edge k) y) (inChild (edge k) y)) turned
-    ∙ ap (λ (S : ℕ). at (childNo S (placeAt H c′ (mirror t H x))) (inChild S (placeAt H c′ (mirror t H x)))) below-edge
-    ∙ ap₂ at (childNo-place H (2 ^ d) c′ (mirror t H x) (pow-pos d) lm) (inChild-place H (2 ^ d) c′ (mirror t H x) (pow-pos d) lm) in
+    ∙ ap (λ (S : ℕ). at (childNo S (pointAt H c′ (mirror t H x))) (inChild S (pointAt H c′ (mirror t H x)))) below-edge
+    ∙ ap₂ at (childNo-pointAt H (2 ^ d) c′ (mirror t H x) (pow-pos d) lm) (inChild-pointAt H (2 ^ d) c′ (mirror t H x) (pow-pos d) lm) in
     let same : (t′ r : ℕ) → on u t′ r .end ≡ absent h → on w t′ r ≡ on u t′ r =
     λ t′ r f. placed-same R h k d r t′ (inChild (2 ^ d) c′) (mirror t H u) (mirror t H w) down (inChild-inside (2 ^ d) c′ halves) (mirror-inside t H u lu) (mirror-inside t H w lw) f in
     is w lw ∙ absent-same (R .ok (suc k) p) here (suc (suc k)) h (on u) (on w) (R .child k p i) same (ap (λ (x : Walk). x .end) (sym (is u lu)) ∙ q) ∙ sym (is u lu)
@@ -318,12 +318,12 @@ walk-absent R k p t v w h l e s =
     let whole : edge k ≡ 2 ^ d * H = ap (λ (n : ℕ). 2 ^ n) up′ ∙ pow-add 2 d h in
     let lv : Inside (2 ^ d * H) v = subst (λ (n : ℕ). Inside n v) whole l in
     let lc : Inside (2 ^ d) c = record { inX = div-lt H (2 ^ d) (v .x) (pow-pos h) (lv .inX); inY = div-lt H (2 ^ d) (v .y) (pow-pos h) (lv .inY); inZ = div-lt H (2 ^ d) (v .z) (pow-pos h) (lv .inZ) } in
-    let is : placeAt H c (inChild H w) ≡ w =
-    (λ i. placeAt H (point (s .oneX i) (s .oneY i) (s .oneZ i)) (inChild H w)) ∙ place-whole H w in
+    let is : pointAt H c (inChild H w) ≡ w =
+    (λ i. pointAt H (point (s .oneX i) (s .oneY i) (s .oneZ i)) (inChild H w)) ∙ point-whole H w in
     ap (walkIn R k p t) (sym is)
     ∙ placed-same R h k d p t c (inChild H v) (inChild H w) up lc (reduced-inside H v (pow-pos h)) (reduced-inside H w (pow-pos h))
-    (ap (λ (x : Point). walkIn R k p t x .end) (place-whole H v) ∙ e)
-    ∙ ap (walkIn R k p t) (place-whole H v)
+    (ap (λ (x : Point). walkIn R k p t x .end) (point-whole H v) ∙ e)
+    ∙ ap (walkIn R k p t) (point-whole H v)
 
 -- ---- from a root
 

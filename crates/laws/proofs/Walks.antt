@@ -13,7 +13,7 @@ use lib.ListN.{length, getD, List·getD-eq-default}
 use Rattle.paper.specs.Rooms.{Point}
 use Rattle.paper.specs.Store.{Cell, cellsAt, cellAt, tagOf, cellNo, badPointer, anyBad}
 use Rattle.paper.specs.Walk.{isDamaged, none, to, rootWalk}
-use Rattle.paper.specs.Questions.{childFor, graphReading, keptReading, voxelWalk, taken, below, inBelow, wayDamaged, takenBad, fromRoot, cellWay, boxWay}
+use Rattle.paper.specs.Questions.{childFor, graphReading, keptReading, voxelWalk, taken, below, inBelow, walkDamaged, takenBad, fromRoot, cellWalkDamaged, boxWalkDamaged}
 use Rattle.laws.proofs.Invariant.{Names, OkPointer, names-lt, ok-not-bad}
 use Rattle.laws.proofs.Adding.{Invs}
 use Rattle.laws.proofs.Filled.{none-bad}
@@ -71,14 +71,14 @@ module _ (K : List (List Cell)) (I : Invs K) where
       oks zero p q s = refl
       oks (suc k) p q s = ap not (none-bad (length (cellsAt K k)) (cellAt K (suc k) p) (λ i h. kept-sure (suc k) p (s .1) i))
 
-  way-clear : (stop k : ℕ) (c : Cell) (v : Point) → Sure K k c → wayDamaged K stop k c v ≡ false
-  unfolding wayDamaged
-  way-clear stop zero c v s = refl
-  way-clear stop (suc k) c v s =
+  walk-clear : (stop k : ℕ) (c : Cell) (v : Point) → Sure K k c → walkDamaged K stop k c v ≡ false
+  unfolding walkDamaged
+  walk-clear stop zero c v s = refl
+  walk-clear stop (suc k) c v s =
       let p : ℕ = taken k c v in
-      quiet (leb (suc k) stop) (anyBad (length (cellsAt K k)) c) (eqb p 0) (wayDamaged K stop k (below K k p) (inBelow k p v))
+      quiet (leb (suc k) stop) (anyBad (length (cellsAt K k)) c) (eqb p 0) (walkDamaged K stop k (below K k p) (inBelow k p v))
       (none-bad (length (cellsAt K k)) c (λ i h. s i))
-      (λ e. way-clear stop k (below K k p) (inBelow k p v) (kept-sure k (cellNo p) (names-lt (named (s _) e))))
+      (λ e. walk-clear stop k (below K k p) (inBelow k p v) (kept-sure k (cellNo p) (names-lt (named (s _) e))))
 
   taken-clear : (k : ℕ) (c : Cell) (v : Point) → Sure K k c → takenBad K k c v ≡ false
   unfolding takenBad
@@ -106,8 +106,8 @@ module _ (K : List (List Cell)) (I : Invs K) where
             ap isDamaged (walks-same (keptReading K) (graphReading K) One kept-agrees (D - 2) (cellNo p) (cellNo p) (tagOf p) v (refl, names-lt (named ok e)) .ends)
             ∙ graph-sound K (D - 2) (cellNo p) (tagOf p) v
 
-    pub cell-clear : (h : ℕ) (c : Point) → cellWay K D p h c ≡ false
-    cell-clear h c = root-clear (wayDamaged K (h - 2)) (way-clear (h - 2) (D - 2)) _
+    pub cell-clear : (h : ℕ) (c : Point) → cellWalkDamaged K D p h c ≡ false
+    cell-clear h c = root-clear (walkDamaged K (h - 2)) (walk-clear (h - 2) (D - 2)) _
 
     taken-root-clear : (v : Point) → fromRoot (takenBad K) K D p v ≡ false
     taken-root-clear v = root-clear (takenBad K) (taken-clear (D - 2)) v
@@ -115,7 +115,7 @@ module _ (K : List (List Cell)) (I : Invs K) where
 -- ---- box counts
 
 module _ (K : List (List Cell)) (I : Invs K) (D p : ℕ) (ok : OkPointer (length (cellsAt K (D - 2))) p) where
-  pub box-clear : (low high : Point) → boxWay K D p low high ≡ false
-  unfolding boxWay
+  pub box-clear : (low high : Point) → boxWalkDamaged K D p low high ≡ false
+  unfolding boxWalkDamaged
   box-clear low high =
       ap (ltb 0) (count-clear (2 ^ D) (fromRoot (takenBad K) K D p) low high (λ v l. taken-root-clear K I D p ok v))

@@ -8,7 +8,7 @@ use native.Mathlib.Nat.{le-of-suc-le-suc, not-suc-le-zero, add-zero, zero-add, m
 use native.Mathlib.Omega.{arith}
 use lib.ListN.{length, drop, getD, set, length-map, length-set}
 use lib.Seq.{sets, ext-getD}
-use Rattle.paper.specs.Store.{Cell, Store, mostScenes, heights, used, capacityOf, scenesHeld, keptCount, zerosPlace, firstScene, sceneWords, scenePlace, stride, firstList, listPlace, cellPlace, groups, keptIn, keptOf, storeOf, padded, blank}
+use Rattle.paper.specs.Store.{Cell, Store, mostScenes, heights, used, capacityOf, scenesHeld, keptCount, zerosPosition, firstScene, sceneWords, scenePosition, stride, firstList, listPosition, cellPosition, groups, keptIn, keptOf, storeOf, padded, blank}
 use Rattle.paper.specs.Store.{Region, region, regionWords, listRegions, headerRow, regions, wordsOf}
 use Rattle.laws.proofs.Put.{put, stored-before}
 use Rattle.laws.proofs.Padded.{Sized, snil, scons, padded-length, sized-snoc, padded-snoc, sized-set, padded-set, row-set, row-word, groups-padded, padded-blank}
@@ -24,11 +24,11 @@ pub data Lists (C : ℕ) : ℕ → List (List Cell) → Type 0 where
   lcons : {j : ℕ} {cs : List Cell} {Ks : List (List Cell)} → Sized (stride j) cs → length cs ≤ C → Lists C (suc j) Ks → Lists C j (cs ∷ Ks)
 
 -- where the next list stands, and that the words of each are used
-pub list-next : (C j : ℕ) → listPlace C (suc j) ≡ listPlace C j + stride j * C
+pub list-next : (C j : ℕ) → listPosition C (suc j) ≡ listPosition C j + stride j * C
 list-next C zero = omega arith
 list-next C (suc j) = omega arith
 
-pub list-in : (C j : ℕ) → j < heights → listPlace C j + stride j * C ≤ used C
+pub list-in : (C j : ℕ) → j < heights → listPosition C j + stride j * C ≤ used C
 list-in C j h = omega (arith, list-next C j, mul-le-mul-left (stride 1 * C) (le-of-suc-le-suc h))
 
 pub words-fit : (j n C : ℕ) → n ≤ C → n * stride j ≤ stride j * C
@@ -44,14 +44,14 @@ unfolding listRegions
 lists-fit lnil = fnil
 lists-fit {C} {j} (lcons {cs = cs} r h t) = fcons (list-length C j cs r h) (lists-fit t)
 
-pub lists-place : (C j : ℕ) (Ks : List (List Cell)) (m : ℕ) → m ≤ length Ks → listPlace C j + regionPlace (listRegions C j Ks) m ≡ listPlace C (j + m)
+pub lists-place : (C j : ℕ) (Ks : List (List Cell)) (m : ℕ) → m ≤ length Ks → listPosition C j + regionPlace (listRegions C j Ks) m ≡ listPosition C (j + m)
 unfolding listRegions regionPlace
-lists-place C j Ks zero h = add-zero (listPlace C j) ∙ ap (listPlace C) (sym (add-zero j))
+lists-place C j Ks zero h = add-zero (listPosition C j) ∙ ap (listPosition C) (sym (add-zero j))
 lists-place C j [] (suc m) h = absurd (not-suc-le-zero h)
 lists-place C j (cs ∷ Ks) (suc m) h =
     let ji : suc j + m ≡ j + suc m = omega arith in
-    let next : listPlace C j + (stride j * C + regionPlace (listRegions C (suc j) Ks) m) ≡ listPlace C (suc j) + regionPlace (listRegions C (suc j) Ks) m = omega (arith, list-next C j) in
-    next ∙ lists-place C (suc j) Ks m (le-of-suc-le-suc h) ∙ ap (listPlace C) ji
+    let next : listPosition C j + (stride j * C + regionPlace (listRegions C (suc j) Ks) m) ≡ listPosition C (suc j) + regionPlace (listRegions C (suc j) Ks) m = omega (arith, list-next C j) in
+    next ∙ lists-place C (suc j) Ks m (le-of-suc-le-suc h) ∙ ap (listPosition C) ji
 
 pub lists-many : (C j : ℕ) (Ks : List (List Cell)) → length (listRegions C j Ks) ≡ length Ks
 unfolding listRegions
@@ -139,27 +139,27 @@ module _ (C N : ℕ) (S : List Cell) (Ks : List (List Cell)) (f : Fine C N S Ks)
   abbrev L : List Region
   L = listRegions C 0 Ks
 
-  row-length : length row ≡ zerosPlace
+  row-length : length row ≡ zerosPosition
   row-length = simp length-map (omega (arith, f .lists))
 
-  header-length : (x : List ℕ) → length x ≡ zerosPlace → length (padded firstScene (x ∷ [])) ≡ firstScene
+  header-length : (x : List ℕ) → length x ≡ zerosPosition → length (padded firstScene (x ∷ [])) ≡ firstScene
   header-length x e = padded-length firstScene (scons e snil) (omega arith)
 
   scenes-length : length (padded (sceneWords * mostScenes) S) ≡ sceneWords * mostScenes
   scenes-length = padded-length (sceneWords * mostScenes) (f .of-scenes) (omega (arith, f .all-scenes))
 
   -- every region has its room, under any header
-  fit-under : (x : List ℕ) → length x ≡ zerosPlace → Fit (region firstScene (x ∷ []) ∷ P ∷ L)
+  fit-under : (x : List ℕ) → length x ≡ zerosPosition → Fit (region firstScene (x ∷ []) ∷ P ∷ L)
   fit-under x e = fcons (header-length x e) (fcons scenes-length (lists-fit (f .of-cells)))
 
   pub store-fit : Fit (regions (storeWith C N S Ks))
   store-fit = fit-under row row-length
 
   -- list k is region k + 2
-  pub list-start : (k : ℕ) → k ≤ heights → regionPlace (regions (storeWith C N S Ks)) (suc (suc k)) ≡ listPlace C k
+  pub list-start : (k : ℕ) → k ≤ heights → regionPlace (regions (storeWith C N S Ks)) (suc (suc k)) ≡ listPosition C k
   unfolding regionPlace
   list-start k h =
-      let p : firstList + regionPlace L k ≡ listPlace C k = lists-place C 0 Ks k (omega (arith, f .lists)) ∙ ap (listPlace C) (zero-add k) in
+      let p : firstList + regionPlace L k ≡ listPosition C k = lists-place C 0 Ks k (omega (arith, f .lists)) ∙ ap (listPosition C) (zero-add k) in
       omega (arith, p)
 
   -- 'uses the first'
@@ -169,7 +169,7 @@ module _ (C N : ℕ) (S : List Cell) (Ks : List (List Cell)) (f : Fine C N S Ks)
       regions-length store-fit ∙ ap (λ (n : ℕ). regionPlace (regions (storeWith C N S Ks)) (suc (suc n))) (lists-many C 0 Ks ∙ f .lists) ∙ list-start heights (omega arith)
 
   -- a word of the header set
-  pub header-word : (i v : ℕ) → i < zerosPlace → inRow (region firstScene (set row i v ∷ []) ∷ P ∷ L) ≡ set (wordsOf (storeWith C N S Ks)) i v
+  pub header-word : (i v : ℕ) → i < zerosPosition → inRow (region firstScene (set row i v ∷ []) ∷ P ∷ L) ≡ set (wordsOf (storeWith C N S Ks)) i v
   unfolding wordsOf regionPlace
   header-word i v h =
       region-set store-fit 0 (region firstScene (set row i v ∷ [])) i (v ∷ []) (omega arith) (row-set firstScene row i v (omega (arith, row-length))) (omega arith)
@@ -177,7 +177,7 @@ module _ (C N : ℕ) (S : List Cell) (Ks : List (List Cell)) (f : Fine C N S Ks)
 
   -- list k set to X, by words c from its word j on, and its count
   pub list-words : (k : ℕ) (X : List Cell) (j : ℕ) (c : List ℕ) → k < heights → padded (stride k * C) X ≡ sets (padded (stride k * C) (getD Ks k [])) j c → j + length c ≤ stride k * C
-      → wordsOf (storeWith C N S (set Ks k X)) ≡ sets (set (wordsOf (storeWith C N S Ks)) (2 + k) (length X)) (listPlace C k + j) c
+      → wordsOf (storeWith C N S (set Ks k X)) ≡ sets (set (wordsOf (storeWith C N S Ks)) (2 + k) (length X)) (listPosition C k + j) c
   unfolding wordsOf regionPlace
   list-words k X j c h e fit =
       let row′ : List ℕ = set row (2 + k) (length X) in
@@ -200,12 +200,12 @@ module _ (C N : ℕ) (S : List Cell) (Ks : List (List Cell)) (f : Fine C N S Ks)
   -- a cell more in list k: its count, and its words behind those of the others
   pub keep-words : (k : ℕ) (c : Cell) → k < heights → length c ≡ stride k → length (getD Ks k []) < C
       → wordsOf (storeWith C N S (set Ks k (getD Ks k [] ++ (c ∷ []))))
-      ≡ sets (set (wordsOf (storeWith C N S Ks)) (2 + k) (suc (length (getD Ks k [])))) (cellPlace C k (length (getD Ks k []))) c
+      ≡ sets (set (wordsOf (storeWith C N S Ks)) (2 + k) (suc (length (getD Ks k [])))) (cellPosition C k (length (getD Ks k []))) c
   keep-words k c h e l =
       let cs : List Cell = getD Ks k [] in
       let n : ℕ = length cs in
       let fit : suc n * stride k ≤ stride k * C = words-fit k (suc n) C l in
-      let at : listPlace C k + n * stride k ≡ cellPlace C k n = ap (λ (m : ℕ). listPlace C k + m) (mul-comm n (stride k)) in
+      let at : listPosition C k + n * stride k ≡ cellPosition C k n = ap (λ (m : ℕ). listPosition C k + m) (mul-comm n (stride k)) in
       list-words k (cs ++ (c ∷ [])) (n * stride k) c h (padded-snoc (stride k) (stride k * C) cs c (cells-sized k h) e fit) (omega arith)
       ∙ ap₂ (λ (m i : ℕ). sets (set (wordsOf (storeWith C N S Ks)) (2 + k) m) i c) (length-snoc cs c) at
 
@@ -220,11 +220,11 @@ module _ (C N : ℕ) (S : List Cell) (Ks : List (List Cell)) (f : Fine C N S Ks)
 
   -- a scene more, at place i: the count of scenes, and its two words
   pub scene-words : (i : ℕ) (c : Cell) → length c ≡ sceneWords → i < mostScenes
-      → wordsOf (storeWith C (suc N) (set S i c) Ks) ≡ sets (set (wordsOf (storeWith C N S Ks)) 1 (suc N)) (scenePlace i) c
+      → wordsOf (storeWith C (suc N) (set S i c) Ks) ≡ sets (set (wordsOf (storeWith C N S Ks)) 1 (suc N)) (scenePosition i) c
   unfolding wordsOf regionPlace
   scene-words i c e l =
       let row′ : List ℕ = set row 1 (suc N) in
-      let at : firstScene + 0 + i * sceneWords ≡ scenePlace i = omega arith in
+      let at : firstScene + 0 + i * sceneWords ≡ scenePosition i = omega arith in
       region-set (fit-under row′ (length-set row 1 (suc N) ∙ row-length)) 1 (region (sceneWords * mostScenes) (set S i c)) (i * sceneWords) c (omega arith)
       (padded-set sceneWords (sceneWords * mostScenes) S i c (f .of-scenes) e (omega (arith, f .all-scenes))) (omega arith)
       ∙ ap₂ (λ (x : List ℕ) (j : ℕ). sets x j c) (header-word 1 (suc N) (omega arith)) at
@@ -241,18 +241,18 @@ module _ (C N : ℕ) (S : List Cell) (Ks : List (List Cell)) (f : Fine C N S Ks)
   -- the same with other words x behind
   pub keep-words-before : (k : ℕ) (c : Cell) (x : List ℕ) → k < heights → length c ≡ stride k → length (getD Ks k []) < C
       → wordsOf (storeWith C N S (set Ks k (getD Ks k [] ++ (c ∷ [])))) ++ x
-      ≡ put (cellPlace C k (length (getD Ks k []))) c (set (wordsOf (storeWith C N S Ks) ++ x) (2 + k) (suc (length (getD Ks k []))))
+      ≡ put (cellPosition C k (length (getD Ks k []))) c (set (wordsOf (storeWith C N S Ks) ++ x) (2 + k) (suc (length (getD Ks k []))))
   keep-words-before k c x h e l =
       let n : ℕ = length (getD Ks k []) in
       ap (λ (r : List ℕ). r ++ x) (keep-words k c h e l)
-      ∙ stored-before (wordsOf (storeWith C N S Ks)) x c (cellPlace C k n) (2 + k) (suc n)
+      ∙ stored-before (wordsOf (storeWith C N S Ks)) x c (cellPosition C k n) (2 + k) (suc n)
       (omega (arith, wordsOf-length)) (omega (arith, wordsOf-length, list-in C k h, mul-le-mul-left (stride k) l))
 
   pub scene-words-before : (i : ℕ) (c : Cell) (x : List ℕ) → length c ≡ sceneWords → i < mostScenes
-      → wordsOf (storeWith C (suc N) (set S i c) Ks) ++ x ≡ put (scenePlace i) c (set (wordsOf (storeWith C N S Ks) ++ x) 1 (suc N))
+      → wordsOf (storeWith C (suc N) (set S i c) Ks) ++ x ≡ put (scenePosition i) c (set (wordsOf (storeWith C N S Ks) ++ x) 1 (suc N))
   scene-words-before i c x e l =
       ap (λ (r : List ℕ). r ++ x) (scene-words i c e l)
-      ∙ stored-before (wordsOf (storeWith C N S Ks)) x c (scenePlace i) 1 (suc N) (omega (arith, wordsOf-length)) (omega (arith, wordsOf-length))
+      ∙ stored-before (wordsOf (storeWith C N S Ks)) x c (scenePosition i) 1 (suc N) (omega (arith, wordsOf-length)) (omega (arith, wordsOf-length))
 
   -- ---- read again, l being the words that follow
 
@@ -265,14 +265,14 @@ module _ (C N : ℕ) (S : List Cell) (Ks : List (List Cell)) (f : Fine C N S Ks)
     unfolding wordsOf regionPlace
     header-from = region-from l store-fit 0 (omega arith)
 
-    pub zeros-from : blank (wordsOf (storeWith C N S Ks) ++ l) zerosPlace (firstScene - zerosPlace) ≡ true
+    pub zeros-from : blank (wordsOf (storeWith C N S Ks) ++ l) zerosPosition (firstScene - zerosPosition) ≡ true
     zeros-from = padded-blank ws 0 firstScene (inRow (P ∷ L) ++ l) (scons row-length snil) header-from
 
     scenes-from : drop firstScene ws ≡ padded (sceneWords * mostScenes) S ++ (inRow L ++ l)
     unfolding wordsOf regionPlace
     scenes-from = region-from l store-fit 1 (omega arith)
 
-    pub cells-from : (k : ℕ) → k < heights → drop (listPlace C k) (wordsOf (storeWith C N S Ks) ++ l) ≡ padded (stride k * C) (getD Ks k []) ++ (inRow (drop (suc k) (listRegions C 0 Ks)) ++ l)
+    pub cells-from : (k : ℕ) → k < heights → drop (listPosition C k) (wordsOf (storeWith C N S Ks) ++ l) ≡ padded (stride k * C) (getD Ks k []) ++ (inRow (drop (suc k) (listRegions C 0 Ks)) ++ l)
     unfolding wordsOf
     cells-from k h =
         let hk : k < length Ks = omega (arith, f .lists) in
@@ -280,7 +280,7 @@ module _ (C N : ℕ) (S : List Cell) (Ks : List (List Cell)) (f : Fine C N S Ks)
         ∙ ap (λ (r : Region). regionWords r ++ (inRow (drop (suc k) L) ++ l)) (list-region C 0 Ks k hk ∙ ap (λ (i : ℕ). region (stride i * C) (getD Ks k [])) (zero-add k))
 
     -- what the words give back
-    row-read : (i : ℕ) → i < zerosPlace → getD ws i 0 ≡ getD row i 0
+    row-read : (i : ℕ) → i < zerosPosition → getD ws i 0 ≡ getD row i 0
     row-read i h = ap (λ (x : List ℕ). getD x i 0) header-from ∙ row-word firstScene row (inRow (P ∷ L) ++ l) i (omega (arith, row-length))
 
     pub capacity-read : capacityOf (wordsOf (storeWith C N S Ks) ++ l) ≡ C
@@ -295,7 +295,7 @@ module _ (C N : ℕ) (S : List Cell) (Ks : List (List Cell)) (f : Fine C N S Ks)
 
     list-read : (k : ℕ) → k < heights → keptIn ws k ≡ getD Ks k []
     list-read k h =
-        kept-rows ws k ∙ ap₂ (λ (n c : ℕ). groups (stride k) (stride k) n (drop (listPlace c k) ws)) (count-read k h) capacity-read
+        kept-rows ws k ∙ ap₂ (λ (n c : ℕ). groups (stride k) (stride k) n (drop (listPosition c k) ws)) (count-read k h) capacity-read
         ∙ ap (groups (stride k) (stride k) (length (getD Ks k []))) (cells-from k h)
         ∙ groups-padded (stride k * C) (inRow (drop (suc k) L) ++ l) (cells-sized k h)
 

@@ -1,3 +1,3 @@
 -- Definitions that several crates' contracts cite.
 pub mod Boxes
-pub mod Masks
+pub mod Symmetries

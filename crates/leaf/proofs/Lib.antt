@@ -1,2 +1,2 @@
--- Laws that belong to no one function: bits that change places, and a leaf turned by them.
-pub mod Turning
+-- Laws that belong to no one function: bits that change places, and a leaf whose bits are so moved.
+pub mod Moving

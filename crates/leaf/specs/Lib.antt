@@ -1,2 +1,2 @@
--- A leaf turned by bits that change places.
-pub mod Turns
+-- A leaf whose bits change places.
+pub mod Moves

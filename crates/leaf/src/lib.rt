@@ -5,8 +5,8 @@ ghost use Prim.Native.Nat.{_*_, _<_};
 ghost use lib.Dec.{T, eqb};
 ghost use Rattle.paper.specs.Numbers.{bitFor};
 ghost use Rattle.paper.specs.Leaf.{mirrorLeaf};
-ghost use Rattle.laws.specs.Masks.{maskFor};
-ghost use Rattle.leaf.specs.Turns.{turned, swaps, axis};
+ghost use Rattle.laws.specs.Symmetries.{symmetryFor};
+ghost use Rattle.leaf.specs.Moves.{moved, swaps, axis};
 use limits::MIRRORS;
 
 // The bits whose number lacks a step of 1, 2, 4, 8, 16 or 32: those that change places with the bit so far above.
@@ -32,7 +32,7 @@ const Z: u32 = 16;
 // The bits that lie a step apart, in each other's places.
 fn swap(leaf: u64, below: u64, step: u32) -> u64
     requires { ⌜ T (swaps below step) ⌝ }
-    ensures { λ r. ⌜ r ≡ turned step leaf ⌝ }
+    ensures { λ r. ⌜ r ≡ moved step leaf ⌝ }
 {
     ((leaf >> step) & below) | ((leaf & below) << step)
 }
@@ -40,7 +40,7 @@ fn swap(leaf: u64, below: u64, step: u32) -> u64
 // The leaf mirrored along an axis, where this is marked: a coordinate below 4 is mirrored by changing both its bits.
 fn mirror_axis(leaf: u64, marked: u32, below: u64, step: u32, twice: u64) -> u64
     requires { ⌜ (marked < 2) × T (axis below step twice) ⌝ }
-    ensures { λ r. ⌜ r ≡ turned (marked * (3 * step)) leaf ⌝ }
+    ensures { λ r. ⌜ r ≡ moved (marked * (3 * step)) leaf ⌝ }
 {
     if marked == 0 {
         return leaf;
@@ -68,15 +68,15 @@ fn leaf_bit(leaf: u64, mirror: u32) -> u8
     }
 }
 
-// The mask of a leaf: bit t is set where it is its own image under mirror t.
-pub fn leaf_mask(leaf: u64) -> u8
-    ensures { λ r. ⌜ r ≡ maskFor (λ t. eqb leaf (mirrorLeaf t leaf)) ⌝ }
+// The symmetry of a leaf: bit t is set where it is its own image under mirror t.
+pub fn leaf_symmetry(leaf: u64) -> u8
+    ensures { λ r. ⌜ r ≡ symmetryFor (λ t. eqb leaf (mirrorLeaf t leaf)) ⌝ }
 {
     let mut t = MIRRORS;
-    let mut mask = 0u8;
+    let mut symmetry = 0u8;
     while t != 0 {
         t -= 1;
-        mask = 2 * mask + leaf_bit(leaf, t);
+        symmetry = 2 * symmetry + leaf_bit(leaf, t);
     }
-    mask
+    symmetry
 }

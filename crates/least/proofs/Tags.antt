@@ -1,5 +1,5 @@
--- The lowest tag that differs from a given one by a mirror of a mask: the ways of its search, and for a mask that is a group that two tags have one
--- lowest exactly where they differ by a mirror of the mask. By the search's own laws. Assumes nothing.
+-- The lowest tag that differs from a given one by a mirror of a symmetry: the ways of its search, and for a symmetry that is a group that two tags have one
+-- lowest exactly where they differ by a mirror of the symmetry. By the search's own laws. Assumes nothing.
 use mathlib.Core.Path.{_≡_, refl, sym, _∙_, ap, subst}
 use mathlib.Core.Bool.{Bool, true, false, cond}
 use mathlib.Core.Logic.{_⊎_, inl, inr}
@@ -11,7 +11,7 @@ use lib.Bits.{bitXor, xor-self, xor-comm}
 use borrow.Author.Tests.{leb-true, leb-false}
 use lib.Dec.{T, eqb, leb, eqb→eq}
 use Rattle.laws.proofs.Tests.{all-at, T-true, true-T}
-use Rattle.laws.specs.Masks.{marked}
+use Rattle.laws.specs.Symmetries.{marked}
 use Rattle.laws.proofs.Eight.{eight3, xor8-lt, xor8-meet}
 use Rattle.least.specs.Keys.{Group, firstFrom, lowTag}
 
@@ -79,16 +79,16 @@ module _ (p : ℕ → Bool) (d : ℕ) where
 -- ---- the lowest tag
 
 -- below a tag that a lower one shares its meaning with, and the tag itself where none does
-pub low-lower : (mask tag v : ℕ) → v < tag → marked mask (bitXor v tag) ≡ true → lowTag mask tag < tag
-low-lower mask tag v l e = omega (arith, l, first-lowest (λ u. marked mask (bitXor u tag)) tag tag 0 v (omega arith) (omega (arith, l)) e)
+pub low-lower : (symmetry tag v : ℕ) → v < tag → marked symmetry (bitXor v tag) ≡ true → lowTag symmetry tag < tag
+low-lower symmetry tag v l e = omega (arith, l, first-lowest (λ u. marked symmetry (bitXor u tag)) tag tag 0 v (omega arith) (omega (arith, l)) e)
 
-pub low-own : (mask tag : ℕ) → ((v : ℕ) → v < tag → marked mask (bitXor v tag) ≡ false) → lowTag mask tag ≡ tag
-low-own mask tag h = first-else (λ u. marked mask (bitXor u tag)) tag tag 0 (λ x a b. h x (omega (arith, b)))
+pub low-own : (symmetry tag : ℕ) → ((v : ℕ) → v < tag → marked symmetry (bitXor v tag) ≡ false) → lowTag symmetry tag ≡ tag
+low-own symmetry tag h = first-else (λ u. marked symmetry (bitXor u tag)) tag tag 0 (λ x a b. h x (omega (arith, b)))
 
-pub low-le : (mask tag : ℕ) → lowTag mask tag ≤ tag
-low-le mask tag = first-le (λ u. marked mask (bitXor u tag)) tag tag 0 (omega arith)
+pub low-le : (symmetry tag : ℕ) → lowTag symmetry tag ≤ tag
+low-le symmetry tag = first-le (λ u. marked symmetry (bitXor u tag)) tag tag 0 (omega arith)
 
--- a mask with no mirror but that which changes nothing leaves every tag
+-- a symmetry with no mirror but that which changes nothing leaves every tag
 pub low-one : (tag : ℕ) → tag < 8 → lowTag 1 tag ≡ tag
 unfolding firstFrom
 low-one tag h = eqb→eq (lowTag 1 tag) tag (all-at 8 (λ v. eqb (lowTag 1 v) v) tt tag h)
@@ -98,31 +98,31 @@ low-one tag h = eqb→eq (lowTag 1 tag) tag (all-at 8 (λ v. eqb (lowTag 1 v) v)
 xor8-across : (x a b : ℕ) → x < 8 → a < 8 → b < 8 → bitXor (bitXor x a) (bitXor x b) ≡ bitXor a b
 xor8-across = eight3 (λ x a b. bitXor (bitXor x a) (bitXor x b)) (λ x a b. bitXor a b) tt
 
-module _ (mask : ℕ) (group : Group mask) where
-  low-passes : (tag : ℕ) → T (marked mask (bitXor (lowTag mask tag) tag))
+module _ (symmetry : ℕ) (group : Group symmetry) where
+  low-passes : (tag : ℕ) → T (marked symmetry (bitXor (lowTag symmetry tag) tag))
   low-passes tag =
-      true-T (first-passes (λ u. marked mask (bitXor u tag)) tag (ap (marked mask) (xor-self tag) ∙ T-true (group .none)) tag 0)
+      true-T (first-passes (λ u. marked symmetry (bitXor u tag)) tag (ap (marked symmetry) (xor-self tag) ∙ T-true (group .none)) tag 0)
 
-  low-under : (a b : ℕ) → a < 8 → b < 8 → T (marked mask (bitXor a b)) → lowTag mask b ≤ lowTag mask a
+  low-under : (a b : ℕ) → a < 8 → b < 8 → T (marked symmetry (bitXor a b)) → lowTag symmetry b ≤ lowTag symmetry a
   low-under a b ha hb t =
-      let x : ℕ = lowTag mask a in
-      let hx : x < 8 = omega (arith, low-le mask a) in
-      let m : T (marked mask (bitXor x b)) =
-      subst (λ (n : ℕ). T (marked mask n)) (xor8-meet x a b hx ha hb) (group .closed (bitXor x a) (bitXor a b) (xor8-lt x a hx ha) (xor8-lt a b ha hb) (low-passes a) t) in
+      let x : ℕ = lowTag symmetry a in
+      let hx : x < 8 = omega (arith, low-le symmetry a) in
+      let m : T (marked symmetry (bitXor x b)) =
+      subst (λ (n : ℕ). T (marked symmetry n)) (xor8-meet x a b hx ha hb) (group .closed (bitXor x a) (bitXor a b) (xor8-lt x a hx ha) (xor8-lt a b ha hb) (low-passes a) t) in
       go x m (le-or-lt b x)
     where
-      go : (x : ℕ) → T (marked mask (bitXor x b)) → (b ≤ x) ⊎ (x < b) → lowTag mask b ≤ x
-      go x m (inl l) = omega (arith, low-le mask b)
-      go x m (inr l) = first-lowest (λ u. marked mask (bitXor u b)) b b 0 x (omega arith) (omega arith) (T-true m)
+      go : (x : ℕ) → T (marked symmetry (bitXor x b)) → (b ≤ x) ⊎ (x < b) → lowTag symmetry b ≤ x
+      go x m (inl l) = omega (arith, low-le symmetry b)
+      go x m (inr l) = first-lowest (λ u. marked symmetry (bitXor u b)) b b 0 x (omega arith) (omega arith) (T-true m)
 
-  pub low-same : (a b : ℕ) → a < 8 → b < 8 → T (marked mask (bitXor a b)) → lowTag mask a ≡ lowTag mask b
+  pub low-same : (a b : ℕ) → a < 8 → b < 8 → T (marked symmetry (bitXor a b)) → lowTag symmetry a ≡ lowTag symmetry b
   low-same a b ha hb t =
-      let r : T (marked mask (bitXor b a)) = subst (λ (n : ℕ). T (marked mask n)) (xor-comm a b) t in
+      let r : T (marked symmetry (bitXor b a)) = subst (λ (n : ℕ). T (marked symmetry n)) (xor-comm a b) t in
       le-antisymm (low-under b a hb ha r) (low-under a b ha hb t)
 
-  pub same-low : (a b : ℕ) → a < 8 → b < 8 → lowTag mask a ≡ lowTag mask b → T (marked mask (bitXor a b))
+  pub same-low : (a b : ℕ) → a < 8 → b < 8 → lowTag symmetry a ≡ lowTag symmetry b → T (marked symmetry (bitXor a b))
   same-low a b ha hb e =
-      let x : ℕ = lowTag mask a in
-      let hx : x < 8 = omega (arith, low-le mask a) in
-      let m : T (marked mask (bitXor x b)) = subst (λ (n : ℕ). T (marked mask (bitXor n b))) (sym e) (low-passes b) in
-      subst (λ (n : ℕ). T (marked mask n)) (xor8-across x a b hx ha hb) (group .closed (bitXor x a) (bitXor x b) (xor8-lt x a hx ha) (xor8-lt x b hx hb) (low-passes a) m)
+      let x : ℕ = lowTag symmetry a in
+      let hx : x < 8 = omega (arith, low-le symmetry a) in
+      let m : T (marked symmetry (bitXor x b)) = subst (λ (n : ℕ). T (marked symmetry (bitXor n b))) (sym e) (low-passes b) in
+      subst (λ (n : ℕ). T (marked symmetry n)) (xor8-across x a b hx ha hb) (group .closed (bitXor x a) (bitXor x b) (xor8-lt x a hx ha) (xor8-lt x b hx hb) (low-passes a) m)

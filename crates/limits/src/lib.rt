@@ -15,22 +15,22 @@ pub const CHILDREN: u32 = 8;
 pub const MIRRORS: u32 = 8;
 
 // An outline and a packed file: the version byte, and the bytes before an outline's root record or a packed file's sizes.
-pub const OUTLINE_FRONT: u8 = 0x11;
+pub const OUTLINE_VERSION: u8 = 0x11;
 
 pub const OUTLINE_HEAD: usize = 6;
 
-pub const PACKED_FRONT: u8 = 0x21;
+pub const PACKED_VERSION: u8 = 0x21;
 
 pub const PACKED_HEAD: usize = 7;
 
 // In both: where the four bytes of the length stand, and the depth; in a packed file the root's mirror, or the mark of an empty scene.
-pub const LENGTH_PLACE: usize = 1;
+pub const LENGTH_POSITION: usize = 1;
 
 pub const LENGTH_BYTES: usize = 4;
 
-pub const DEPTH_PLACE: usize = 5;
+pub const DEPTH_POSITION: usize = 5;
 
-pub const MIRROR_PLACE: usize = 6;
+pub const MIRROR_POSITION: usize = 6;
 
 pub const EMPTY_MARK: u8 = 8;
 

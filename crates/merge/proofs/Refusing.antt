@@ -8,7 +8,7 @@ use native.Mathlib.Nat.{suc-ne-zero}
 use native.Mathlib.Omega.{arith}
 use borrow.Author.Tests.{le-leb}
 use Rattle.paper.specs.Rooms.{depthOk}
-use Rattle.paper.specs.Outline.{outlineFront, outlineHead, frontOk, lengthOk, fileDepth, outlineRules}
+use Rattle.paper.specs.Outline.{outlineVersion, outlineHead, versionOk, lengthOk, fileDepth, outlineRules}
 use Rattle.paper.specs.Store.{mostScenes, scenesHeld, storeOk}
 use Rattle.paper.specs.declared.Added.the-variants.{Refused}
 use Rattle.paper.specs.declared.Refusal.{Refusal}
@@ -35,14 +35,14 @@ four false false false false ne = absurd (ne refl)
 
 pub file-number : (file : List ℕ) (n : ℕ) → n ≡ firstOf (outlineOrder file) → (n ≡ 0 → ⊥) → (3 ≤ n) × (n ≤ 6)
 file-number file n e ne =
-    rw e (four (not (frontOk outlineFront file)) (not (lengthOk outlineHead file)) (not (depthOk (fileDepth file))) (not (outlineRules file)) (λ z. ne (e ∙ z)))
+    rw e (four (not (versionOk outlineVersion file)) (not (lengthOk outlineHead file)) (not (depthOk (fileDepth file))) (not (outlineRules file)) (λ z. ne (e ∙ z)))
 
 -- an accepted file passes all of its tests
 past-file : (file : List ℕ) → Accepted file → (ts : List Test) → firstOf (outlineOrder file ++ ts) ≡ firstOf ts
 unfolding firstOf
 past-file file a ts =
     rw (
-      T-true {b = frontOk outlineFront file} (a .front),
+      T-true {b = versionOk outlineVersion file} (a .version),
       T-true {b = lengthOk outlineHead file} (a .long),
       T-true {b = depthOk (fileDepth file)} (a .deep),
       T-true {b = outlineRules file} (a .rules),

@@ -35,10 +35,10 @@ use Rattle.outline.specs.declared.Reading.the-variants.{Broken, EndsAt}
 use Rattle.outline.specs.Positions.{recordAt}
 use Rattle.outline.proofs.Refusals.{rules-broken}
 use Rattle.keeping.specs.Keeping.{holdIn, cutBack}
-use Rattle.keeping.proofs.Stored.{stored-headed, hold-stored}
+use Rattle.keeping.proofs.Stored.{stored-header, hold-stored}
 use Rattle.keeping.proofs.Cutting.{cut-stored, cut-counts, counts-taken}
-use Rattle.merge.specs.declared.record.Taken.the-variants.{At, Full}
-use Rattle.merge.specs.Taking.{Taking, taking, takeRecord, takeRoot, Whole}
+use Rattle.merge.specs.declared.record.RecordAdded.the-variants.{At, Full}
+use Rattle.merge.specs.RecordAdding.{RecordAdding, recordAdding, addRecord, addRoot, Whole}
 use Rattle.merge.proofs.Standing.{Stands, After, record-stands}
 
 -- ---- what an accepted file says
@@ -66,12 +66,12 @@ module _ (file : List ℕ) (fair : firstOf (outlineOrder file) ≡ 0) where
 
 -- ---- the two ways of taking the root
 
-pub root-none : (file ws : List ℕ) → length file ≡ outlineHead → takeRoot file ws ≡ taking (At outlineHead 0 0) ws
-unfolding takeRoot
+pub root-none : (file ws : List ℕ) → length file ≡ outlineHead → addRoot file ws ≡ recordAdding (At outlineHead 0 0) ws
+unfolding addRoot
 root-none file ws e = rw e
 
-pub root-some : (file ws : List ℕ) (D : ℕ) → (length file ≡ outlineHead → ⊥) → D ≡ fileDepth file → takeRoot file ws ≡ takeRecord file (D - 2) outlineHead ws
-unfolding takeRoot
+pub root-some : (file ws : List ℕ) (D : ℕ) → (length file ≡ outlineHead → ⊥) → D ≡ fileDepth file → addRoot file ws ≡ addRecord file (D - 2) outlineHead ws
+unfolding addRoot
 root-some file ws D ne e = rw (ne-eqb (length file) outlineHead ne, e)
 
 -- ---- a scene of such a file, in an undamaged store with room for one
@@ -112,11 +112,11 @@ module _ (ws file : List ℕ) (words : (i : ℕ) → getD ws i 0 < 2 ^ 32) (byte
   unfolding storeOf
   again = wordsOf-storeOf ws u
 
-  abbrev Standing : Adding ℕ → Taking → Type 0
+  abbrev Standing : Adding ℕ → RecordAdding → Type 0
   Standing a o = Stands C (u .capacity) N S x file bytes K (D - 2) [] a o
 
   -- a file that is read whole: its tree, and nothing after it
-  whole-stands : (r : Read Tree) (o : Taking) → readWhole r ≡ true → After C (u .capacity) N S x file bytes K (D - 2) r (λ t. addTree C t (D - 2) K) o → Standing (addTree C (treeRead r) (D - 2) K) o
+  whole-stands : (r : Read Tree) (o : RecordAdding) → readWhole r ≡ true → After C (u .capacity) N S x file bytes K (D - 2) r (λ t. addTree C t (D - 2) K) o → Standing (addTree C (treeRead r) (D - 2) K) o
   whole-stands bad o e h = absurd (false≢true e)
   whole-stands (ok t []) o e h = h
   whole-stands (ok t (b ∷ bs)) o e h = absurd (false≢true e)
@@ -125,28 +125,28 @@ module _ (ws file : List ℕ) (words : (i : ℕ) → getD ws i 0 < 2 ^ 32) (byte
   unfolding outlineRules
   rules = T-true {b = readWhole (outlineRead file)} (accepted file fair .rules)
 
-  record-after : After C (u .capacity) N S x file bytes K (D - 2) (readRecord (D - 2) (drop outlineHead file)) (λ t. addTree C t (D - 2) K) (takeRecord file (D - 2) outlineHead ws)
+  record-after : After C (u .capacity) N S x file bytes K (D - 2) (readRecord (D - 2) (drop outlineHead file)) (λ t. addTree C t (D - 2) K) (addRecord file (D - 2) outlineHead ws)
   record-after =
-      subst (λ (w : List ℕ). After C (u .capacity) N S x file bytes K (D - 2) (readRecord (D - 2) (drop outlineHead file)) (λ t. addTree C t (D - 2) K) (takeRecord file (D - 2) outlineHead w)) again
+      subst (λ (w : List ℕ). After C (u .capacity) N S x file bytes K (D - 2) (readRecord (D - 2) (drop outlineHead file)) (λ t. addTree C t (D - 2) K) (addRecord file (D - 2) outlineHead w)) again
       (record-stands C (u .capacity) N S x file bytes (D - 2) (depth-low D (accepted file fair .deep)) outlineHead K (file-long file fair) sound fine)
 
   root-read : outlineHead < length file → readRoot (D - 2) (drop outlineHead file) ≡ readRecord (D - 2) (drop outlineHead file)
   unfolding readRoot
   root-read l = rw (drop-cons file outlineHead 0 l)
 
-  some-stands : outlineHead < length file → Standing (addTree C (treeRead (outlineRead file)) (D - 2) K) (takeRecord file (D - 2) outlineHead ws)
+  some-stands : outlineHead < length file → Standing (addTree C (treeRead (outlineRead file)) (D - 2) K) (addRecord file (D - 2) outlineHead ws)
   some-stands l =
-      whole-stands (outlineRead file) (takeRecord file (D - 2) outlineHead ws) rules
-      (subst (λ (r : Read Tree). After C (u .capacity) N S x file bytes K (D - 2) r (λ t. addTree C t (D - 2) K) (takeRecord file (D - 2) outlineHead ws)) (sym (root-read l)) record-after)
+      whole-stands (outlineRead file) (addRecord file (D - 2) outlineHead ws) rules
+      (subst (λ (r : Read Tree). After C (u .capacity) N S x file bytes K (D - 2) r (λ t. addTree C t (D - 2) K) (addRecord file (D - 2) outlineHead ws)) (sym (root-read l)) record-after)
 
   nothing-read : length file ≡ outlineHead → outlineRead file ≡ ok none []
   unfolding readRoot
   nothing-read e = rw (drop-of-length-le file {i = outlineHead} (omega arith))
 
-  none-stands : length file ≡ outlineHead → Standing (addTree C (treeRead (outlineRead file)) (D - 2) K) (taking (At outlineHead 0 0) ws)
+  none-stands : length file ≡ outlineHead → Standing (addTree C (treeRead (outlineRead file)) (D - 2) K) (recordAdding (At outlineHead 0 0) ws)
   unfolding addTree
   none-stands e =
-      subst (λ (r : Read Tree). Standing (addTree C (treeRead r) (D - 2) K) (taking (At outlineHead 0 0) ws)) (sym (nothing-read e))
+      subst (λ (r : Read Tree). Standing (addTree C (treeRead r) (D - 2) K) (recordAdding (At outlineHead 0 0) ws)) (sym (nothing-read e))
       (record {
         same = refl;
         words = sym again;
@@ -154,22 +154,22 @@ module _ (ws file : List ℕ) (words : (i : ℕ) → getD ws i 0 < 2 ^ 32) (byte
         fine = fine;
         grown = record { ext = ext-refl K; len = refl };
         okp = inl refl;
-        mask = λ ne. absurd (ne refl);
+        symmetry = λ ne. absurd (ne refl);
         ends = sym (drop-of-length-le file {i = outlineHead} (omega arith));
         within = omega arith;
       })
 
   -- the root's record taken is the file's tree added
-  root-stands : Standing (adding ws file) (takeRoot file ws)
-  unfolding adding outlineTree takeRoot
+  root-stands : Standing (adding ws file) (addRoot file ws)
+  unfolding adding outlineTree addRoot
   root-stands = go (eqb (length file) outlineHead) refl
     where
       go : (b : Bool) → eqb (length file) outlineHead ≡ b
-          → Standing (addTree C (treeRead (outlineRead file)) (D - 2) K) (cond b (taking (At outlineHead 0 0) ws) (takeRecord file (D - 2) outlineHead ws))
+          → Standing (addTree C (treeRead (outlineRead file)) (D - 2) K) (cond b (recordAdding (At outlineHead 0 0) ws) (addRecord file (D - 2) outlineHead ws))
       go true e = none-stands (eqb-true (length file) outlineHead e)
       go false e = some-stands (omega (arith, file-long file fair, eqb-false (length file) outlineHead e))
 
-  stands-as : (o : Taking) → takeRoot file ws ≡ o → Standing (adding ws file) o
+  stands-as : (o : RecordAdding) → addRoot file ws ≡ o → Standing (adding ws file) o
   stands-as o e = subst (Standing (adding ws file)) e root-stands
 
   number : (a : Adding ℕ) → adding ws file ≡ a → firstOf (addOrder ws file) ≡ cond (isFull a) 8 0
@@ -189,8 +189,8 @@ module _ (ws file : List ℕ) (words : (i : ℕ) → getD ws i 0 < 2 ^ 32) (byte
       ap (λ (a : Adding ℕ). over (wordsOf (withScene (storeOf ws) (nextScene ws) D a)) ws) e
       ∙ ap (λ (n : ℕ). wordsOf (storeWith C (suc N) (more p) K′) ++ drop n ws) (wordsOf-length C (suc N) (more p) K′ (scene-fine C N S K′ f (nextScene ws) (D ∷ p ∷ []) refl room))
 
-  module _ (next p m : ℕ) (v : List ℕ) (told-so : takeRoot file ws ≡ taking (At next p m) v) where
-    taken-as : (a : Adding ℕ) → adding ws file ≡ a → Standing a (taking (At next p m) v) → outcome (added-told (Scene (scenesHeld ws))) (holdIn (D ∷ p ∷ []) v ∷ []) ≡ addOutcome ws file
+  module _ (next p m : ℕ) (v : List ℕ) (told-so : addRoot file ws ≡ recordAdding (At next p m) v) where
+    taken-as : (a : Adding ℕ) → adding ws file ≡ a → Standing a (recordAdding (At next p m) v) → outcome (added-told (Scene (scenesHeld ws))) (holdIn (D ∷ p ∷ []) v ∷ []) ≡ addOutcome ws file
     unfolding addOutcome
     taken-as full e s = absurd s
     taken-as (added q K′) e s =
@@ -201,23 +201,23 @@ module _ (ws file : List ℕ) (words : (i : ℕ) → getD ws i 0 < 2 ^ 32) (byte
     pub taken-outcome : outcome (added-told (Scene (scenesHeld ws))) (holdIn (D ∷ p ∷ []) v ∷ []) ≡ addOutcome ws file
     taken-outcome = taken-as (adding ws file) refl (stands-as _ told-so)
 
-    ready-as : (a : Adding ℕ) → Standing a (taking (At next p m) v) → T (headerOk v) × (scenesHeld v < mostScenes)
+    ready-as : (a : Adding ℕ) → Standing a (recordAdding (At next p m) v) → T (headerOk v) × (scenesHeld v < mostScenes)
     ready-as full s = absurd s
-    ready-as (added q K′) s = rw (s .words) (stored-headed C N S K′ (s .fine) x (u .capacity), omega (arith, scenes-read C N S K′ (s .fine) x, room))
+    ready-as (added q K′) s = rw (s .words) (stored-header C N S K′ (s .fine) x (u .capacity), omega (arith, scenes-read C N S K′ (s .fine) x, room))
 
     pub hold-ready : T (headerOk v) × (scenesHeld v < mostScenes)
     hold-ready = ready-as (adding ws file) (stands-as _ told-so)
 
   -- ---- full: cut back
 
-  module _ (v : List ℕ) (told-so : takeRoot file ws ≡ taking Full v) where
+  module _ (v : List ℕ) (told-so : addRoot file ws ≡ recordAdding Full v) where
     abbrev ns : List ℕ
     ns = tabulate 0 heights (keptCount ws)
 
     counted : (k : ℕ) → k < heights → getD ns k 0 ≡ length (cellsAt K k)
     counted k h = subst (λ (w : List ℕ). getD (tabulate 0 heights (keptCount w)) k 0 ≡ length (cellsAt K k)) again (counts-taken C N S K fine x k h)
 
-    full-as : (a : Adding ℕ) → adding ws file ≡ a → Standing a (taking Full v) → outcome (added-told (Refused CellsFull)) (cutBack ns v ∷ []) ≡ addOutcome ws file
+    full-as : (a : Adding ℕ) → adding ws file ≡ a → Standing a (recordAdding Full v) → outcome (added-told (Refused CellsFull)) (cutBack ns v ∷ []) ≡ addOutcome ws file
     unfolding addOutcome
     full-as (added q K′) e s = absurd s
     full-as full e s =
@@ -229,10 +229,10 @@ module _ (ws file : List ℕ) (words : (i : ℕ) → getD ws i 0 < 2 ^ 32) (byte
     pub full-outcome : outcome (added-told (Refused CellsFull)) (cutBack (tabulate 0 heights (keptCount ws)) v ∷ []) ≡ addOutcome ws file
     full-outcome = full-as (adding ws file) refl (stands-as _ told-so)
 
-    cut-as : (a : Adding ℕ) → Standing a (taking Full v) → T (headerOk v) × ((k : ℕ) → k < heights → getD ns k 0 ≤ keptCount v k)
+    cut-as : (a : Adding ℕ) → Standing a (recordAdding Full v) → T (headerOk v) × ((k : ℕ) → k < heights → getD ns k 0 ≤ keptCount v k)
     cut-as (added q K′) s = absurd s
     cut-as full s =
-        rw (s .words) (stored-headed C N S (s .lists) (s .fine) x (u .capacity), cut-counts C N S K (s .lists) (s .fine) (s .grown .ext) (fine .lists) x ns counted)
+        rw (s .words) (stored-header C N S (s .lists) (s .fine) x (u .capacity), cut-counts C N S K (s .lists) (s .fine) (s .grown .ext) (fine .lists) x ns counted)
 
     pub cut-ready : T (headerOk v) × ((k : ℕ) → k < heights → getD (tabulate 0 heights (keptCount ws)) k 0 ≤ keptCount v k)
     cut-ready = cut-as (adding ws file) (stands-as _ told-so)

@@ -1,6 +1,6 @@
 -- Taking a file's records into the words of a store is the paper's adding of the tree that is read: the same pointer, and the words of the lists
 -- after; where it is full, words of lists that have only grown. By induction on the height and on the children left: the pointers of the
--- children taken so far, and their masks, stay right while the lists grow. Assumes nothing.
+-- children added so far, and their symmetries, stay right while the lists grow. Assumes nothing.
 use mathlib.Core.Path.{_≡_, refl, sym, _∙_, ap, ap₂, subst}
 use mathlib.Core.Bool.{Bool, true, false, cond}
 use mathlib.Core.List.{List, [], _∷_, _++_, map, append-assoc, append-nil}
@@ -28,21 +28,21 @@ use Rattle.laws.proofs.Put.{set-right}
 use Rattle.laws.proofs.OutlineReading.{OkRead, bind-ok}
 use Rattle.laws.proofs.Words.{Fine, stored, keep-fine, capacity-read, count-read, kept-read}
 use Rattle.laws.proofs.Invariant.{OkPointer, OkCell}
-use Rattle.laws.specs.Masks.{symmetries, maskFor, maskMatch, ChildMasks}
-use Rattle.laws.proofs.Masks.{mask-children}
-use Rattle.laws.proofs.Growing.{ext-trans, ext-pointer, ext-mask}
-use Rattle.laws.proofs.Adding.{Answer, Sound, Done, Refused, addCell-done, addCell-mask}
+use Rattle.laws.specs.Symmetries.{symmetryOf, symmetryFor, symmetryMatch, ChildSymmetries}
+use Rattle.laws.proofs.Symmetries.{symmetry-children}
+use Rattle.laws.proofs.Growing.{ext-trans, ext-pointer, ext-symmetry}
+use Rattle.laws.proofs.Adding.{Answer, Sound, Done, Refused, addCell-done, addCell-symmetry}
 use Rattle.laws.proofs.Occurring.{Occurs}
 use Rattle.laws.proofs.AddingTrees.{leaf-words}
 use Rattle.laws.proofs.Capacity.{Grown, grown-refl}
 use Rattle.keeping.specs.Keeping.{keepIn}
 use Rattle.keeping.proofs.Stored.{keep-stored}
-use Rattle.merge.specs.declared.keep.Placed.the-variants as placed
-use Rattle.merge.specs.declared.record.Taken.the-variants.{At, Full}
-use Rattle.merge.specs.Seeking.{Placing, placing, keptWith, foundOr, seekLeaf, seekCell}
-use Rattle.merge.specs.Taking.{Taking, taking, endingAt, thenTake, takeChildren, takeRecord}
-use Rattle.seek.proofs.MaskImage.{leaf-symmetries}
-use Rattle.seek.proofs.FindMasks.{find-masks}
+use Rattle.merge.specs.declared.keep.CellAdded.the-variants as cellAdded
+use Rattle.merge.specs.declared.record.RecordAdded.the-variants.{At, Full}
+use Rattle.merge.specs.CellAdding.{CellAdding, cellAdding, keptWith, foundOr, addLeafIn, addCellIn}
+use Rattle.merge.specs.RecordAdding.{RecordAdding, recordAdding, endingAt, thenAdd, addChildren, addRecord}
+use Rattle.seek.proofs.SymmetryImage.{leaf-symmetry-of}
+use Rattle.seek.proofs.FindSymmetries.{find-symmetries}
 
 -- a store of capacity C with N scenes held at the places S, the words x behind it, and a file of bytes
 module _ (C : ℕ) (okC : T (capacityOk C)) (N : ℕ) (S : List Cell) (x file : List ℕ) (bytes : Bytes file) where
@@ -55,7 +55,7 @@ module _ (C : ℕ) (okC : T (capacityOk C)) (N : ℕ) (S : List Cell) (x file : 
     pub grown : Grown K lists
     pub words : u ≡ stored C N S lists x
 
-  -- taken: the pointer and the lists that adding gives, the mask of the cell that the pointer names, and the position of the bytes that follow
+  -- added: the pointer and the lists that adding gives, the symmetry of the cell that the pointer names, and the position of the bytes that follow
   pub record Took (K : List (List Cell)) (k p : ℕ) (K′ : List (List Cell)) (rest : List ℕ) (next q m : ℕ) (u : List ℕ) : Type 0 where
     pub same : q ≡ p
     pub words : u ≡ stored C N S K′ x
@@ -63,19 +63,19 @@ module _ (C : ℕ) (okC : T (capacityOk C)) (N : ℕ) (S : List Cell) (x file : 
     pub fine : Fine C N S K′
     pub grown : Grown K K′
     pub okp : OkPointer (length (cellsAt K′ k)) p
-    pub mask : (p ≡ 0 → ⊥) → m ≡ symmetries K′ k (cellAt K′ k (cellNo p))
+    pub symmetry : (p ≡ 0 → ⊥) → m ≡ symmetryOf K′ k (cellAt K′ k (cellNo p))
     pub ends : rest ≡ drop next file
     pub within : next ≤ length file
 
   -- adding and taking answer alike
-  abbrev pub Stands : List (List Cell) → ℕ → List ℕ → Adding ℕ → Taking → Type 0
-  Stands K k rest full (taking Full u) = Stopped K u
-  Stands K k rest full (taking (At next q m) u) = ⊥
-  Stands K k rest (added p K′) (taking Full u) = ⊥
-  Stands K k rest (added p K′) (taking (At next q m) u) = Took K k p K′ rest next q m u
+  abbrev pub Stands : List (List Cell) → ℕ → List ℕ → Adding ℕ → RecordAdding → Type 0
+  Stands K k rest full (recordAdding Full u) = Stopped K u
+  Stands K k rest full (recordAdding (At next q m) u) = ⊥
+  Stands K k rest (added p K′) (recordAdding Full u) = ⊥
+  Stands K k rest (added p K′) (recordAdding (At next q m) u) = Took K k p K′ rest next q m u
 
   -- of whatever is read
-  abbrev pub After : {A : Type 0} → List (List Cell) → ℕ → Read A → (A → Adding ℕ) → Taking → Type 0
+  abbrev pub After : {A : Type 0} → List (List Cell) → ℕ → Read A → (A → Adding ℕ) → RecordAdding → Type 0
   After K k bad f o = Unit {0}
   After K k (ok a bs) f o = Stands K k bs (f a) o
 
@@ -84,18 +84,18 @@ module _ (C : ℕ) (okC : T (capacityOk C)) (N : ℕ) (S : List Cell) (x file : 
   grown-both : {K K′ K″ : List (List Cell)} → Grown K K′ → Grown K′ K″ → Grown K K″
   grown-both g h = record { ext = ext-trans (g .ext) (h .ext); len = h .len ∙ g .len }
 
-  since : {K K′ : List (List Cell)} (k : ℕ) (rest : List ℕ) (a : Adding ℕ) (o : Taking) → Grown K K′ → Stands K′ k rest a o → Stands K k rest a o
-  since k rest full (taking Full u) g s = record { lists = s .lists; fine = s .fine; grown = grown-both g (s .grown); words = s .words }
-  since k rest full (taking (At next q m) u) g s = s
-  since k rest (added p K″) (taking Full u) g s = s
-  since k rest (added p K″) (taking (At next q m) u) g s = record {
+  since : {K K′ : List (List Cell)} (k : ℕ) (rest : List ℕ) (a : Adding ℕ) (o : RecordAdding) → Grown K K′ → Stands K′ k rest a o → Stands K k rest a o
+  since k rest full (recordAdding Full u) g s = record { lists = s .lists; fine = s .fine; grown = grown-both g (s .grown); words = s .words }
+  since k rest full (recordAdding (At next q m) u) g s = s
+  since k rest (added p K″) (recordAdding Full u) g s = s
+  since k rest (added p K″) (recordAdding (At next q m) u) g s = record {
     same = s .same;
     words = s .words;
     sound = s .sound;
     fine = s .fine;
     grown = grown-both g (s .grown);
     okp = s .okp;
-    mask = s .mask;
+    symmetry = s .symmetry;
     ends = s .ends;
     within = s .within;
   }
@@ -106,7 +106,7 @@ module _ (C : ℕ) (okC : T (capacityOk C)) (N : ℕ) (S : List Cell) (x file : 
   few = leb→le C mostCapacity (and-right (leb 1 C) (leb C mostCapacity) okC)
 
   module _ (K : List (List Cell)) (sd : Sound C K) (f : Fine C N S K) (k : ℕ) (hk : k < heights) (c : Cell) (sized : length c ≡ stride k) (okc : OkCell K k c)
-      (at : ℕ) (within : at ≤ length file) (mask : ℕ) (masked : mask ≡ symmetries K k c) where
+      (at : ℕ) (within : at ≤ length file) (symmetry : ℕ) (masked : symmetry ≡ symmetryOf K k c) where
     abbrev ws : List ℕ
     ws = stored C N S K x
 
@@ -114,7 +114,7 @@ module _ (C : ℕ) (okC : T (capacityOk C)) (N : ℕ) (S : List Cell) (x file : 
     Right a = Answer (Refused ⊥ C K (Occurs (cellVoxel K k c) k)) (Done ⊥ C K k (cellVoxel K k c)) a
 
     abbrev Masked : Adding ℕ → Type 0
-    Masked a = Answer (Unit {0}) (λ p K′. symmetries K′ k (cellAt K′ k (cellNo p)) ≡ symmetries K k c) a
+    Masked a = Answer (Unit {0}) (λ p K′. symmetryOf K′ k (cellAt K′ k (cellNo p)) ≡ symmetryOf K k c) a
 
     in-lists : k < length K
     in-lists = omega (arith, f .lists)
@@ -123,7 +123,7 @@ module _ (C : ℕ) (okC : T (capacityOk C)) (N : ℕ) (S : List Cell) (x file : 
     right = addCell-done C few K sd k in-lists c okc ⊥ (λ z. absurd z) (λ z. absurd z) (λ z. absurd z)
 
     taken : (p : ℕ) (K′ : List (List Cell)) (u : List ℕ) → Fine C N S K′ → u ≡ stored C N S K′ x → Right (added p K′) → Masked (added p K′)
-        → Stands K k (drop at file) (added p K′) (taking (At at p mask) u)
+        → Stands K k (drop at file) (added p K′) (recordAdding (At at p symmetry) u)
     taken p K′ u g e d m = record {
       same = refl;
       words = e;
@@ -131,19 +131,19 @@ module _ (C : ℕ) (okC : T (capacityOk C)) (N : ℕ) (S : List Cell) (x file : 
       fine = g;
       grown = record { ext = d .ext; len = d .len };
       okp = d .okp;
-      mask = λ ne. masked ∙ sym m;
+      symmetry = λ ne. masked ∙ sym m;
       ends = refl;
       within = within;
     }
 
     -- kept, by the words: its list's count against the capacity
-    abbrev keptOr : Bool → Placing
-    keptOr b = cond b (placing (placed.At (pointer 0 (length (cellsAt K k))) mask) (keepIn k c ws)) (placing placed.Full ws)
+    abbrev keptOr : Bool → CellAdding
+    keptOr b = cond b (cellAdding (cellAdded.At (pointer 0 (length (cellsAt K k))) symmetry) (keepIn k c ws)) (cellAdding cellAdded.Full ws)
 
-    kept-words : keptWith mask k c ws ≡ keptOr (ltb (length (cellsAt K k)) C)
+    kept-words : keptWith symmetry k c ws ≡ keptOr (ltb (length (cellsAt K k)) C)
     unfolding keptWith
     kept-words =
-        ap₂ (λ (n D : ℕ). cond (ltb n D) (placing (placed.At (pointer 0 n) mask) (keepIn k c ws)) (placing placed.Full ws)) (count-read C N S K f x k hk) (capacity-read C N S K f x)
+        ap₂ (λ (n D : ℕ). cond (ltb n D) (cellAdding (cellAdded.At (pointer 0 n) symmetry) (keepIn k c ws)) (cellAdding cellAdded.Full ws)) (count-read C N S K f x k hk) (capacity-read C N S K f x)
 
     kept-stands : Right (keep C k c K) → Masked (keep C k c K) → Stands K k (drop at file) (keep C k c K) (endingAt at (keptOr (ltb (length (cellsAt K k)) C)))
     unfolding keep endingAt
@@ -158,37 +158,37 @@ module _ (C : ℕ) (okC : T (capacityOk C)) (N : ℕ) (S : List Cell) (x file : 
             taken _ _ _ (keep-fine C N S K f k c sized room) (keep-stored C N S K f x k c hk sized room) d m
         go false e d m = record { lists = K; fine = f; grown = grown-refl K; words = refl }
 
-    cell-stands : Stands K k (drop at file) (addCell C k c K) (endingAt at (foundOr (find (λ b t. matches K k c b t) (cellsAt K k) 0) mask k c ws))
+    cell-stands : Stands K k (drop at file) (addCell C k c K) (endingAt at (foundOr (find (λ b t. matches K k c b t) (cellsAt K k) 0) symmetry k c ws))
     unfolding addCell foundOr endingAt
-    cell-stands = go (find (λ b t. matches K k c b t) (cellsAt K k) 0) right (addCell-mask C few K sd k in-lists c okc)
+    cell-stands = go (find (λ b t. matches K k c b t) (cellsAt K k) 0) right (addCell-symmetry C few K sd k in-lists c okc)
       where
-        go : (o : Option ℕ) → Right (orKeep o K (keep C k c K)) → Masked (orKeep o K (keep C k c K)) → Stands K k (drop at file) (orKeep o K (keep C k c K)) (endingAt at (foundOr o mask k c ws))
+        go : (o : Option ℕ) → Right (orKeep o K (keep C k c K)) → Masked (orKeep o K (keep C k c K)) → Stands K k (drop at file) (orKeep o K (keep C k c K)) (endingAt at (foundOr o symmetry k c ws))
         go O.none d m = rw kept-words (kept-stands d m)
         go (some p) d m = taken p K ws f refl d m
 
-  -- a leaf, whose mask is by its mirror images
+  -- a leaf, whose symmetry is by its mirror images
   leaf-stands : (K : List (List Cell)) → Sound C K → Fine C N S K → (n : ℕ) → n < 2 ^ 64 → (at : ℕ) → at ≤ length file
-      → Stands K 0 (drop at file) (addCell C 0 (leafCell n) K) (endingAt at (seekLeaf n (stored C N S K x)))
-  unfolding seekLeaf
+      → Stands K 0 (drop at file) (addCell C 0 (leafCell n) K) (endingAt at (addLeafIn n (stored C N S K x)))
+  unfolding addLeafIn
   leaf-stands K sd f n hn at w =
-      rw (kept-read C N S K f x) (cell-stands K sd f 0 (lit< tt) (leafCell n) refl (rw (leaf-words n) hn) at w (maskFor (λ t. eqb n (mirrorLeaf t n))) (leaf-symmetries K n))
+      rw (kept-read C N S K f x) (cell-stands K sd f 0 (lit< tt) (leafCell n) refl (rw (leaf-words n) hn) at w (symmetryFor (λ t. eqb n (mirrorLeaf t n))) (leaf-symmetry-of K n))
 
-  -- a cell of eight pointers, whose mask is by those of the cells that they name
+  -- a cell of eight pointers, whose symmetry is by those of the cells that they name
   module _ (K : List (List Cell)) (sd : Sound C K) (f : Fine C N S K) (k : ℕ) (hk : suc k < heights) where
-    inner-stands : (c ms : List ℕ) → length c ≡ 8 → OkCell K (suc k) c → ChildMasks K k c ms → (at : ℕ) → at ≤ length file
-        → Stands K (suc k) (drop at file) (addCell C (suc k) c K) (endingAt at (seekCell (suc k) c ms (stored C N S K x)))
-    unfolding seekCell
+    inner-stands : (c ms : List ℕ) → length c ≡ 8 → OkCell K (suc k) c → ChildSymmetries K k c ms → (at : ℕ) → at ≤ length file
+        → Stands K (suc k) (drop at file) (addCell C (suc k) c K) (endingAt at (addCellIn (suc k) c ms (stored C N S K x)))
+    unfolding addCellIn
     inner-stands c ms sized okc known at w =
-        rw (kept-read C N S K f x, find-masks K k c ms known)
-        (cell-stands K sd f (suc k) hk c sized okc at w (maskFor (maskMatch ms c c)) (mask-children K k c ms known))
+        rw (kept-read C N S K f x, find-symmetries K k c ms known)
+        (cell-stands K sd f (suc k) hk c sized okc at w (symmetryFor (symmetryMatch ms c c)) (symmetry-children K k c ms known))
 
-  -- ---- the children taken so far
+  -- ---- the children added so far
 
-  -- the pointers of the first children, and the masks of the cells that they name
+  -- the pointers of the first children, and the symmetries of the cells that they name
   record Known (k : ℕ) (K : List (List Cell)) (pre mpre : List ℕ) : Type 0 where
     many : length mpre ≡ length pre
     okay : (i : ℕ) → i < length pre → OkPointer (length (cellsAt K k)) (getD pre i 0)
-    masks : (i : ℕ) → i < length pre → (getD pre i 0 ≡ 0 → ⊥) → getD mpre i 0 ≡ symmetries K k (cellAt K k (cellNo (getD pre i 0)))
+    symmetries : (i : ℕ) → i < length pre → (getD pre i 0 ≡ 0 → ⊥) → getD mpre i 0 ≡ symmetryOf K k (cellAt K k (cellNo (getD pre i 0)))
 
   snoc-before : (l : List ℕ) (p i : ℕ) → i < length l → getD (l ++ (p ∷ [])) i 0 ≡ getD l i 0
   snoc-before l p i h = List·getD-append l (p ∷ []) 0 i h
@@ -200,29 +200,29 @@ module _ (C : ℕ) (okC : T (capacityOk C)) (N : ℕ) (S : List Cell) (x file : 
   snoc-length l p = length-append l (p ∷ []) ∙ add-one (length l)
 
   known-none : (k : ℕ) (K : List (List Cell)) → Known k K [] []
-  known-none k K = record { many = refl; okay = λ i h. absurd (omega arith); masks = λ i h. absurd (omega arith) }
+  known-none k K = record { many = refl; okay = λ i h. absurd (omega arith); symmetries = λ i h. absurd (omega arith) }
 
   -- one more, the lists having grown
   module _ (k : ℕ) (K K′ : List (List Cell)) (sd : Sound C K) (g : Grown K K′) (pre mpre : List ℕ) (kn : Known k K pre mpre) (p m : ℕ)
-      (okp : OkPointer (length (cellsAt K′ k)) p) (mask : (p ≡ 0 → ⊥) → m ≡ symmetries K′ k (cellAt K′ k (cellNo p))) where
+      (okp : OkPointer (length (cellsAt K′ k)) p) (symmetry : (p ≡ 0 → ⊥) → m ≡ symmetryOf K′ k (cellAt K′ k (cellNo p))) where
     okay-more : (i : ℕ) → i < length (pre ++ (p ∷ [])) → Dec (i < length pre) → OkPointer (length (cellsAt K′ k)) (getD (pre ++ (p ∷ [])) i 0)
     okay-more i h (yes l) = rw (snoc-before pre p i l) (ext-pointer (g .ext) k (getD pre i 0) (kn .okay i l))
     okay-more i h (no n) = rw (snoc-last pre p i (omega (arith, snoc-length pre p))) okp
 
-    masks-more : (i : ℕ) → i < length (pre ++ (p ∷ [])) → Dec (i < length pre) → (getD (pre ++ (p ∷ [])) i 0 ≡ 0 → ⊥)
-        → getD (mpre ++ (m ∷ [])) i 0 ≡ symmetries K′ k (cellAt K′ k (cellNo (getD (pre ++ (p ∷ [])) i 0)))
-    masks-more i h (yes l) =
+    symmetries-more : (i : ℕ) → i < length (pre ++ (p ∷ [])) → Dec (i < length pre) → (getD (pre ++ (p ∷ [])) i 0 ≡ 0 → ⊥)
+        → getD (mpre ++ (m ∷ [])) i 0 ≡ symmetryOf K′ k (cellAt K′ k (cellNo (getD (pre ++ (p ∷ [])) i 0)))
+    symmetries-more i h (yes l) =
         rw (snoc-before pre p i l, snoc-before mpre m i (omega (arith, kn .many)))
-        (λ ne. kn .masks i l ne ∙ sym (ext-mask (g .ext) (sd .ok) k (getD pre i 0) (kn .okay i l) ne))
-    masks-more i h (no n) =
+        (λ ne. kn .symmetries i l ne ∙ sym (ext-symmetry (g .ext) (sd .ok) k (getD pre i 0) (kn .okay i l) ne))
+    symmetries-more i h (no n) =
         let e : i ≡ length pre = omega (arith, snoc-length pre p) in
-        rw (snoc-last pre p i e, snoc-last mpre m i (e ∙ sym (kn .many))) mask
+        rw (snoc-last pre p i e, snoc-last mpre m i (e ∙ sym (kn .many))) symmetry
 
     known-more : Known k K′ (pre ++ (p ∷ [])) (mpre ++ (m ∷ []))
     known-more = record {
       many = snoc-length mpre m ∙ ap suc (kn .many) ∙ sym (snoc-length pre p);
       okay = λ i h. okay-more i h (decLt i (length pre));
-      masks = λ i h. masks-more i h (decLt i (length pre));
+      symmetries = λ i h. symmetries-more i h (decLt i (length pre));
     }
 
   -- the next place of eight is set, or left 0
@@ -239,7 +239,7 @@ module _ (C : ℕ) (okC : T (capacityOk C)) (N : ℕ) (S : List Cell) (x file : 
   -- a record of list k at a position, whatever the lists
   abbrev Records : ℕ → Type 0
   Records k = (at : ℕ) (K : List (List Cell)) → at ≤ length file → Sound C K → Fine C N S K
-      → After K k (readRecord k (drop at file)) (λ t. addTree C t k K) (takeRecord file k at (stored C N S K x))
+      → After K k (readRecord k (drop at file)) (λ t. addTree C t k K) (addRecord file k at (stored C N S K x))
 
   -- the trees added in turn behind the pointers so far, and the cell of all eight
   abbrev adds : ℕ → List (List Cell) → List ℕ → List Tree → Adding ℕ
@@ -259,25 +259,25 @@ module _ (C : ℕ) (okC : T (capacityOk C)) (N : ℕ) (S : List Cell) (x file : 
     adds-full t ts e = rw e
 
     -- one tree more was read
-    one-more : (t : Tree) (p : ℕ) (K′ : List (List Cell)) → addTree C t k K ≡ added p K′ → Grown K K′ → (r : Read (List Tree)) (o : Taking)
+    one-more : (t : Tree) (p : ℕ) (K′ : List (List Cell)) → addTree C t k K ≡ added p K′ → Grown K K′ → (r : Read (List Tree)) (o : RecordAdding)
         → After K′ (suc k) r (adds k K′ (pre ++ (p ∷ []))) o → After K (suc k) (before t r) (adds k K pre) o
     one-more t p K′ e g bad o h = tt
     one-more t p K′ e g (ok ts bs) o h =
         since (suc k) bs (adds k K pre (t ∷ ts)) o g (subst (λ (a : Adding ℕ). Stands K′ (suc k) bs a o) (adds-cons t p K′ ts e) h)
 
-    none-more : (t : Tree) (u : List ℕ) → addTree C t k K ≡ full → Stopped K u → (r : Read (List Tree)) → After K (suc k) (before t r) (adds k K pre) (taking Full u)
+    none-more : (t : Tree) (u : List ℕ) → addTree C t k K ≡ full → Stopped K u → (r : Read (List Tree)) → After K (suc k) (before t r) (adds k K pre) (recordAdding Full u)
     none-more t u e s bad = tt
-    none-more t u e s (ok ts bs) = subst (λ (a : Adding ℕ). Stands K (suc k) bs a (taking Full u)) (sym (adds-full t ts e)) s
+    none-more t u e s (ok ts bs) = subst (λ (a : Adding ℕ). Stands K (suc k) bs a (recordAdding Full u)) (sym (adds-full t ts e)) s
 
   module _ (k : ℕ) (hk : suc k < heights) (right : Records k) where
     abbrev Children : ℕ → ℕ → Type 0
     Children n m = (at : ℕ) (K : List (List Cell)) (pre mpre : List ℕ) → at ≤ length file → Sound C K → Fine C N S K → length pre + n ≡ 8 → Known k K pre mpre
         → After K (suc k) (readChildren (readRecord k) n m (drop at file)) (adds k K pre)
-        (takeChildren (takeRecord file k) (suc k) n m at (pre ++ replicate n 0) (mpre ++ replicate n 0) (stored C N S K x))
+        (addChildren (addRecord file k) (suc k) n m at (pre ++ replicate n 0) (mpre ++ replicate n 0) (stored C N S K x))
 
     -- what is taken behind a child's record
-    abbrev goOn : ℕ → ℕ → List ℕ → List ℕ → ℕ → ℕ → ℕ → List ℕ → Taking
-    goOn n m c ms next p s u = takeChildren (takeRecord file k) (suc k) n m next (set c (7 - n) p) (set ms (7 - n) s) u
+    abbrev goOn : ℕ → ℕ → List ℕ → List ℕ → ℕ → ℕ → ℕ → List ℕ → RecordAdding
+    goOn n m c ms next p s u = addChildren (addRecord file k) (suc k) n m next (set c (7 - n) p) (set ms (7 - n) s) u
 
     module _ (n m : ℕ) (ih : Children n m) (K : List (List Cell)) (pre mpre : List ℕ) (sd : Sound C K) (eight : length pre + suc n ≡ 8) (kn : Known k K pre mpre) where
       abbrev c : List ℕ
@@ -294,26 +294,26 @@ module _ (C : ℕ) (okC : T (capacityOk C)) (N : ℕ) (S : List Cell) (x file : 
           → After K (suc k) (before t (readChildren (readRecord k) n m bs)) (adds k K pre) (goOn n m c ms next q s u)
       taken-next t bs p K′ e next q s u w =
           let all = ih next K′ (pre ++ (p ∷ [])) (mpre ++ (s ∷ [])) (w .within) (w .sound) (w .fine) (omega (arith, snoc-length pre p))
-          (known-more k K K′ sd (w .grown) pre mpre kn p s (w .okp) (w .mask)) in
+          (known-more k K K′ sd (w .grown) pre mpre kn p s (w .okp) (w .symmetry)) in
           one-more k K pre t p K′ e (w .grown) (readChildren (readRecord k) n m bs) (goOn n m c ms next q s u)
           (rw (w .ends, w .same, w .words, next-set pre n p eight, next-set mpre n s meight) all)
 
-      child-after : (t : Tree) (bs : List ℕ) (a : Adding ℕ) → addTree C t k K ≡ a → (o : Taking) → Stands K k bs a o
-          → After K (suc k) (before t (readChildren (readRecord k) n m bs)) (adds k K pre) (thenTake o (goOn n m c ms))
-      unfolding thenTake
-      child-after t bs full e (taking Full u) s = none-more k K pre t u e s (readChildren (readRecord k) n m bs)
-      child-after t bs full e (taking (At next q i) u) s = absurd s
-      child-after t bs (added p K′) e (taking Full u) s = absurd s
-      child-after t bs (added p K′) e (taking (At next q i) u) s = taken-next t bs p K′ e next q i u s
+      child-after : (t : Tree) (bs : List ℕ) (a : Adding ℕ) → addTree C t k K ≡ a → (o : RecordAdding) → Stands K k bs a o
+          → After K (suc k) (before t (readChildren (readRecord k) n m bs)) (adds k K pre) (thenAdd o (goOn n m c ms))
+      unfolding thenAdd
+      child-after t bs full e (recordAdding Full u) s = none-more k K pre t u e s (readChildren (readRecord k) n m bs)
+      child-after t bs full e (recordAdding (At next q i) u) s = absurd s
+      child-after t bs (added p K′) e (recordAdding Full u) s = absurd s
+      child-after t bs (added p K′) e (recordAdding (At next q i) u) s = taken-next t bs p K′ e next q i u s
 
-      here-after : (r : Read Tree) (o : Taking) → After K k r (λ t. addTree C t k K) o
-          → After K (suc k) (bind r (λ t bs. before t (readChildren (readRecord k) n m bs))) (adds k K pre) (thenTake o (goOn n m c ms))
+      here-after : (r : Read Tree) (o : RecordAdding) → After K k r (λ t. addTree C t k K) o
+          → After K (suc k) (bind r (λ t bs. before t (readChildren (readRecord k) n m bs))) (adds k K pre) (thenAdd o (goOn n m c ms))
       here-after bad o h = tt
       here-after (ok t bs) o h = child-after t bs (addTree C t k K) refl o h
 
       -- a child that is none
       skip-after : (at : ℕ) → at ≤ length file → Fine C N S K
-          → After K (suc k) (before none (readChildren (readRecord k) n m (drop at file))) (adds k K pre) (takeChildren (takeRecord file k) (suc k) n m at c ms (stored C N S K x))
+          → After K (suc k) (before none (readChildren (readRecord k) n m (drop at file))) (adds k K pre) (addChildren (addRecord file k) (suc k) n m at c ms (stored C N S K x))
       unfolding addTree
       skip-after at w f =
           one-more k K pre none 0 K refl (grown-refl K) (readChildren (readRecord k) n m (drop at file)) _
@@ -323,13 +323,13 @@ module _ (C : ℕ) (okC : T (capacityOk C)) (N : ℕ) (S : List Cell) (x file : 
 
     -- all eight are there
     last-stands : (at : ℕ) (K : List (List Cell)) (pre mpre : List ℕ) → at ≤ length file → Sound C K → Fine C N S K → length pre ≡ 8 → Known k K pre mpre
-        → Stands K (suc k) (drop at file) (addCell C (suc k) (pre ++ []) K) (endingAt at (seekCell (suc k) (pre ++ []) (mpre ++ []) (stored C N S K x)))
+        → Stands K (suc k) (drop at file) (addCell C (suc k) (pre ++ []) K) (endingAt at (addCellIn (suc k) (pre ++ []) (mpre ++ []) (stored C N S K x)))
     last-stands at K pre mpre w sd f e kn =
         rw (append-nil pre, append-nil mpre)
-        (inner-stands K sd f k hk pre mpre e (λ i h. kn .okay i (omega arith)) (λ i h. kn .masks i (omega arith)) at w)
+        (inner-stands K sd f k hk pre mpre e (λ i h. kn .okay i (omega arith)) (λ i h. kn .symmetries i (omega arith)) at w)
 
     children-stand : (n m : ℕ) → Children n m
-    unfolding readChildren takeChildren inTurn
+    unfolding readChildren addChildren inTurn
     children-stand zero m at K pre mpre w sd f e kn = last-stands at K pre mpre w sd f (omega arith) kn
     children-stand (suc n) m at K pre mpre w sd f e kn = go (eqb (m % 2) 1) (children-stand n (m / 2))
       where
@@ -337,9 +337,9 @@ module _ (C : ℕ) (okC : T (capacityOk C)) (N : ℕ) (S : List Cell) (x file : 
             → After K (suc k)
             (cond b (bind (readRecord k (drop at file)) (λ t bs. before t (readChildren (readRecord k) n (m / 2) bs))) (before none (readChildren (readRecord k) n (m / 2) (drop at file))))
             (adds k K pre)
-            (cond b (thenTake (takeRecord file k at (stored C N S K x)) (goOn n (m / 2) (pre ++ replicate (suc n) 0) (mpre ++ replicate (suc n) 0)))
-            (takeChildren (takeRecord file k) (suc k) n (m / 2) at (pre ++ replicate (suc n) 0) (mpre ++ replicate (suc n) 0) (stored C N S K x)))
-        go true ih = here-after n (m / 2) ih K pre mpre sd e kn (readRecord k (drop at file)) (takeRecord file k at (stored C N S K x)) (right at K w sd f)
+            (cond b (thenAdd (addRecord file k at (stored C N S K x)) (goOn n (m / 2) (pre ++ replicate (suc n) 0) (mpre ++ replicate (suc n) 0)))
+            (addChildren (addRecord file k) (suc k) n (m / 2) at (pre ++ replicate (suc n) 0) (mpre ++ replicate (suc n) 0) (stored C N S K x)))
+        go true ih = here-after n (m / 2) ih K pre mpre sd e kn (readRecord k (drop at file)) (addRecord file k at (stored C N S K x)) (right at K w sd f)
         go false ih = skip-after n (m / 2) ih K pre mpre sd e kn at w f
 
   -- ---- a record
@@ -380,20 +380,20 @@ module _ (C : ℕ) (okC : T (capacityOk C)) (N : ℕ) (S : List Cell) (x file : 
   unfolding addTree
   node-adds k K ts e = ap (adds k K []) (sym (eight-of ts e))
 
-  node-after : (k : ℕ) (K : List (List Cell)) (r : Read (List Tree)) (o : Taking) → OkRead (λ ts y. length ts ≡ 8) r → After K (suc k) r (adds k K []) o
+  node-after : (k : ℕ) (K : List (List Cell)) (r : Read (List Tree)) (o : RecordAdding) → OkRead (λ ts y. length ts ≡ 8) r → After K (suc k) r (adds k K []) o
       → After K (suc k) (bind r (λ ts bs. ok (nodeOf ts) bs)) (λ t. addTree C t (suc k) K) o
   node-after k K bad o e h = tt
   node-after k K (ok ts bs) o e h = subst (λ (a : Adding ℕ). Stands K (suc k) bs a o) (node-adds k K ts e) h
 
   cell-record : (k : ℕ) → suc k < heights → Records k → Records (suc k)
-  unfolding readRecord takeRecord
+  unfolding readRecord addRecord
   cell-record k hk right at K w sd f = go (decLt at (length file))
     where
       m : ℕ
       m = getD file at 0
 
-      o : Taking
-      o = takeRecord file (suc k) at (stored C N S K x)
+      o : RecordAdding
+      o = addRecord file (suc k) at (stored C N S K x)
 
       go : Dec (at < length file) → After K (suc k) (readRecord (suc k) (drop at file)) (λ t. addTree C t (suc k) K) o
       go (no n) = rw (drop-of-length-le file {i = at} (omega arith)) tt
@@ -413,14 +413,14 @@ module _ (C : ℕ) (okC : T (capacityOk C)) (N : ℕ) (S : List Cell) (x file : 
       omega (arith, subst (λ (n : ℕ). num 8 bs < 1 * 256 ^ n) e r)
 
   leaf-record : Records 0
-  unfolding readRecord readLeaf takeRecord addTree
+  unfolding readRecord readLeaf addRecord addTree
   leaf-record at K w sd f = go (leb 8 (length bs)) refl (eqb (num 8 bs) 0)
     where
       bs : List ℕ
       bs = drop at file
 
-      o : Taking
-      o = endingAt (at + 8) (seekLeaf (num 8 bs) (stored C N S K x))
+      o : RecordAdding
+      o = endingAt (at + 8) (addLeafIn (num 8 bs) (stored C N S K x))
 
       go : (a : Bool) → leb 8 (length bs) ≡ a → (b : Bool) → After K 0 (cond a (cond b bad (ok (leaf (num 8 bs)) (drop 8 bs))) bad) (λ t. addTree C t 0 K) o
       go false e b = tt

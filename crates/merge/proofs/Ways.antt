@@ -1,4 +1,4 @@
--- The clauses of seeking and taking as the code comes to them: a cell found, kept or refused; a leaf's record, a cell's, and the children that are
+-- The clauses of adding a cell and a record as the code comes to them: a cell found, kept or refused; a leaf's record, a cell's, and the children that are
 -- left. By the value of each test on the way, at which the definitions compute. Assumes nothing.
 use mathlib.Core.Path.{_≡_, refl, sym, ap₂, _∙_}
 use mathlib.Core.Bool.{Bool, true, false, not}
@@ -16,14 +16,14 @@ use Rattle.paper.specs.Numbers.{num}
 use Rattle.paper.specs.Leaf.{mirrorLeaf}
 use Rattle.paper.specs.Store.{Cell, cellsAt, pointer, mostCapacity, heights, capacityOf, keptCount, keptOf, headerOk}
 use Rattle.laws.proofs.Tests.{and-right}
-use Rattle.laws.proofs.Undamaged.{Headed, headed}
+use Rattle.laws.proofs.Undamaged.{FineHeader, fine-header}
 use Rattle.paper.specs.Match.{matches, find, leafCell}
-use Rattle.laws.specs.Masks.{maskFor, maskMatch}
+use Rattle.laws.specs.Symmetries.{symmetryFor, symmetryMatch}
 use Rattle.keeping.specs.Keeping.{keepIn}
-use Rattle.merge.specs.declared.keep.Placed.the-variants as placed
-use Rattle.merge.specs.declared.record.Taken.the-variants.{At, Full}
-use Rattle.merge.specs.Seeking.{placing, keptWith, foundOr, seekLeaf, seekCell}
-use Rattle.merge.specs.Taking.{Taking, taking, endingAt, thenTake, takeChildren, takeRecord}
+use Rattle.merge.specs.declared.keep.CellAdded.the-variants as cellAdded
+use Rattle.merge.specs.declared.record.RecordAdded.the-variants.{At, Full}
+use Rattle.merge.specs.CellAdding.{cellAdding, keptWith, foundOr, addLeafIn, addCellIn}
+use Rattle.merge.specs.RecordAdding.{RecordAdding, recordAdding, endingAt, thenAdd, addChildren, addRecord}
 
 -- ---- keeping, and seeking
 
@@ -39,56 +39,56 @@ pub some-room : (n C : ℕ) (b : Bool) → b ≡ not (ltb n C) → b ≡ false �
 some-room n C b e t = ltb-true n C (not-false (ltb n C) (sym e ∙ t))
 
 -- a cell or a leaf that is nowhere, by the test of room
-module _ (mask k : ℕ) (c : Cell) (ws : List ℕ) (b : Bool) (e : b ≡ not (ltb (keptCount ws k) (capacityOf ws))) where
-  pub place-full : b ≡ true → placing placed.Full ws ≡ keptWith mask k c ws
+module _ (symmetry k : ℕ) (c : Cell) (ws : List ℕ) (b : Bool) (e : b ≡ not (ltb (keptCount ws k) (capacityOf ws))) where
+  pub keep-full : b ≡ true → cellAdding cellAdded.Full ws ≡ keptWith symmetry k c ws
   unfolding keptWith
-  place-full t = rw (not-true (ltb (keptCount ws k) (capacityOf ws)) (sym e ∙ t)) refl
+  keep-full t = rw (not-true (ltb (keptCount ws k) (capacityOf ws)) (sym e ∙ t)) refl
 
-  pub place-next : b ≡ false → {p : ℕ} {l : List ℕ} → p ≡ pointer 0 (keptCount ws k) → l ≡ keepIn k c ws → placing (placed.At p mask) l ≡ keptWith mask k c ws
+  pub keep-next : b ≡ false → {p : ℕ} {l : List ℕ} → p ≡ pointer 0 (keptCount ws k) → l ≡ keepIn k c ws → cellAdding (cellAdded.At p symmetry) l ≡ keptWith symmetry k c ws
   unfolding keptWith
-  place-next t f g = rw (not-false (ltb (keptCount ws k) (capacityOf ws)) (sym e ∙ t)) (ap₂ (λ (q : ℕ) (m : List ℕ). placing (placed.At q mask) m) f g)
+  keep-next t f g = rw (not-false (ltb (keptCount ws k) (capacityOf ws)) (sym e ∙ t)) (ap₂ (λ (q : ℕ) (m : List ℕ). cellAdding (cellAdded.At q symmetry) m) f g)
 
-module _ (mask k : ℕ) (c : Cell) (ws : List ℕ) where
+module _ (symmetry k : ℕ) (c : Cell) (ws : List ℕ) where
   -- found, as the search says
-  pub found-at : (o : Option ℕ) (p : ℕ) → o ≡ some p → foundOr o mask k c ws ≡ placing (placed.At p mask) ws
+  pub found-at : (o : Option ℕ) (p : ℕ) → o ≡ some p → foundOr o symmetry k c ws ≡ cellAdding (cellAdded.At p symmetry) ws
   unfolding foundOr
   found-at o p e = rw e
 
-  pub found-nowhere : (o : Option ℕ) → o ≡ O.none → foundOr o mask k c ws ≡ keptWith mask k c ws
+  pub found-nowhere : (o : Option ℕ) → o ≡ O.none → foundOr o symmetry k c ws ≡ keptWith symmetry k c ws
   unfolding foundOr
   found-nowhere o e = rw e
 
--- by what the search and the mask came to
-pub leaf-by : (n : ℕ) (ws : List ℕ) (o : Option ℕ) (mask : ℕ) → o ≡ find (λ b t. matches (keptOf ws) 0 (leafCell n) b t) (cellsAt (keptOf ws) 0) 0
-    → mask ≡ maskFor (λ t. eqb n (mirrorLeaf t n)) → foundOr o mask 0 (leafCell n) ws ≡ seekLeaf n ws
-unfolding seekLeaf
-leaf-by n ws o mask e f = ap₂ (λ (x : Option ℕ) (m : ℕ). foundOr x m 0 (leafCell n) ws) e f
+-- by what the search and the symmetry came to
+pub leaf-by : (n : ℕ) (ws : List ℕ) (o : Option ℕ) (symmetry : ℕ) → o ≡ find (λ b t. matches (keptOf ws) 0 (leafCell n) b t) (cellsAt (keptOf ws) 0) 0
+    → symmetry ≡ symmetryFor (λ t. eqb n (mirrorLeaf t n)) → foundOr o symmetry 0 (leafCell n) ws ≡ addLeafIn n ws
+unfolding addLeafIn
+leaf-by n ws o symmetry e f = ap₂ (λ (x : Option ℕ) (m : ℕ). foundOr x m 0 (leafCell n) ws) e f
 
-pub cell-by : (k : ℕ) (c : Cell) (ms ws : List ℕ) (o : Option ℕ) (mask : ℕ) → o ≡ find (maskMatch ms c) (cellsAt (keptOf ws) k) 0
-    → mask ≡ maskFor (maskMatch ms c c) → foundOr o mask k c ws ≡ seekCell k c ms ws
-unfolding seekCell
-cell-by k c ms ws o mask e f = ap₂ (λ (x : Option ℕ) (m : ℕ). foundOr x m k c ws) e f
+pub cell-by : (k : ℕ) (c : Cell) (ms ws : List ℕ) (o : Option ℕ) (symmetry : ℕ) → o ≡ find (symmetryMatch ms c) (cellsAt (keptOf ws) k) 0
+    → symmetry ≡ symmetryFor (symmetryMatch ms c c) → foundOr o symmetry k c ws ≡ addCellIn k c ms ws
+unfolding addCellIn
+cell-by k c ms ws o symmetry e f = ap₂ (λ (x : Option ℕ) (m : ℕ). foundOr x m k c ws) e f
 
 -- ---- the children that are left, each taken by f
 
-module _ (f : ℕ → List ℕ → Taking) (k : ℕ) where
-  pub children-none : (n m at : ℕ) (c ms ws : List ℕ) → n ≡ 0 → takeChildren f k n m at c ms ws ≡ endingAt at (seekCell k c ms ws)
-  unfolding takeChildren
+module _ (f : ℕ → List ℕ → RecordAdding) (k : ℕ) where
+  pub children-none : (n m at : ℕ) (c ms ws : List ℕ) → n ≡ 0 → addChildren f k n m at c ms ws ≡ endingAt at (addCellIn k c ms ws)
+  unfolding addChildren
   children-none n m at c ms ws e = rw e
 
-  pub children-skip : (n m at : ℕ) (c ms ws : List ℕ) → (n ≡ 0 → ⊥) → m % 2 ≡ 0 → takeChildren f k n m at c ms ws ≡ takeChildren f k (n - 1) (m / 2) at c ms ws
-  unfolding takeChildren
+  pub children-skip : (n m at : ℕ) (c ms ws : List ℕ) → (n ≡ 0 → ⊥) → m % 2 ≡ 0 → addChildren f k n m at c ms ws ≡ addChildren f k (n - 1) (m / 2) at c ms ws
+  unfolding addChildren
   children-skip zero m at c ms ws z e = absurd (z refl)
   children-skip (suc n) m at c ms ws z e = rw (sub-one (suc n), ne-eqb (m % 2) 1 (λ o. omega arith))
 
-  pub children-full : (n m at : ℕ) (c ms ws u : List ℕ) → (n ≡ 0 → ⊥) → (m % 2 ≡ 0 → ⊥) → f at ws ≡ taking Full u → takeChildren f k n m at c ms ws ≡ taking Full u
-  unfolding takeChildren thenTake
+  pub children-full : (n m at : ℕ) (c ms ws u : List ℕ) → (n ≡ 0 → ⊥) → (m % 2 ≡ 0 → ⊥) → f at ws ≡ recordAdding Full u → addChildren f k n m at c ms ws ≡ recordAdding Full u
+  unfolding addChildren thenAdd
   children-full zero m at c ms ws u z e b = absurd (z refl)
   children-full (suc n) m at c ms ws u z e b = rw (eq-eqb (m % 2) 1 (omega arith), b)
 
-  pub children-next : (n m at next p s : ℕ) (c ms ws u : List ℕ) → (n ≡ 0 → ⊥) → (m % 2 ≡ 0 → ⊥) → f at ws ≡ taking (At next p s) u
-      → takeChildren f k n m at c ms ws ≡ takeChildren f k (n - 1) (m / 2) next (set c (8 - n) p) (set ms (8 - n) s) u
-  unfolding takeChildren thenTake
+  pub children-next : (n m at next p s : ℕ) (c ms ws u : List ℕ) → (n ≡ 0 → ⊥) → (m % 2 ≡ 0 → ⊥) → f at ws ≡ recordAdding (At next p s) u
+      → addChildren f k n m at c ms ws ≡ addChildren f k (n - 1) (m / 2) next (set c (8 - n) p) (set ms (8 - n) s) u
+  unfolding addChildren thenAdd
   children-next zero m at next p s c ms ws u z e b = absurd (z refl)
   children-next (suc n) m at next p s c ms ws u z e b =
       let q : 8 - suc n ≡ 7 - n = omega arith in
@@ -97,13 +97,13 @@ module _ (f : ℕ → List ℕ → Taking) (k : ℕ) where
 -- ---- a record of height h, with h - 2 = k + 1 for an inner cell
 
 module _ (file : List ℕ) (h at : ℕ) (ws : List ℕ) where
-  pub record-leaf : h ≡ 2 → takeRecord file (h - 2) at ws ≡ endingAt (at + 8) (seekLeaf (num 8 (drop at file)) ws)
-  unfolding takeRecord
+  pub record-leaf : h ≡ 2 → addRecord file (h - 2) at ws ≡ endingAt (at + 8) (addLeafIn (num 8 (drop at file)) ws)
+  unfolding addRecord
   record-leaf e = rw e
 
   pub record-inner : 3 ≤ h
-      → takeRecord file (h - 2) at ws ≡ takeChildren (takeRecord file (h - 1 - 2)) (h - 1 - 1) 8 (getD file at 0) (at + 1) (replicate 8 0) (replicate 8 0) ws
-  unfolding takeRecord
+      → addRecord file (h - 2) at ws ≡ addChildren (addRecord file (h - 1 - 2)) (h - 1 - 1) 8 (getD file at 0) (at + 1) (replicate 8 0) (replicate 8 0) ws
+  unfolding addRecord
   record-inner l =
       let e : h - 2 ≡ suc (h - 1 - 2) = omega arith in
       let g : h - 1 - 1 ≡ suc (h - 1 - 2) = omega arith in
@@ -113,6 +113,6 @@ module _ (file : List ℕ) (h at : ℕ) (ws : List ℕ) where
 
 pub next-small : (ws : List ℕ) (k n : ℕ) → T (headerOk ws) → k < heights → n ≡ keptCount ws k → n + 1 < 2 ^ 29
 next-small ws k n t hk e =
-    let h : Headed ws = headed ws t in
+    let h : FineHeader ws = fine-header ws t in
     let C : ℕ = capacityOf ws in
     omega (arith, h .few k hk, leb→le C mostCapacity (and-right (leb 1 C) (leb C mostCapacity) (h .capacity)))

@@ -1,3 +1,3 @@
 -- Definitions that the contracts cite: a cell sought or kept, and a file's records taken.
-pub mod Seeking
-pub mod Taking
+pub mod CellAdding
+pub mod RecordAdding

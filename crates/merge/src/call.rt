@@ -7,9 +7,9 @@ ghost use Rattle.paper.specs.Store.{mostScenes, scenesHeld, headerOk, storeOk};
 ghost use Rattle.paper.specs.Answers.{outcome, added};
 ghost use Rattle.paper.specs.Order.{firstOf};
 ghost use Rattle.paper.specs.Calls.{outlineOrder, addOutcome};
-ghost use Rattle.merge.specs.Taking.{taking, takeRoot};
-use crate::record::Taken;
-use crate::record::take_record;
+ghost use Rattle.merge.specs.RecordAdding.{recordAdding, addRoot};
+use crate::record::RecordAdded;
+use crate::record::add_record;
 use keeping::counts;
 use keeping::cut_back;
 use keeping::hold_scene;
@@ -24,15 +24,15 @@ use store::scenes_held;
 use store::store_bad;
 
 // The root's record, or none for an empty scene.
-fn take_root(file: &[u8], store: &mut [u32]) -> Taken
+fn add_root(file: &[u8], store: &mut [u32]) -> RecordAdded
     requires { ⌜ firstOf (outlineOrder (now file)) ≡ 0 ⌝ }
     requires { ⌜ T (headerOk (now store)) ⌝ }
-    ensures { λ r. ⌜ taking r (now (store .exit)) ≡ takeRoot (now (file .entry)) (now (store .entry)) ⌝ }
+    ensures { λ r. ⌜ recordAdding r (now (store .exit)) ≡ addRoot (now (file .entry)) (now (store .entry)) ⌝ }
 {
     if file.len() == OUTLINE_HEAD {
-        return Taken::At(OUTLINE_HEAD, 0, 0);
+        return RecordAdded::At(OUTLINE_HEAD, 0, 0);
     }
-    take_record(file, store, OUTLINE_HEAD, depth(file))
+    add_record(file, store, OUTLINE_HEAD, depth(file))
 }
 
 // The scene of a file that breaks no rule, in a store that can hold one more: its cells, then its two words. Where a
@@ -45,12 +45,12 @@ fn take_scene(file: &[u8], store: &mut [u32]) -> Added
 {
     let number = scenes_held(store);
     let before = counts(store);
-    match take_root(file, store) {
-        Taken::Full => {
+    match add_root(file, store) {
+        RecordAdded::Full => {
             cut_back(store, before);
             Added::Refused(Refusal::CellsFull)
         }
-        Taken::At(_, root, _) => {
+        RecordAdded::At(_, root, _) => {
             hold_scene(store, depth(file), root);
             Added::Scene(number)
         }

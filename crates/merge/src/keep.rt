@@ -4,21 +4,21 @@ ghost use mathlib.Core.Bool.{not};
 ghost use Prim.Native.Nat.{_≤_, _<_};
 ghost use lib.Dec.{T, ltb};
 ghost use Rattle.paper.specs.Store.{heights, capacityOf, keptCount, headerOk, pointer as paperPointer};
-ghost use Rattle.merge.specs.Seeking.{placing, keptWith, seekLeaf, seekCell};
+ghost use Rattle.merge.specs.CellAdding.{cellAdding, keptWith, addLeafIn, addCellIn};
 use keeping::keep_cell;
 use keeping::keep_leaf;
 use keeping::leaf_words;
-use leaf::leaf_mask;
+use leaf::leaf_symmetry;
 use seek::Sought;
-use seek::cell_mask;
+use seek::cell_symmetry;
 use seek::find_cell;
 use seek::find_leaf;
 use store::capacity;
 use store::kept_count;
 use store::pointer;
 
-// Where a cell is: its pointer, with the mask of the mirrors under which it matches itself; or its height is full.
-pub enum Placed {
+// Where a cell is: its pointer, with its symmetry, the mirrors under which it matches itself; or its height is full.
+pub enum CellAdded {
     At(u32, u8),
     Full,
 }
@@ -42,53 +42,53 @@ fn next_pointer(store: &[u32], k: u32) -> u32
 }
 
 // A leaf that is nowhere is kept, of its two words, if there is room.
-fn place_leaf(store: &mut [u32], leaf: [u32; 2], mask: u8) -> Placed
+fn keep_leaf_in(store: &mut [u32], leaf: [u32; 2], symmetry: u8) -> CellAdded
     requires { ⌜ T (headerOk (now store)) ⌝ }
-    ensures { λ r. ⌜ placing r (now (store .exit)) ≡ keptWith mask 0 leaf (now (store .entry)) ⌝ }
+    ensures { λ r. ⌜ cellAdding r (now (store .exit)) ≡ keptWith symmetry 0 leaf (now (store .entry)) ⌝ }
 {
     if no_room(store, 0) {
-        return Placed::Full;
+        return CellAdded::Full;
     }
     let p = next_pointer(store, 0);
     keep_leaf(store, leaf);
-    Placed::At(p, mask)
+    CellAdded::At(p, symmetry)
 }
 
 // A cell of list k, k not 0, that is nowhere is kept, if there is room.
-fn place_cell(store: &mut [u32], k: u32, cell: [u32; 8], mask: u8) -> Placed
+fn keep_cell_in(store: &mut [u32], k: u32, cell: [u32; 8], symmetry: u8) -> CellAdded
     requires { ⌜ T (headerOk (now store)) ⌝ }
     requires { ⌜ (1 ≤ k) × (k < heights) ⌝ }
-    ensures { λ r. ⌜ placing r (now (store .exit)) ≡ keptWith mask k cell (now (store .entry)) ⌝ }
+    ensures { λ r. ⌜ cellAdding r (now (store .exit)) ≡ keptWith symmetry k cell (now (store .entry)) ⌝ }
 {
     if no_room(store, k) {
-        return Placed::Full;
+        return CellAdded::Full;
     }
     let p = next_pointer(store, k);
     keep_cell(store, k, cell);
-    Placed::At(p, mask)
+    CellAdded::At(p, symmetry)
 }
 
 // A leaf is sought, or kept.
-pub fn seek_leaf(store: &mut [u32], leaf: u64) -> Placed
+pub fn add_leaf_in(store: &mut [u32], leaf: u64) -> CellAdded
     requires { ⌜ T (headerOk (now store)) ⌝ }
-    ensures { λ r. ⌜ placing r (now (store .exit)) ≡ seekLeaf leaf (now (store .entry)) ⌝ }
+    ensures { λ r. ⌜ cellAdding r (now (store .exit)) ≡ addLeafIn leaf (now (store .entry)) ⌝ }
 {
-    let mask = leaf_mask(leaf);
+    let symmetry = leaf_symmetry(leaf);
     match find_leaf(store, leaf) {
-        Sought::At(p) => Placed::At(p, mask),
-        Sought::Nowhere => place_leaf(store, leaf_words(leaf), mask),
+        Sought::At(p) => CellAdded::At(p, symmetry),
+        Sought::Nowhere => keep_leaf_in(store, leaf_words(leaf), symmetry),
     }
 }
 
-// A cell of list k is sought, or kept; masks are those of the cells that its pointers name.
-pub fn seek_cell(store: &mut [u32], k: u32, cell: [u32; 8], masks: [u8; 8]) -> Placed
+// A cell of list k is sought, or kept; symmetries are those of the cells that its pointers name.
+pub fn add_cell_in(store: &mut [u32], k: u32, cell: [u32; 8], symmetries: [u8; 8]) -> CellAdded
     requires { ⌜ T (headerOk (now store)) ⌝ }
     requires { ⌜ (1 ≤ k) × (k < heights) ⌝ }
-    ensures { λ r. ⌜ placing r (now (store .exit)) ≡ seekCell k cell masks (now (store .entry)) ⌝ }
+    ensures { λ r. ⌜ cellAdding r (now (store .exit)) ≡ addCellIn k cell symmetries (now (store .entry)) ⌝ }
 {
-    let mask = cell_mask(cell, masks);
-    match find_cell(store, k, cell, masks) {
-        Sought::At(p) => Placed::At(p, mask),
-        Sought::Nowhere => place_cell(store, k, cell, mask),
+    let symmetry = cell_symmetry(cell, symmetries);
+    match find_cell(store, k, cell, symmetries) {
+        Sought::At(p) => CellAdded::At(p, symmetry),
+        Sought::Nowhere => keep_cell_in(store, k, cell, symmetry),
     }
 }

@@ -30,8 +30,8 @@ laid-first bs l = ap (λ (n : ℕ). bs ++ drop n l) (zero-add (length bs))
 pub length-laid : (bs : List ℕ) (at : ℕ) (l : List ℕ) → at + length bs ≤ length l → length (laid bs at l) ≡ length l
 unfolding laid
 length-laid bs at l h =
-    let front : length (take at l) ≡ at = length-take-le at l (omega arith) in
-    simp (length-append, length-drop, front) (omega arith)
+    let version : length (take at l) ≡ at = length-take-le at l (omega arith) in
+    simp (length-append, length-drop, version) (omega arith)
 
 -- one byte in front
 pub laid-before : (b : ℕ) (bs : List ℕ) (at : ℕ) (l : List ℕ) → suc at + length bs ≤ length l → set (laid bs (suc at) l) at b ≡ laid (b ∷ bs) at l
@@ -49,8 +49,8 @@ pub laid-then : (a b : List ℕ) (at : ℕ) (l : List ℕ) → at + length a ≤
 unfolding laid
 laid-then a b at l h =
     let n : ℕ = at + length a in
-    let front : length (take at l) ≡ at = length-take-le at l (omega arith) in
-    let head : length (take at l ++ a) ≡ n = length-append (take at l) a ∙ ap (λ (x : ℕ). x + length a) front in
+    let version : length (take at l) ≡ at = length-take-le at l (omega arith) in
+    let head : length (take at l ++ a) ≡ n = length-append (take at l) a ∙ ap (λ (x : ℕ). x + length a) version in
     let tail : List ℕ = drop n l in
     let whole : take at l ++ (a ++ tail) ≡ (take at l ++ a) ++ tail = sym (append-assoc (take at l) a tail) in
     let early : take n (take at l ++ (a ++ tail)) ≡ take at l ++ a = ap (take n) whole ∙ take-at (take at l ++ a) tail n head in
@@ -126,24 +126,24 @@ module _ (a : List ℕ) (at n : ℕ) (l l′ : List ℕ) (e : reached n l′ ≡
 
 -- ---- a file's head
 
-pub head-length : (front n D : ℕ) → length (headOf front n D) ≡ 6
-head-length front n D = ap suc (length-append (bytes 4 n) (D ∷ []) ∙ ap (λ (x : ℕ). x + 1) (bytes-length 4 n))
+pub head-length : (version n D : ℕ) → length (headOf version n D) ≡ 6
+head-length version n D = ap suc (length-append (bytes 4 n) (D ∷ []) ∙ ap (λ (x : ℕ). x + 1) (bytes-length 4 n))
 
 -- the version byte, the length, the depth
-module _ (front total D : ℕ) (l l′ : List ℕ) (room : 6 ≤ length l) (put : l′ ≡ laid (bytes 4 total) 1 (set l 0 front)) where
+module _ (version total D : ℕ) (l l′ : List ℕ) (room : 6 ≤ length l) (put : l′ ≡ laid (bytes 4 total) 1 (set l 0 version)) where
   abbrev five : List ℕ
-  five = front ∷ bytes 4 total
+  five = version ∷ bytes 4 total
 
   fits : 0 + length five ≤ length l
   fits = omega (arith, bytes-length 4 total)
 
   put-five : reached 5 l′ ≡ writing five 0 l
   put-five =
-      let one : reached 1 (set l 0 front) ≡ writing (front ∷ []) 0 l = writing-one front 0 l (omega arith) in
-      writing-number 4 total 1 (set l 0 front) l′ put ∙ writing-then (front ∷ []) 0 1 l (set l 0 front) one (bytes 4 total) (omega arith)
+      let one : reached 1 (set l 0 version) ≡ writing (version ∷ []) 0 l = writing-one version 0 l (omega arith) in
+      writing-number 4 total 1 (set l 0 version) l′ put ∙ writing-then (version ∷ []) 0 1 l (set l 0 version) one (bytes 4 total) (omega arith)
 
   pub head-long : length l′ ≡ length l
   head-long = reached-length five 0 5 l l′ put-five fits
 
-  pub head-written : reached 6 (set l′ 5 D) ≡ writing (headOf front total D) 0 l
+  pub head-written : reached 6 (set l′ 5 D) ≡ writing (headOf version total D) 0 l
   head-written = writing-one D 5 l′ (omega (arith, head-long)) ∙ writing-then five 0 5 l l′ put-five (D ∷ []) fits

@@ -18,4 +18,4 @@ writing bs at l = reached (at + length bs) (laid bs at l)
 
 -- a file's version byte, its length and its depth
 abbrev pub headOf : ℕ → ℕ → ℕ → List ℕ
-headOf front n D = front ∷ bytes 4 n ++ (D ∷ [])
+headOf version n D = version ∷ bytes 4 n ++ (D ∷ [])

@@ -5,9 +5,9 @@ ghost use Prim.Native.Nat.{_+_, _^_, _≤_, _<_};
 ghost use lib.ListN.{length, drop};
 ghost use Rattle.paper.specs.Numbers.{num, bytes};
 ghost use Rattle.numbers.specs.Laid.{laid, reached, writing, headOf};
-use limits::DEPTH_PLACE;
+use limits::DEPTH_POSITION;
 use limits::LENGTH_BYTES;
-use limits::LENGTH_PLACE;
+use limits::LENGTH_POSITION;
 
 // A byte as a wider number.
 pub fn wide(x: u8) -> u32
@@ -69,12 +69,12 @@ pub fn write_number(out: &mut [u8], at: usize, n: usize, number: u64) -> usize
 }
 
 // Writes a file's version byte, length and depth; answers the position after them.
-pub fn write_head(out: &mut [u8], front: u8, total: u64, depth: u32) -> usize
+pub fn write_head(out: &mut [u8], version: u8, total: u64, depth: u32) -> usize
     requires { ⌜ (6 ≤ length (now out)) × (depth < 256) ⌝ }
-    ensures { λ r. ⌜ reached r (now (out .exit)) ≡ writing (headOf front total depth) 0 (now (out .entry)) ⌝ }
+    ensures { λ r. ⌜ reached r (now (out .exit)) ≡ writing (headOf version total depth) 0 (now (out .entry)) ⌝ }
 {
-    out[0] = front;
-    put_number(out, LENGTH_PLACE, LENGTH_BYTES, total);
-    out[DEPTH_PLACE] = depth as u8;
-    DEPTH_PLACE + 1
+    out[0] = version;
+    put_number(out, LENGTH_POSITION, LENGTH_BYTES, total);
+    out[DEPTH_POSITION] = depth as u8;
+    DEPTH_POSITION + 1
 }

@@ -11,9 +11,9 @@ use lib.ListN.{length, drop, getD, replicate, length-replicate, drop-of-length-l
 use lib.Seq.{drop-cons}
 use Rattle.paper.specs.Numbers.{sameList, tabulate}
 use Rattle.paper.specs.Rooms.{Point}
-use Rattle.paper.specs.Outline.{fileDepth, frontOk, lengthOk}
+use Rattle.paper.specs.Outline.{fileDepth, versionOk, lengthOk}
 use Rattle.paper.specs.Store.{heights}
-use Rattle.paper.specs.Packed.{packedFront, packedHead, isEmpty, topOf, startAt, headOk, startsOf}
+use Rattle.paper.specs.Packed.{packedVersion, packedHead, isEmpty, topOf, startAt, headOk, startsOf}
 use Rattle.paper.specs.Answers.{Told, Outcome, told, outcome, found}
 use Rattle.paper.specs.Order.{when, firstOf, settled}
 use Rattle.paper.specs.Calls.{openOrder, openOutcome, opensTo, packedVoxelOrder, packedValues, askOutcome}
@@ -70,14 +70,14 @@ module _ (file : List ℕ) (e : firstOf (openOrder file) ≡ 0) where
   abbrev later : Bool
   later = not (headOk file)
 
-  known : Headed packedFront packedHead file
-  known = headed packedFront packedHead file (when later 6 ∷ []) e
+  known : Headed packedVersion packedHead file
+  known = headed packedVersion packedHead file (when later 6 ∷ []) e
 
   pub opens : Bytes file → Opens file
-  opens bytes = record { tested = tested file bytes known; head = true-T (not-false (headOk file) (none-broken packedFront packedHead file later e)) }
+  opens bytes = record { tested = tested file bytes known; head = true-T (not-false (headOk file) (none-broken packedVersion packedHead file later e)) }
 
-  pub opens-front : (frontOk packedFront file ≡ true) × (lengthOk packedHead file ≡ true)
-  opens-front = (known .front-ok, known .length-ok)
+  pub opens-version : (versionOk packedVersion file ≡ true) × (lengthOk packedHead file ≡ true)
+  opens-version = (known .version-ok, known .length-ok)
 
 -- bytes that open to numbers are not refused
 pub opens-number : (file starts : List ℕ) (D : ℕ) → opensTo file D starts ≡ true → firstOf (openOrder file) ≡ 0

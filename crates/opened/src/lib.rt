@@ -10,8 +10,8 @@ ghost use Rattle.paper.specs.Answers.{outcome, found};
 ghost use Rattle.paper.specs.Calls.{openOrder, openOutcome};
 ghost use Rattle.paper.specs.Promises.{OpenPromise, AskPromise};
 ghost use Rattle.opened.specs.Opens.{toldBy, openTold, partOf, askedOf};
-use limits::PACKED_FRONT;
 use limits::PACKED_HEAD;
+use limits::PACKED_VERSION;
 use outline::depth;
 use outline::head_number;
 use packed::head_bad;
@@ -36,7 +36,7 @@ pub struct Header {
 pub fn open_number(file: &[u8]) -> u32
     ensures { λ r. ⌜ r ≡ firstOf (openOrder (now (file .entry))) ⌝ }
 {
-    let number = head_number(file, PACKED_FRONT, PACKED_HEAD);
+    let number = head_number(file, PACKED_VERSION, PACKED_HEAD);
     if number != 0 {
         return number;
     }
@@ -94,7 +94,7 @@ fn differ(a: [u32; 15], b: [u32; 15]) -> bool
 pub fn ask_bytes(bytes: &[u8], depth: u32, starts: [u32; 15], x: u32, y: u32, z: u32) -> Found
     ensures { λ r. ⌜ AskPromise (now (bytes .entry)) depth starts (point x y z) r ⌝ }
 {
-    if head_number(bytes, PACKED_FRONT, PACKED_HEAD) != 0 {
+    if head_number(bytes, PACKED_VERSION, PACKED_HEAD) != 0 {
         return Found::Refused(Refusal::BrokenRules);
     }
     if outline::depth(bytes) != depth {

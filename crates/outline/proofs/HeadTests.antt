@@ -7,7 +7,7 @@ use Prim.Native.Nat.{ℕ, _≤_}
 use native.Mathlib.Nat.{suc-ne-zero}
 use native.Mathlib.Omega.{arith}
 use Rattle.paper.specs.Rooms.{depthOk}
-use Rattle.paper.specs.Outline.{frontOk, lengthOk, fileDepth}
+use Rattle.paper.specs.Outline.{versionOk, lengthOk, fileDepth}
 use Rattle.paper.specs.Order.{Test, when, firstOf}
 use Rattle.laws.proofs.Refusals.{first-before}
 use Rattle.outline.specs.Heads.{headOrder, headNumber}
@@ -29,30 +29,30 @@ three-range true false c n = (omega arith, omega arith)
 three-range true true false n = (omega arith, omega arith)
 three-range true true true n = absurd (n refl)
 
-module _ (front head : ℕ) (file : List ℕ) where
+module _ (version head : ℕ) (file : List ℕ) where
   -- version byte, length field and depth are good
   pub record Headed : Type 0 where
-    pub front-ok : frontOk front file ≡ true
+    pub version-ok : versionOk version file ≡ true
     pub length-ok : lengthOk head file ≡ true
     pub depth-ok : depthOk (fileDepth file) ≡ true
 
   -- ---- the number, under the tests before its own
 
-  pub by-3 : not (frontOk front file) ≡ true → headNumber front head file ≡ 3
+  pub by-3 : not (versionOk version file) ≡ true → headNumber version head file ≡ 3
   unfolding firstOf
   by-3 e = rw e
 
-  module _ (three : not (frontOk front file) ≡ false) where
-    pub by-4 : not (lengthOk head file) ≡ true → headNumber front head file ≡ 4
+  module _ (three : not (versionOk version file) ≡ false) where
+    pub by-4 : not (lengthOk head file) ≡ true → headNumber version head file ≡ 4
     unfolding firstOf
     by-4 e = rw (three, e)
 
     module _ (four : not (lengthOk head file) ≡ false) where
-      pub by-5 : not (depthOk (fileDepth file)) ≡ true → headNumber front head file ≡ 5
+      pub by-5 : not (depthOk (fileDepth file)) ≡ true → headNumber version head file ≡ 5
       unfolding firstOf
       by-5 e = rw (three, four, e)
 
-      pub by-none : not (depthOk (fileDepth file)) ≡ false → headNumber front head file ≡ 0
+      pub by-none : not (depthOk (fileDepth file)) ≡ false → headNumber version head file ≡ 0
       unfolding firstOf
       by-none e = rw (three, four, e)
 
@@ -60,22 +60,22 @@ module _ (front head : ℕ) (file : List ℕ) where
 
   module _ (rest : List Test) where
     -- an order that begins with the three and refuses by none has passed them
-    pub headed : firstOf (headOrder front head file rest) ≡ 0 → Headed
+    pub headed : firstOf (headOrder version head file rest) ≡ 0 → Headed
     headed e =
-        let p = three-pass (frontOk front file) (lengthOk head file) (depthOk (fileDepth file)) rest e in
-        record { front-ok = p .0; length-ok = p .1; depth-ok = p .2 }
+        let p = three-pass (versionOk version file) (lengthOk head file) (depthOk (fileDepth file)) rest e in
+        record { version-ok = p .0; length-ok = p .1; depth-ok = p .2 }
 
-    pub head-goes-on : Headed → firstOf (headOrder front head file rest) ≡ firstOf rest
+    pub head-goes-on : Headed → firstOf (headOrder version head file rest) ≡ firstOf rest
     unfolding firstOf
-    head-goes-on h = rw (h .front-ok, h .length-ok, h .depth-ok)
+    head-goes-on h = rw (h .version-ok, h .length-ok, h .depth-ok)
 
-    pub head-stops : (headNumber front head file ≡ 0 → ⊥) → firstOf (headOrder front head file rest) ≡ headNumber front head file
-    head-stops n = first-before (headOrder front head file []) rest n
+    pub head-stops : (headNumber version head file ≡ 0 → ⊥) → firstOf (headOrder version head file rest) ≡ headNumber version head file
+    head-stops n = first-before (headOrder version head file []) rest n
 
   -- an order that ends with one test more, by 6
   module _ (broken : Bool) where
     abbrev order : List Test
-    order = headOrder front head file (when broken 6 ∷ [])
+    order = headOrder version head file (when broken 6 ∷ [])
 
     pub refused-by-6 : Headed → broken ≡ true → firstOf order ≡ 6
     unfolding firstOf
@@ -94,5 +94,5 @@ module _ (front head : ℕ) (file : List ℕ) where
         go false q = refl
 
   -- a refusal is 3 to 5
-  pub head-range : (n : ℕ) → n ≡ headNumber front head file → (n ≡ 0 → ⊥) → (3 ≤ n) × (n ≤ 5)
-  head-range n e ne = rw e (three-range (frontOk front file) (lengthOk head file) (depthOk (fileDepth file)) (λ z. ne (e ∙ z)))
+  pub head-range : (n : ℕ) → n ≡ headNumber version head file → (n ≡ 0 → ⊥) → (3 ≤ n) × (n ≤ 5)
+  head-range n e ne = rw e (three-range (versionOk version file) (lengthOk head file) (depthOk (fileDepth file)) (λ z. ne (e ∙ z)))

@@ -3,13 +3,13 @@ use mathlib.Core.Bool.{not}
 use mathlib.Core.List.{List, [], _∷_}
 use Prim.Native.Nat.{ℕ}
 use Rattle.paper.specs.Rooms.{depthOk}
-use Rattle.paper.specs.Outline.{frontOk, lengthOk, fileDepth}
+use Rattle.paper.specs.Outline.{versionOk, lengthOk, fileDepth}
 use Rattle.paper.specs.Order.{Test, when, firstOf}
 
 -- of a file whose kind has this version byte and at least so many bytes: 3, 4, 5, then the tests of its kind
 abbrev pub headOrder : ℕ → ℕ → List ℕ → List Test → List Test
-headOrder front head file rest = when (not (frontOk front file)) 3 ∷ when (not (lengthOk head file)) 4 ∷ when (not (depthOk (fileDepth file))) 5 ∷ rest
+headOrder version head file rest = when (not (versionOk version file)) 3 ∷ when (not (lengthOk head file)) 4 ∷ when (not (depthOk (fileDepth file))) 5 ∷ rest
 
 -- the first of these three that passes
 abbrev pub headNumber : ℕ → ℕ → List ℕ → ℕ
-headNumber front head file = firstOf (headOrder front head file [])
+headNumber version head file = firstOf (headOrder version head file [])

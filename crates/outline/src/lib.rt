@@ -5,19 +5,19 @@ ghost use mathlib.Core.Bool.{not};
 ghost use Prim.Native.Nat.{_-_, _≤_};
 ghost use lib.ListN.{length};
 ghost use Rattle.paper.specs.Rooms.{least, deepest};
-ghost use Rattle.paper.specs.Outline.{outlineHead, frontOk, lengthOk, fileDepth, outlineRules};
+ghost use Rattle.paper.specs.Outline.{outlineHead, versionOk, lengthOk, fileDepth, outlineRules};
 ghost use Rattle.paper.specs.Order.{firstOf};
 ghost use Rattle.paper.specs.Calls.{outlineOrder};
 ghost use Rattle.paper.specs.Answers.{numberOf};
 ghost use Rattle.outline.specs.Heads.{headNumber};
 ghost use Rattle.outline.specs.Positions.{leafAt, childrenAt, recordAt};
 use limits::CHILDREN;
-use limits::DEPTH_PLACE;
+use limits::DEPTH_POSITION;
 use limits::LEAF_BYTES;
 use limits::LEAF_HEIGHT;
-use limits::LENGTH_PLACE;
-use limits::OUTLINE_FRONT;
+use limits::LENGTH_POSITION;
 use limits::OUTLINE_HEAD;
+use limits::OUTLINE_VERSION;
 use numbers::be32;
 use numbers::be64;
 use numbers::wide;
@@ -38,13 +38,13 @@ fn field(x: u32) -> usize
 }
 
 // Whether a file is empty or begins with another version byte.
-fn front_bad(file: &[u8], front: u8) -> bool
-    ensures { λ r. ⌜ r ≡ not (frontOk front (now (file .entry))) ⌝ }
+fn version_bad(file: &[u8], version: u8) -> bool
+    ensures { λ r. ⌜ r ≡ not (versionOk version (now (file .entry))) ⌝ }
 {
     if file.len() == 0 {
         return true;
     }
-    file[0] != front
+    file[0] != version
 }
 
 // Whether a file has fewer bytes than its kind begins with, or another length than its length field says.
@@ -55,7 +55,7 @@ fn length_bad(file: &[u8], head: usize) -> bool
     if file.len() < head {
         return true;
     }
-    field(be32(file, LENGTH_PLACE)) != file.len()
+    field(be32(file, LENGTH_POSITION)) != file.len()
 }
 
 // A file's depth: byte 5.
@@ -63,7 +63,7 @@ pub fn depth(file: &[u8]) -> u32
     requires { ⌜ 6 ≤ length (now file) ⌝ }
     ensures { λ r. ⌜ r ≡ fileDepth (now (file .entry)) ⌝ }
 {
-    wide(file[DEPTH_PLACE])
+    wide(file[DEPTH_POSITION])
 }
 
 // A leaf's record: eight bytes, not zero.
@@ -134,13 +134,13 @@ pub fn rules_bad(file: &[u8]) -> bool
 
 // ---- refusals
 
-// The refusal of a file by its version byte, its length and its depth: 3, 4, 5 in this order, or 0. `front` is the version byte of its
+// The refusal of a file by its version byte, its length and its depth: 3, 4, 5 in this order, or 0. `version` is the version byte of its
 // kind, `head` how many bytes a file of its kind has at least.
-pub fn head_number(file: &[u8], front: u8, head: usize) -> u32
+pub fn head_number(file: &[u8], version: u8, head: usize) -> u32
     requires { ⌜ 6 ≤ head ⌝ }
-    ensures { λ r. ⌜ r ≡ headNumber front head (now (file .entry)) ⌝ }
+    ensures { λ r. ⌜ r ≡ headNumber version head (now (file .entry)) ⌝ }
 {
-    if front_bad(file, front) {
+    if version_bad(file, version) {
         return 3;
     }
     if length_bad(file, head) {
@@ -156,7 +156,7 @@ pub fn head_number(file: &[u8], front: u8, head: usize) -> u32
 pub fn refusal(file: &[u8]) -> u32
     ensures { λ r. ⌜ r ≡ firstOf (outlineOrder (now (file .entry))) ⌝ }
 {
-    let number = head_number(file, OUTLINE_FRONT, OUTLINE_HEAD);
+    let number = head_number(file, OUTLINE_VERSION, OUTLINE_HEAD);
     if number != 0 {
         return number;
     }

@@ -10,7 +10,7 @@ use lib.Dec.{T, eqb}
 use lib.ListN.{length, getD, length-append}
 use Rattle.paper.specs.Numbers.{bitFor, bytes, flatten, tabulate}
 use Rattle.paper.specs.Rooms.{Room, nonEmpty, depthOk}
-use Rattle.paper.specs.Outline.{childOf, childFull, recordOf, rootRecord, outlineOf, outlineFront, outlineHead}
+use Rattle.paper.specs.Outline.{childOf, childNonEmpty, recordOf, rootRecord, outlineOf, outlineVersion, outlineHead}
 use Rattle.paper.specs.Store.{Cell, heights, isHeld, keptCount, keptOf, cellAt, tagOf, cellNo, badPointer, sceneDepth, sceneRoot, storeOk}
 use Rattle.paper.specs.Meaning.{rootRoom}
 use Rattle.paper.specs.Calls.{outlineBytes}
@@ -21,7 +21,7 @@ use Rattle.laws.proofs.Bytes.{bytes-length}
 use Rattle.laws.proofs.OutlineWriting.{record-same}
 use Rattle.laws.proofs.StoreFacts.{Words, names-kept, cell-names, cell-sound, scene-sound, depth-range}
 use Rattle.laws.proofs.Matching.{tag-lt}
-use Rattle.laws.proofs.Records.{seenRoom, leaf-record, child-full, child-room, root-full, root-room}
+use Rattle.laws.proofs.Records.{seenRoom, leaf-record, childNonEmpty-is, child-room, root-nonEmpty, root-room}
 use Rattle.outline_out.specs.Record.{pointerAt, maskAt, partAt, childrenAt, recordAt, partMeasure, childrenMeasure, measureAt, rootAt, fileAt, sceneFile}
 
 -- ---- the bytes
@@ -32,9 +32,9 @@ unfolding childrenAt flatten tabulate
 eight-children r c m = refl
 
 -- a part of a record by voxels is one by pointers
-same-part : (full none : Bool) (a b : List ℕ) → full ≡ not none → (none ≡ false → a ≡ b) → cond full a [] ≡ cond none [] b
-same-part full true a b e h = ap (λ (x : Bool). cond x a []) e
-same-part full false a b e h = ap (λ (x : Bool). cond x a []) e ∙ h refl
+same-part : (there none : Bool) (a b : List ℕ) → there ≡ not none → (none ≡ false → a ≡ b) → cond there a [] ≡ cond none [] b
+same-part there true a b e h = ap (λ (x : Bool). cond x a []) e
+same-part there false a b e h = ap (λ (x : Bool). cond x a []) e ∙ h refl
 
 -- ---- lengths
 
@@ -42,8 +42,8 @@ same-part full false a b e h = ap (λ (x : Bool). cond x a []) e ∙ h refl
 abbrev sum8 : (ℕ → ℕ) → ℕ
 sum8 f = f 0 + (f 1 + (f 2 + (f 3 + (f 4 + (f 5 + (f 6 + f 7))))))
 
-sum8-turned : (f : ℕ → ℕ) (m : ℕ) → m < 8 → sum8 (λ i. f (bitXor i m)) ≡ sum8 f
-sum8-turned f =
+sum8-mirrored : (f : ℕ → ℕ) (m : ℕ) → m < 8 → sum8 (λ i. f (bitXor i m)) ≡ sum8 f
+sum8-mirrored f =
     below8 (λ m. sum8 (λ i. f (bitXor i m)) ≡ sum8 f)
     (omega arith) (omega arith) (omega arith) (omega arith) (omega arith) (omega arith) (omega arith) (omega arith)
 
@@ -72,7 +72,7 @@ record-length K (suc k) n m hm =
     let f : ℕ → ℕ = measureAt K k in
     let part : (i : ℕ) → length (partAt r m (pointerAt c m i)) ≡ partMeasure f (pointerAt c m i) = λ i. part-length r f m (pointerAt c m i) (λ q s h. record-length K k q s h) hm in
     let parts : sum8 (λ i. length (partAt r m (pointerAt c m i))) ≡ sum8 (λ i. partMeasure f (pointerAt c m i)) = λ j. sum8 (λ i. part i j) in
-    ap suc (children-length r c m ∙ parts ∙ sum8-turned (λ j. partMeasure f (getD c j 0)) m hm ∙ sym (children-measure f c))
+    ap suc (children-length r c m ∙ parts ∙ sum8-mirrored (λ j. partMeasure f (getD c j 0)) m hm ∙ sym (children-measure f c))
 
 -- ---- the room
 
@@ -85,14 +85,14 @@ module _ (ws : List ℕ) (ok : T (storeOk ws)) (w : Words ws) where
       let K : List (List Cell) = keptOf ws in
       let c : Cell = cellAt K (suc k) n in
       let r : Room = seenRoom K (suc k) n m in
-      let full : (i : ℕ) → i < 8 → childFull k r i ≡ not (eqb (pointerAt c m i) 0) = λ i h. child-full ws ok w k n m i hk hn hm h in
-      let part : (i : ℕ) → i < 8 → cond (childFull k r i) (recordOf k (childOf k r i)) [] ≡ partAt (recordAt K k) m (pointerAt c m i) =
+      let there : (i : ℕ) → i < 8 → childNonEmpty k r i ≡ not (eqb (pointerAt c m i) 0) = λ i h. childNonEmpty-is ws ok w k n m i hk hn hm h in
+      let part : (i : ℕ) → i < 8 → cond (childNonEmpty k r i) (recordOf k (childOf k r i)) [] ≡ partAt (recordAt K k) m (pointerAt c m i) =
       λ i h. let p : ℕ = pointerAt c m i in
-      same-part (childFull k r i) (eqb p 0) (recordOf k (childOf k r i)) (recordAt K k (cellNo p) (bitXor (tagOf p) m)) (full i h)
+      same-part (childNonEmpty k r i) (eqb p 0) (recordOf k (childOf k r i)) (recordAt K k (cellNo p) (bitXor (tagOf p) m)) (there i h)
       (λ e. record-same k (childOf k r i) (seenRoom K k (cellNo p) (bitXor (tagOf p) m)) (child-room K k n m i hm h e)
       ∙ ih (cellNo p) (bitXor (tagOf p) m) (cell-names (keptCount ws k) c (cell-sound ws ok k n hk hn) (bitXor i m) (xor8-lt i m h hm) e) (xor8-lt (tagOf p) m (tag-lt p) hm)) in
-      ap₂ _∷_ (gather-same 0 8 (λ i. bitFor (childFull k r i)) (λ i. bitFor (not (eqb (pointerAt c m i) 0))) (λ i h. ap bitFor (full i h)))
-      (ap flatten (tabulate-same 0 8 (λ i. cond (childFull k r i) (recordOf k (childOf k r i)) []) (λ i. partAt (recordAt K k) m (pointerAt c m i)) part)
+      ap₂ _∷_ (gather-same 0 8 (λ i. bitFor (childNonEmpty k r i)) (λ i. bitFor (not (eqb (pointerAt c m i) 0))) (λ i h. ap bitFor (there i h)))
+      (ap flatten (tabulate-same 0 8 (λ i. cond (childNonEmpty k r i) (recordOf k (childOf k r i)) []) (λ i. partAt (recordAt K k) m (pointerAt c m i)) part)
       ∙ sym (eight-children (recordAt K k) c m))
 
   -- a kept cell's record by voxels is that by pointers
@@ -107,7 +107,7 @@ module _ (ws : List ℕ) (ok : T (storeOk ws)) (w : Words ws) where
   root-by-pointers D p d b =
       let K : List (List Cell) = keptOf ws in
       let range = depth-range D d in
-      same-part (nonEmpty (2 ^ D) (rootRoom K D p)) (eqb p 0) (recordOf (D - 2) (rootRoom K D p)) (recordAt K (D - 2) (cellNo p) (tagOf p)) (root-full ws ok w D p d b)
+      same-part (nonEmpty (2 ^ D) (rootRoom K D p)) (eqb p 0) (recordOf (D - 2) (rootRoom K D p)) (recordAt K (D - 2) (cellNo p) (tagOf p)) (root-nonEmpty ws ok w D p d b)
       (λ e. record-same (D - 2) (rootRoom K D p) (seenRoom K (D - 2) (cellNo p) (tagOf p)) (root-room K D p (range .0) e)
       ∙ record-by-pointers (D - 2) (cellNo p) (tagOf p) (omega arith) (names-kept (keptCount ws (D - 2)) p b e) (tag-lt p))
 
@@ -119,5 +119,5 @@ module _ (ws : List ℕ) (ok : T (storeOk ws)) (w : Words ws) where
       let p : ℕ = sceneRoot ws n in
       let s : T (depthOk D) × (badPointer (keptCount ws (D - 2)) p ≡ false) = scene-sound ws ok n h in
       let e : rootRecord D (rootRoom (keptOf ws) D p) ≡ rootAt (keptOf ws) D p = root-by-pointers D p (s .0) (s .1) in
-      ap (λ (l : List ℕ). outlineFront ∷ bytes 4 (outlineHead + length l) ++ (D ∷ l)) e
-      ∙ sym (append-assoc (outlineFront ∷ bytes 4 (outlineHead + length (rootAt (keptOf ws) D p))) (D ∷ []) (rootAt (keptOf ws) D p))
+      ap (λ (l : List ℕ). outlineVersion ∷ bytes 4 (outlineHead + length l) ++ (D ∷ l)) e
+      ∙ sym (append-assoc (outlineVersion ∷ bytes 4 (outlineHead + length (rootAt (keptOf ws) D p))) (D ∷ []) (rootAt (keptOf ws) D p))

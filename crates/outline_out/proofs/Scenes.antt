@@ -9,7 +9,7 @@ use lib.Dec.{T}
 use lib.ListN.{length, length-append}
 use borrow.Author.Tests.{eq-eqb, ne-eqb}
 use Rattle.paper.specs.Rooms.{least, deepest}
-use Rattle.paper.specs.Outline.{outlineFront, outlineHead}
+use Rattle.paper.specs.Outline.{outlineVersion, outlineHead}
 use Rattle.paper.specs.Store.{Cell, mostScenes, isHeld, keptCount, tagOf, cellNo, badPointer, sceneDepth, sceneRoot, storeOk}
 use Rattle.laws.proofs.StoreFacts.{scene-sound, names-kept, depth-range}
 use Rattle.laws.proofs.Undamaged.{store-header, held-placed}
@@ -49,12 +49,12 @@ module _ (K : List (List Cell)) (D p : ℕ) where
   long : length (fileAt K D p) ≡ outlineHead + length (rootAt K D p)
   unfolding fileAt
   long =
-      length-append (headOf outlineFront (outlineHead + length (rootAt K D p)) D) (rootAt K D p)
-      ∙ ap (λ (x : ℕ). x + length (rootAt K D p)) (head-length outlineFront (outlineHead + length (rootAt K D p)) D)
+      length-append (headOf outlineVersion (outlineHead + length (rootAt K D p)) D) (rootAt K D p)
+      ∙ ap (λ (x : ℕ). x + length (rootAt K D p)) (head-length outlineVersion (outlineHead + length (rootAt K D p)) D)
 
-  parts : fileAt K D p ≡ headOf outlineFront (length (fileAt K D p)) D ++ rootAt K D p
+  parts : fileAt K D p ≡ headOf outlineVersion (length (fileAt K D p)) D ++ rootAt K D p
   unfolding fileAt
-  parts = ap (λ (n : ℕ). headOf outlineFront n D ++ rootAt K D p) (sym long)
+  parts = ap (λ (n : ℕ). headOf outlineVersion n D ++ rootAt K D p) (sym long)
 
   root-none : p ≡ 0 → rootAt K D p ≡ []
   unfolding rootAt
@@ -68,15 +68,15 @@ module _ (K : List (List Cell)) (D p : ℕ) where
   pub none-length : p ≡ 0 → length (fileAt K D p) ≡ outlineHead
   none-length e = long ∙ ap (λ (l : List ℕ). outlineHead + length l) (root-none e)
 
-  pub none-file : p ≡ 0 → headOf outlineFront (length (fileAt K D p)) D ≡ fileAt K D p
-  none-file e = sym (append-nil (headOf outlineFront (length (fileAt K D p)) D)) ∙ ap (λ (l : List ℕ). headOf outlineFront (length (fileAt K D p)) D ++ l) (sym (root-none e)) ∙ sym parts
+  pub none-file : p ≡ 0 → headOf outlineVersion (length (fileAt K D p)) D ≡ fileAt K D p
+  none-file e = sym (append-nil (headOf outlineVersion (length (fileAt K D p)) D)) ∙ ap (λ (l : List ℕ). headOf outlineVersion (length (fileAt K D p)) D ++ l) (sym (root-none e)) ∙ sym parts
 
   -- a root: its record follows
   pub there-length : (p ≡ 0 → ⊥) → length (fileAt K D p) ≡ outlineHead + measureAt K (D - 2) (cellNo p)
   there-length z = long ∙ ap (λ (n : ℕ). outlineHead + n) (ap length (root-there z) ∙ record-length K (D - 2) (cellNo p) (tagOf p) (tag-lt p))
 
-  pub there-file : (p ≡ 0 → ⊥) → headOf outlineFront (length (fileAt K D p)) D ++ recordAt K (D - 2) (cellNo p) (tagOf p) ≡ fileAt K D p
-  there-file z = ap (λ (l : List ℕ). headOf outlineFront (length (fileAt K D p)) D ++ l) (sym (root-there z)) ∙ sym parts
+  pub there-file : (p ≡ 0 → ⊥) → headOf outlineVersion (length (fileAt K D p)) D ++ recordAt K (D - 2) (cellNo p) (tagOf p) ≡ fileAt K D p
+  there-file z = ap (λ (l : List ℕ). headOf outlineVersion (length (fileAt K D p)) D ++ l) (sym (root-there z)) ∙ sym parts
 
   -- the root's record under the names that code has for its parts
   pub root-record : (d q s r : ℕ) → d ≡ D → r ≡ p → q ≡ cellNo r → s ≡ tagOf r → recordAt K (d - 2) q s ≡ recordAt K (D - 2) (cellNo p) (tagOf p)

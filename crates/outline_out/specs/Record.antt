@@ -8,7 +8,7 @@ use lib.Dec.{eqb}
 use lib.ListN.{length, getD}
 use Rattle.paper.specs.Numbers.{bitFor, gather, bytes}
 use Rattle.paper.specs.Leaf.{mirrorLeaf}
-use Rattle.paper.specs.Outline.{outlineFront, outlineHead}
+use Rattle.paper.specs.Outline.{outlineVersion, outlineHead}
 use Rattle.paper.specs.Store.{Cell, cellAt, tagOf, cellNo, leafNo}
 use Rattle.paper.specs.Calls.{ofScene}
 use Rattle.numbers.specs.Laid.{headOf}
@@ -54,7 +54,7 @@ unfoldable pub rootAt : List (List Cell) → ℕ → ℕ → List ℕ
 rootAt K D p = let b : List ℕ = recordAt K (D - 2) (cellNo p) (tagOf p) in cond (eqb p 0) [] b
 
 unfoldable pub fileAt : List (List Cell) → ℕ → ℕ → List ℕ
-fileAt K D p = headOf outlineFront (outlineHead + length (rootAt K D p)) D ++ rootAt K D p
+fileAt K D p = headOf outlineVersion (outlineHead + length (rootAt K D p)) D ++ rootAt K D p
 
 -- the outline of a scene
 abbrev pub sceneFile : List ℕ → ℕ → List ℕ

@@ -20,7 +20,7 @@ use store::leaf_at;
 use store::tag;
 
 // A child's number, or its tag, under a mirror besides: their exclusive or.
-fn turned(x: u32, mirror: u32) -> u32
+fn mirrored_number(x: u32, mirror: u32) -> u32
     requires { ⌜ (x < 8) × (mirror < 8) ⌝ }
     ensures { λ r. ⌜ (r ≡ bitXor x mirror) × (r < 8) ⌝ }
 {
@@ -43,7 +43,7 @@ fn mask(cell: [u32; 8], mirror: u32) -> u8
     let mut bits = 0u8;
     while i != 0 {
         i -= 1;
-        let j = turned(i, mirror) as usize;
+        let j = mirrored_number(i, mirror) as usize;
         bits = 2 * bits + present(cell[j]);
     }
     bits
@@ -82,12 +82,12 @@ fn write_children(
     if left == 0 {
         return at;
     }
-    let j = turned(CHILDREN - left, mirror) as usize;
+    let j = mirrored_number(CHILDREN - left, mirror) as usize;
     let p = cell[j];
     if p == 0 {
         return write_children(store, k, cell, mirror, left - 1, out, at);
     }
-    let joined = turned(tag(p), mirror);
+    let joined = mirrored_number(tag(p), mirror);
     let next = write_record(store, k, cell_number(p), joined, out, at);
     write_children(store, k, cell, mirror, left - 1, out, next)
 }

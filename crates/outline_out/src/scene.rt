@@ -14,8 +14,8 @@ ghost use Rattle.outline_out.specs.Record.{sceneFile};
 use crate::measure::measure;
 use crate::record::write_record;
 use limits::LEAF_HEIGHT;
-use limits::OUTLINE_FRONT;
 use limits::OUTLINE_HEAD;
+use limits::OUTLINE_VERSION;
 use numbers::write_head;
 use paper::Refusal;
 use paper::Written;
@@ -70,7 +70,7 @@ fn write_scene(store: &[u32], scene: u32, total: u64, out: &mut [u8]) -> usize
 {
     let depth = scene_depth(store, scene);
     let root = scene_root(store, scene);
-    let at = write_head(out, OUTLINE_FRONT, total, depth);
+    let at = write_head(out, OUTLINE_VERSION, total, depth);
     if root == 0 {
         return at;
     }

@@ -6,7 +6,7 @@ use Prim.Native.Nat.{ℕ, suc, _+_, _<_, _≤_}
 use native.Mathlib.Omega.{arith}
 use lib.ListN.{length, set, length-append}
 use Rattle.paper.specs.Numbers.{bytes}
-use Rattle.paper.specs.Packed.{packedFront, packedHead}
+use Rattle.paper.specs.Packed.{packedVersion, packedHead}
 use Rattle.paper.specs.Pack.{emptyFile}
 use Rattle.laws.proofs.Bytes.{bytes-length}
 use Rattle.numbers.specs.Laid.{reached, writing}
@@ -24,15 +24,15 @@ unfolding emptyFile
 empty-head D = refl
 
 -- the mirror behind what every file begins with
-module _ (total D at : ℕ) (l l′ : List ℕ) (room : packedHead ≤ length l) (begun : reached at l′ ≡ writing (file.headOf packedFront total D) 0 l) where
+module _ (total D at : ℕ) (l l′ : List ℕ) (room : packedHead ≤ length l) (begun : reached at l′ ≡ writing (file.headOf packedVersion total D) 0 l) where
   abbrev first : List ℕ
-  first = file.headOf packedFront total D
+  first = file.headOf packedVersion total D
 
   fits : 0 + length first ≤ length l
-  fits = omega (arith, begin.head-length packedFront total D)
+  fits = omega (arith, begin.head-length packedVersion total D)
 
   pub mark-at : at ≡ 6
-  mark-at = omega (arith, reached-at first 0 at l l′ begun, begin.head-length packedFront total D)
+  mark-at = omega (arith, reached-at first 0 at l l′ begun, begin.head-length packedVersion total D)
 
   pub mark-inside : at < length l′
   mark-inside = omega (arith, mark-at, reached-length first 0 at l l′ begun fits)
@@ -40,4 +40,4 @@ module _ (total D at : ℕ) (l l′ : List ℕ) (room : packedHead ≤ length l)
   pub head-marked : (m : ℕ) → reached (at + 1) (set l′ at m) ≡ writing (headOf total D m) 0 l
   head-marked m =
       writing-one m at l′ mark-inside ∙ writing-then first 0 at l l′ begun (m ∷ []) fits
-      ∙ ap (λ (bs : List ℕ). writing bs 0 l) (append-assoc (packedFront ∷ bytes 4 total) (D ∷ []) (m ∷ []))
+      ∙ ap (λ (bs : List ℕ). writing bs 0 l) (append-assoc (packedVersion ∷ bytes 4 total) (D ∷ []) (m ∷ []))

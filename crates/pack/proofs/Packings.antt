@@ -14,9 +14,9 @@ use lib.ListN.{length, getD, set, take, length-append, length-set}
 use lib.Seq.{getD-set-same, getD-set-other, ext-getD}
 use Rattle.paper.specs.Numbers.{bytes, flatten}
 use Rattle.paper.specs.Store.{Cell, heights, mostCapacity, capacityOf, keptCount, keptOf, tagOf, badPointer, storeOk}
-use Rattle.paper.specs.Packed.{packedFront, packedHead}
+use Rattle.paper.specs.Packed.{packedVersion, packedHead}
 use Rattle.paper.specs.Pack.{size, listBytes, sizeBytes, body, layout, emptyFile, sceneGraph, packedFile}
-use Rattle.laws.proofs.PackedReached.{numbers}
+use Rattle.laws.proofs.PackedReachable.{numbers}
 use Rattle.laws.proofs.Layouts.{sizes-length}
 use Rattle.numbers.specs.Laid.{Reached, reached}
 use Rattle.scratch.specs.Parts.{orders, wordIn, Lent, Only, OnlyPart, orderIn}
@@ -210,8 +210,8 @@ module _ (ws : List ℕ) (ok : T (storeOk ws)) (top p : ℕ) (hk : top < heights
           let D : top + 2 ≡ suc (suc top) = omega arith in
           let under : top ≡ top + 2 - 2 = omega arith in
           ap₂ (λ (n : ℕ) (l : List ℕ). headOf n (top + 2) m ++ l) whole tail-is
-          ∙ ap (λ (l : List ℕ). packedFront ∷ l) (append-assoc (bytes 4 (packedHead + length rest)) ((top + 2) ∷ m ∷ []) rest)
-          ∙ ap (λ (d : ℕ). packedFront ∷ bytes 4 (packedHead + length rest) ++ (d ∷ m ∷ rest)) D
+          ∙ ap (λ (l : List ℕ). packedVersion ∷ l) (append-assoc (bytes 4 (packedHead + length rest)) ((top + 2) ∷ m ∷ []) rest)
+          ∙ ap (λ (d : ℕ). packedVersion ∷ bytes 4 (packedHead + length rest) ++ (d ∷ m ∷ rest)) D
           ∙ ap (λ (j : ℕ). layout j m (sceneGraph K j p)) under
           ∙ ap (λ (b : Bool). cond b (emptyFile (top + 2)) (layout (top + 2 - 2) m (sceneGraph K (top + 2 - 2) p))) (sym (ne-eqb p 0 some))
 

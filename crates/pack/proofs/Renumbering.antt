@@ -11,7 +11,7 @@ use Rattle.paper.specs.Numbers.{bytes, flatten, indexIn}
 use Rattle.paper.specs.Store.{Cell, mostCapacity, cellNo}
 use Rattle.paper.specs.Packed.{codeFor}
 use Rattle.paper.specs.Pack.{placeOf, code, pointerBytes, header, width, recordBytes, placesFrom, sizeOf, renumber}
-use Rattle.laws.proofs.PackedReached.{Listed, InList, none-renumbered, listed-some, listed-cell, listed-tag}
+use Rattle.laws.proofs.PackedReachable.{Listed, InList, none-renumbered, listed-some, listed-cell, listed-tag}
 use Rattle.laws.proofs.RecordSizes.{no-code, some-code, some-bytes}
 use Rattle.laws.proofs.RecordSizes.{no-bytes}
 use Rattle.placing.proofs.Placings.{total}

@@ -23,7 +23,7 @@ use Rattle.laws.proofs.StoreFacts.{names-kept, cell-sound}
 use Rattle.laws.proofs.Undamaged.{store-header}
 use Rattle.laws.proofs.Invariant.{OkPointer, not-bad-ok}
 use Rattle.laws.proofs.RecordSizes.{list-length, size-le}
-use Rattle.laws.proofs.PackedReached.{Chosen, numbers, Pointing, chosen, listed}
+use Rattle.laws.proofs.PackedReachable.{Chosen, numbers, Pointing, chosen, listed}
 use Rattle.laws.proofs.PackedGraph.{graph-leaves, graph-inner}
 use Rattle.store.proofs.HeaderFacts.{header}
 use Rattle.scratch.specs.Parts.{wordIn, placesIn}

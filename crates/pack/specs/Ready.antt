@@ -5,7 +5,7 @@ use mathlib.Core.List.{List, [], _∷_, _++_}
 use Prim.Native.Nat.{ℕ, suc, _+_, _^_, _<_, _≤_}
 use lib.ListN.{length, getD}
 use Rattle.paper.specs.Store.{capacityOf, keptOf, cellNo, tagOf}
-use Rattle.paper.specs.Pack.{places, size, reached, sceneGraph, packedFile}
+use Rattle.paper.specs.Pack.{places, size, reachable, sceneGraph, packedFile}
 use Rattle.scratch.specs.Parts.{wordIn, Room}
 use Rattle.scratch.specs.Parts as part
 use Rattle.order.specs.OrderParts.{Ordered}
@@ -17,8 +17,8 @@ pub record Ready (ws : List ℕ) (k p : ℕ) (counts sizes : List ℕ) (n : ℕ)
   pub room : Room (capacityOf ws) k t
   pub ordered : Ordered (keptOf ws) k p (capacityOf ws) counts t
   -- by which every pointer of the file is known short or long
-  pub placed : (j : ℕ) → j ≤ k → (i : ℕ) → i < length (reached (keptOf ws) k (cellNo p ∷ []) j)
-      → wordIn (capacityOf ws) (part.places j) t (getD (reached (keptOf ws) k (cellNo p ∷ []) j) i 0) ≡ getD (places (sceneGraph (keptOf ws) k p) j) i 0
+  pub placed : (j : ℕ) → j ≤ k → (i : ℕ) → i < length (reachable (keptOf ws) k (cellNo p ∷ []) j)
+      → wordIn (capacityOf ws) (part.places j) t (getD (reachable (keptOf ws) k (cellNo p ∷ []) j) i 0) ≡ getD (places (sceneGraph (keptOf ws) k p) j) i 0
   pub sized : (j : ℕ) → j ≤ k → getD sizes j 0 ≡ size (sceneGraph (keptOf ws) k p) j
   pub kept : (j : ℕ) → j ≤ k → Kept ws j (getD counts j 0) t
   pub whole : headOf n (k + 2) (tagOf p) ++ (sizesIn sizes (suc k) ++ bodyIn (keptOf ws) (capacityOf ws) counts (suc k) t) ≡ packedFile (keptOf ws) (k + 2) p

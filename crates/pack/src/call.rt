@@ -16,7 +16,7 @@ ghost use Rattle.writing.specs.Writing.{headOf, fitted};
 ghost use Rattle.pack.specs.Ready.{Ready};
 use limits::EMPTY_MARK;
 use limits::LEAF_HEIGHT;
-use limits::PACKED_FRONT;
+use limits::PACKED_VERSION;
 use numbers::write_head;
 use order::order_lists;
 use paper::Refusal;
@@ -60,7 +60,7 @@ fn write_packed_head(out: &mut [u8], total: u64, depth: u32, mirror: u32) -> usi
     requires { ⌜ (depth < 256) × (mirror < 256) ⌝ }
     ensures { λ r. ⌜ reached r (now (out .exit)) ≡ writing (headOf total depth mirror) 0 (now (out .entry)) ⌝ }
 {
-    let at = write_head(out, PACKED_FRONT, total, depth);
+    let at = write_head(out, PACKED_VERSION, total, depth);
     out[at] = mirror as u8;
     at + 1
 }

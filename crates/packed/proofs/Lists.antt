@@ -14,7 +14,7 @@ use Rattle.paper.specs.Rooms.{Point, point, Inside, mirror, childNo, inChild, l
 use Rattle.paper.specs.Outline.{edge, fileDepth}
 use Rattle.paper.specs.Store.{heights}
 use Rattle.paper.specs.Walk.{absent, Walk, damagedWalk, unless, after, onward, Child, none, wrong, to, Step, walkIn}
-use Rattle.paper.specs.Packed.{emptyMark, rootTag, isEmpty, topOf, sizeAt, tailAt, startAt, listAt, headOk, rootOk, sizesOk, Link, noLink, linksAt, recordOk, leafOk, codeFor, startsOf, linkTo, fileReading, fileWalk}
+use Rattle.paper.specs.Packed.{emptyMark, rootTag, isEmpty, topOf, sizeAt, tailAt, startAt, listAt, headOk, rootOk, sizesOk, PackedPointer, noPointer, pointersAt, recordOk, leafOk, codeFor, startsOf, packedChild, fileReading, fileWalk}
 use Rattle.paper.specs.Calls.{packedOutside}
 use Rattle.laws.proofs.Tests.{T-true, true-T, and-left, and-right}
 use Rattle.laws.proofs.Lists.{getD-tabulate}
@@ -57,10 +57,10 @@ module _ (L M : ℕ → List ℕ) where
   lists-same (suc k) e p t v =
       let w : Point = mirror t (edge (suc k)) v in
       let here : Step = record { list = suc k; place = p; tag = t } in
-      let rest : List ℕ → (ℕ → ℕ → Walk) → Walk = λ l f. unless (recordOk l p) (after here (onward (suc (suc k)) f (childTo (getD (linksAt l p) (childNo (edge k) w) noLink)))) in
+      let rest : List ℕ → (ℕ → ℕ → Walk) → Walk = λ l f. unless (recordOk l p) (after here (onward (suc (suc k)) f (childTo (getD (pointersAt l p) (childNo (edge k) w) noPointer)))) in
       ap (λ (l : List ℕ). rest l (on L k w)) (e (suc k) (omega arith))
       ∙ ap (λ (r : Walk). unless (recordOk (M (suc k)) p) (after here r))
-      (onward-same (suc (suc k)) (on L k w) (on M k w) (childTo (getD (linksAt (M (suc k)) p) (childNo (edge k) w) noLink)) (λ u q. lists-same k (λ j h. e j (omega arith)) q u (inChild (edge k) w)))
+      (onward-same (suc (suc k)) (on L k w) (on M k w) (childTo (getD (pointersAt (M (suc k)) p) (childNo (edge k) w) noPointer)) (λ u q. lists-same k (λ j h. e j (omega arith)) q u (inChild (edge k) w)))
 
 -- ---- the lists of a file
 
@@ -75,8 +75,8 @@ module _ (bs : List ℕ) (sum : Whole bs) where
   past-damaged (suc k) h p t v l =
       rw (not-true (recordOk (listAt bs (suc k)) p) (sym (record-outside (listAt bs (suc k)) p (omega (arith, inner-length bs sum k h))))) refl
 
-  onward-file : (k : ℕ) → k ≤ topOf bs → (h : ℕ) (f : ℕ → ℕ → Walk) (u : Point) (q : Link) → ((t p : ℕ) → f t p ≡ R k p t u) → onward h f (linkTo bs k q) ≡ onward h (λ t p. R k p t u) (childTo q)
-  unfolding linkTo
+  onward-file : (k : ℕ) → k ≤ topOf bs → (h : ℕ) (f : ℕ → ℕ → Walk) (u : Point) (q : PackedPointer) → ((t p : ℕ) → f t p ≡ R k p t u) → onward h f (packedChild bs k q) ≡ onward h (λ t p. R k p t u) (childTo q)
+  unfolding packedChild
   onward-file k low h f u q below = go (eqb (q .code) 0) (ltb (q .place) (sizeAt bs k)) refl (eqb (q .code) (codeFor (q .place)))
     where
       go : (a b : Bool) → ltb (q .place) (sizeAt bs k) ≡ b → (c : Bool)
@@ -95,7 +95,7 @@ module _ (bs : List ℕ) (sum : Whole bs) where
       let w : Point = mirror t (edge (suc k)) v in
       let here : Step = record { list = suc k; place = p; tag = t } in
       ap (λ (r : Walk). unless (recordOk (listAt bs (suc k)) p) (after here r))
-      (onward-file k (omega arith) (suc (suc k)) (λ u q. walkIn (fileReading bs) k q u (inChild (edge k) w)) (inChild (edge k) w) (getD (linksAt (listAt bs (suc k)) p) (childNo (edge k) w) noLink)
+      (onward-file k (omega arith) (suc (suc k)) (λ u q. walkIn (fileReading bs) k q u (inChild (edge k) w)) (inChild (edge k) w) (getD (pointersAt (listAt bs (suc k)) p) (childNo (edge k) w) noPointer)
       (λ u q. file-lists k (omega arith) q u (inChild (edge k) w)))
 
   -- ---- the file as two parts

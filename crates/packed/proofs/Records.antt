@@ -14,7 +14,7 @@ use lib.Seq.{drop-drop}
 use Rattle.paper.specs.Numbers.{be, num, bitFor}
 use Rattle.paper.specs.Store.{leafNo}
 use Rattle.paper.specs.Walk.{none, wrong, to}
-use Rattle.paper.specs.Packed.{Link, linkOf, noLink, headerAt, halves, codesOk, readLinks, linksAt, recordOk, leafAt, codeFor, farthestShort}
+use Rattle.paper.specs.Packed.{PackedPointer, pointerOf, noPointer, headerAt, halves, codesOk, readPointers, pointersAt, recordOk, leafAt, codeFor, farthestShort}
 use Rattle.laws.proofs.Tests.{T-true, true-T, and-left, and-right, all-at, all-at2, ltb-not}
 use Rattle.laws.proofs.PackedLists.{halves-one}
 use Rattle.numbers.proofs.Sums.{eight-bytes}
@@ -123,25 +123,25 @@ halves-most (suc n) h t = go (eqb (h % 4) 3) refl t (halves-most n (h / 4))
 
 -- ---- the pointer of child i
 
-link-read : (n h : ℕ) (l : List ℕ) (i : ℕ) → i < n
-    → getD (readLinks n h l) i noLink ≡ linkOf (codeAt i h) (num (2 * codeAt i h) (drop (2 * (halves i h - 1)) l))
-unfolding readLinks halves
-link-read zero h l i m = absurd (not-suc-le-zero m)
-link-read (suc n) h l zero m = rw div-one refl
-link-read (suc n) h l (suc i) m =
+pointer-read : (n h : ℕ) (l : List ℕ) (i : ℕ) → i < n
+    → getD (readPointers n h l) i noPointer ≡ pointerOf (codeAt i h) (num (2 * codeAt i h) (drop (2 * (halves i h - 1)) l))
+unfolding readPointers halves
+pointer-read zero h l i m = absurd (not-suc-le-zero m)
+pointer-read (suc n) h l zero m = rw div-one refl
+pointer-read (suc n) h l (suc i) m =
     let e : 2 * (h % 4) + 2 * (halves i (h / 4) - 1) ≡ 2 * (h % 4 + halves i (h / 4) - 1) = omega (arith, halves-one i (h / 4)) in
     let d : drop (2 * (halves i (h / 4) - 1)) (drop (2 * (h % 4)) l) ≡ drop (2 * (h % 4 + halves i (h / 4) - 1)) l =
     drop-drop (2 * (halves i (h / 4) - 1)) (2 * (h % 4)) l ∙ ap (λ (a : ℕ). drop a l) e in
-    link-read n (h / 4) (drop (2 * (h % 4)) l) i (le-of-suc-le-suc m) ∙ rw (code-suc i h, d) refl
+    pointer-read n (h / 4) (drop (2 * (h % 4)) l) i (le-of-suc-le-suc m) ∙ rw (code-suc i h, d) refl
 
-pub link-at : (l : List ℕ) (p i : ℕ) → i < 8
-    → getD (linksAt l p) i noLink ≡ linkOf (codeAt i (headerAt l p)) (num (2 * codeAt i (headerAt l p)) (drop (2 * p + 2 * halves i (headerAt l p)) l))
-unfolding linksAt
-link-at l p i m =
+pub pointer-at : (l : List ℕ) (p i : ℕ) → i < 8
+    → getD (pointersAt l p) i noPointer ≡ pointerOf (codeAt i (headerAt l p)) (num (2 * codeAt i (headerAt l p)) (drop (2 * p + 2 * halves i (headerAt l p)) l))
+unfolding pointersAt
+pointer-at l p i m =
     let h : ℕ = headerAt l p in
     let e : 2 * p + 2 + 2 * (halves i h - 1) ≡ 2 * p + 2 * halves i h = omega (arith, halves-one i h) in
-    link-read 8 h (drop (2 * p + 2) l) i m
-    ∙ ap (λ (bs : List ℕ). linkOf (codeAt i h) (num (2 * codeAt i h) bs)) (drop-drop (2 * (halves i h - 1)) (2 * p + 2) l ∙ ap (λ (a : ℕ). drop a l) e)
+    pointer-read 8 h (drop (2 * p + 2) l) i m
+    ∙ ap (λ (bs : List ℕ). pointerOf (codeAt i h) (num (2 * codeAt i h) bs)) (drop-drop (2 * (halves i h - 1)) (2 * p + 2) l ∙ ap (λ (a : ℕ). drop a l) e)
 
 -- ---- what a good record says
 
@@ -205,10 +205,10 @@ header-codes h n = rw (lt-ltb 0 h (omega (arith, n))) refl
 
 module _ (l : List ℕ) (from code : ℕ) where
   -- the pointer that the bytes from there on write
-  abbrev there : Link
-  there = linkOf code (num (2 * code) (drop from l))
+  abbrev there : PackedPointer
+  there = pointerOf code (num (2 * code) (drop from l))
 
-  pub pointer-none : code ≡ 0 → noLink ≡ there
+  pub pointer-none : code ≡ 0 → noPointer ≡ there
   unfolding be
   pointer-none e = rw e refl
 

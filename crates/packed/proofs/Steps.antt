@@ -16,11 +16,11 @@ use Rattle.paper.specs.Rooms.{Point, mirror, childNo, inChild}
 use Rattle.paper.specs.Outline.{edge}
 use Rattle.paper.specs.Store.{leafNo}
 use Rattle.paper.specs.Walk.{End, damaged, absent, inLeaf, Step, Walk, unless, after, pathAfter, onward, Child, none, wrong, to, walkIn}
-use Rattle.paper.specs.Packed.{noLink, linksAt, leafAt, recordOk, leafOk}
+use Rattle.paper.specs.Packed.{noPointer, pointersAt, leafAt, recordOk, leafOk}
 use Rattle.packed.specs.declared.Ended.the-variants.{Broken, InLeaf}
 use Rattle.packed.specs.Records.{childTo}
 use Rattle.packed.specs.Walk.{listsReading, Ending, endingOf, ending, leafEnding}
-use Rattle.points.specs.Seeing.{seenAt, octant}
+use Rattle.points.specs.Seeing.{seenAt, childNoAt}
 use Rattle.points.proofs.Seen.{child-seen, in-seen, tag-seen}
 use Rattle.packed.proofs.Header.{less-one}
 
@@ -61,7 +61,7 @@ unfoldable pub wayAt : (ℕ → List ℕ) → ℕ → ℕ → Point → Ending
 wayAt L zero p w = if-ok (leafOk (L 0) p) (record { end = inLeaf (leafNo (leafAt (L 0) p)) w; records = 1 })
 wayAt L (suc k) p w =
     let go : ℕ → ℕ → Ending = λ t q. wayAt L k q (mirror t (edge k) (inChild (edge k) w)) in
-    if-ok (recordOk (L (suc k)) p) (onEnd (suc (suc k)) go (childTo (getD (linksAt (L (suc k)) p) (childNo (edge k) w) noLink)))
+    if-ok (recordOk (L (suc k)) p) (onEnd (suc (suc k)) go (childTo (getD (pointersAt (L (suc k)) p) (childNo (edge k) w) noPointer)))
 
 after-length : (s : Step) (e : End) (path : List Step) → length (pathAfter s e path) ≡ counted e 1 (length path)
 after-length s damaged path = refl
@@ -87,7 +87,7 @@ way-read L zero p t v = leaf-read (leafOk (L 0) p) (leafNo (leafAt (L 0) p)) (mi
 way-read L (suc k) p t v =
     let w : Point = mirror t (edge (suc k)) v in
     step-read (recordOk (L (suc k)) p) (record { list = suc k; place = p; tag = t }) (suc (suc k)) (λ u q. walkIn (listsReading L) k q u (inChild (edge k) w)) (λ u q. wayAt L k q (mirror u (edge k) (inChild (edge k) w)))
-    (childTo (getD (linksAt (L (suc k)) p) (childNo (edge k) w) noLink)) (λ u q. way-read L k q u (inChild (edge k) w))
+    (childTo (getD (pointersAt (L (suc k)) p) (childNo (edge k) w) noPointer)) (λ u q. way-read L k q u (inChild (edge k) w))
 
 -- ---- in a leaf
 
@@ -116,19 +116,19 @@ module _ (L : ℕ → List ℕ) (p m : ℕ) (v : Point) (hm : m < 8) where
   abbrev on : ℕ → Child → Ending
   on j c = onEnd (suc (suc j)) (λ t q. wayAt L j q (mirror t (edge j) (seenAt j m v))) c
 
-  step-suc : (j : ℕ) (c : Child) → childTo (getD (linksAt (L (suc j)) p) (bitXor (octant j v) m) noLink) ≡ c
+  step-suc : (j : ℕ) (c : Child) → childTo (getD (pointersAt (L (suc j)) p) (bitXor (childNoAt j v) m) noPointer) ≡ c
       → wayAt L (suc j) p (seenAt (suc j) m v) ≡ if-ok (recordOk (L (suc j)) p) (on j c)
   unfolding wayAt
   step-suc j c e =
       ap (if-ok (recordOk (L (suc j)) p))
       (ap₂ (λ (d : Child) (u : Point). onEnd (suc (suc j)) (λ t q. wayAt L j q (mirror t (edge j) u)) d)
-      (ap (λ (i : ℕ). childTo (getD (linksAt (L (suc j)) p) i noLink)) (child-seen j m v hm) ∙ e) (in-seen j m v hm))
+      (ap (λ (i : ℕ). childTo (getD (pointersAt (L (suc j)) p) i noPointer)) (child-seen j m v hm) ∙ e) (in-seen j m v hm))
 
-  pub step : (k : ℕ) → 0 < k → (c : Child) → c ≡ childTo (getD (linksAt (L k) p) (bitXor (octant (k - 1) v) m) noLink)
+  pub step : (k : ℕ) → 0 < k → (c : Child) → c ≡ childTo (getD (pointersAt (L k) p) (bitXor (childNoAt (k - 1) v) m) noPointer)
       → wayAt L k p (seenAt k m v) ≡ if-ok (recordOk (L k) p) (on (k - 1) c)
   step zero h c e = absurd (not-suc-le-zero h)
   step (suc j) h c e =
-      step-suc j c (sym (e ∙ ap (λ (i : ℕ). childTo (getD (linksAt (L (suc j)) p) (bitXor (octant i v) m) noLink)) (less-one j)))
+      step-suc j c (sym (e ∙ ap (λ (i : ℕ). childTo (getD (pointersAt (L (suc j)) p) (bitXor (childNoAt i v) m) noPointer)) (less-one j)))
       ∙ ap (λ (i : ℕ). if-ok (recordOk (L (suc j)) p) (on i c)) (sym (less-one j))
 
   broken-at : (k : ℕ) (w : Point) → 0 < k → recordOk (L k) p ≡ false → wayAt L k p w ≡ broken
@@ -142,7 +142,7 @@ module _ (L : ℕ → List ℕ) (p m : ℕ) (v : Point) (hm : m < 8) where
     pub way-broken : recordOk (L k) p ≡ false → broken ≡ plus n (wayAt L k p (seenAt k m v))
     way-broken e = ap (plus n) (sym (broken-at k (seenAt k m v) h e))
 
-    module _ (c : Child) (e : c ≡ childTo (getD (linksAt (L k) p) (bitXor (octant (k - 1) v) m) noLink)) (good : recordOk (L k) p ≡ true) where
+    module _ (c : Child) (e : c ≡ childTo (getD (pointersAt (L k) p) (bitXor (childNoAt (k - 1) v) m) noPointer)) (good : recordOk (L k) p ≡ true) where
       on-is : (d : Child) → c ≡ d → wayAt L k p (seenAt k m v) ≡ on (k - 1) d
       on-is d q = step k h d (sym q ∙ e) ∙ ap (λ (b : Bool). if-ok b (on (k - 1) d)) good
 
@@ -179,7 +179,7 @@ zero-on h go (to t p) = ap (λ (n : ℕ). record { end = go t p .end; records = 
 pub way-zero : (L : ℕ → List ℕ) (k p : ℕ) (w : Point) → plus 0 (wayAt L k p w) ≡ wayAt L k p w
 unfolding wayAt
 way-zero L zero p w = zero-if (leafOk (L 0) p) (record { end = inLeaf (leafNo (leafAt (L 0) p)) w; records = 1 }) refl
-way-zero L (suc k) p w = zero-if (recordOk (L (suc k)) p) (onEnd (suc (suc k)) (λ t q. wayAt L k q (mirror t (edge k) (inChild (edge k) w))) (childTo (getD (linksAt (L (suc k)) p) (childNo (edge k) w) noLink))) (zero-on (suc (suc k)) (λ t q. wayAt L k q (mirror t (edge k) (inChild (edge k) w))) (childTo (getD (linksAt (L (suc k)) p) (childNo (edge k) w) noLink)))
+way-zero L (suc k) p w = zero-if (recordOk (L (suc k)) p) (onEnd (suc (suc k)) (λ t q. wayAt L k q (mirror t (edge k) (inChild (edge k) w))) (childTo (getD (pointersAt (L (suc k)) p) (childNo (edge k) w) noPointer))) (zero-on (suc (suc k)) (λ t q. wayAt L k q (mirror t (edge k) (inChild (edge k) w))) (childTo (getD (pointersAt (L (suc k)) p) (childNo (edge k) w) noPointer)))
 
 -- ---- at the leaves
 

@@ -11,7 +11,7 @@ use Rattle.paper.specs.Rooms.{Point, least, deepest}
 use Rattle.paper.specs.Outline.{fileDepth}
 use Rattle.paper.specs.Leaf.{leafVoxel}
 use Rattle.paper.specs.Walk.{End, damaged, absent, inLeaf, isDamaged, solidAt}
-use Rattle.paper.specs.Packed.{packedFront, packedHead, headOk, fileWalk}
+use Rattle.paper.specs.Packed.{packedVersion, packedHead, headOk, fileWalk}
 use Rattle.paper.specs.Answers.{Outcome, told, outcome, numberOf, found}
 use Rattle.paper.specs.Order.{Test, when, firstOf, settled}
 use Rattle.paper.specs.Calls.{packedOutside, packedBroken, packedVoxelOrder, packedValues, packedVoxelOutcome}
@@ -31,7 +31,7 @@ use Rattle.packed.specs.Walk.{solidOr, foundBy, endingOf, foundAt}
 
 -- ---- what the first three tests say
 
-pub tested : (bs : List ℕ) → Bytes bs → Headed packedFront packedHead bs → Tested bs
+pub tested : (bs : List ℕ) → Bytes bs → Headed packedVersion packedHead bs → Tested bs
 tested bs h ok =
     let a : Bool = leb packedHead (length bs) in
     let b : Bool = eqb (num 4 (drop 1 bs)) (length bs) in
@@ -65,14 +65,14 @@ module _ (bs : List ℕ) (v : Point) where
   abbrev later : List Test
   later = when (packedOutside bs v) 10 ∷ when (packedBroken bs v) 6 ∷ []
 
-  pub bad-bytes : (r : Refusal) (n : ℕ) → numberOf r ≡ n → n ≡ headNumber packedFront packedHead bs → (n ≡ 0 → ⊥) → outcome (found (Refused r)) [] ≡ packedVoxelOutcome bs v
+  pub bad-bytes : (r : Refusal) (n : ℕ) → numberOf r ≡ n → n ≡ headNumber packedVersion packedHead bs → (n ≡ 0 → ⊥) → outcome (found (Refused r)) [] ≡ packedVoxelOutcome bs v
   unfolding packedVoxelOutcome
   bad-bytes r n e f ne =
-      let stops : firstOf (packedVoxelOrder bs v) ≡ headNumber packedFront packedHead bs = head-stops packedFront packedHead bs later (λ z. ne (f ∙ z)) in
+      let stops : firstOf (packedVoxelOrder bs v) ≡ headNumber packedVersion packedHead bs = head-stops packedVersion packedHead bs later (λ z. ne (f ∙ z)) in
       ap (λ (m : ℕ). outcome (told m (0 ∷ 0 ∷ [])) []) (e ∙ f ∙ sym stops)
       ∙ sym (settled-refused (firstOf (packedVoxelOrder bs v)) (packedValues bs v) [] [] (λ z. ne (f ∙ sym stops ∙ z)))
 
-  module _ (h : Headed packedFront packedHead bs) where
+  module _ (h : Headed packedVersion packedHead bs) where
     abbrev solid : ℕ
     solid = bitFor (solidAt (fileWalk bs v .end))
 
@@ -83,7 +83,7 @@ module _ (bs : List ℕ) (v : Point) where
     unfolding packedVoxelOutcome
     rest o w eo ew =
         ap₂ (by-tests solid records) (sym eo) (sym ew)
-        ∙ ap (λ (n : ℕ). settled n (packedValues bs v) [] []) (sym (head-goes-on packedFront packedHead bs later h))
+        ∙ ap (λ (n : ℕ). settled n (packedValues bs v) [] []) (sym (head-goes-on packedVersion packedHead bs later h))
 
     pub far-out : packedOutside bs v ≡ true → outcome (found (Refused Outside)) [] ≡ packedVoxelOutcome bs v
     unfolding firstOf settled

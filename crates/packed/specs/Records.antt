@@ -1,9 +1,9 @@
--- One record as code reads it: the code of a child, the link that the code's struct stands for, and what a link leads to. Definitions only.
+-- One record as code reads it: the code of a child, the pointer that the code's struct stands for, and what a pointer leads to. Definitions only.
 use mathlib.Core.Bool.{Bool, cond, _&&_}
 use Prim.Native.Nat.{ℕ, _/_, _%_, _^_, _<_}
 use lib.Dec.{eqb, ltb}
 use Rattle.paper.specs.Walk.{Child, none, wrong, to}
-use Rattle.paper.specs.Packed.{Link, codesOk, codeFor}
+use Rattle.paper.specs.Packed.{PackedPointer, codesOk, codeFor}
 use Rattle.packed.specs.declared.Pointer.{Pointer}
 use Rattle.packed.specs.declared.Taken.{Taken}
 use Rattle.packed.specs.declared.Taken.the-variants.{None, Wrong, To}
@@ -16,11 +16,11 @@ codeAt i h = h / 4 ^ i % 4
 abbrev pub headerOk : ℕ → Bool
 headerOk h = ltb 0 h && codesOk 8 h
 
-abbrev pub linkIs : Pointer → Link
-linkIs p = record { code = p .code; tag = p .tag; place = p .place }
+abbrev pub pointerIs : Pointer → PackedPointer
+pointerIs p = record { code = p .code; tag = p .tag; place = p .place }
 
--- what a link leads to: wrong where it hasn't the code that its place calls for
-abbrev pub childTo : Link → Child
+-- what a pointer leads to: wrong where it hasn't the code that its place calls for
+abbrev pub childTo : PackedPointer → Child
 childTo q = cond (eqb (q .code) 0) none (cond (eqb (q .code) (codeFor (q .place))) (to (q .tag) (q .place)) wrong)
 
 -- as code answers it

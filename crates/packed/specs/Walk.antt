@@ -10,7 +10,7 @@ use Rattle.paper.specs.Leaf.{leafVoxel}
 use Rattle.paper.specs.Outline.{edge}
 use Rattle.paper.specs.Store.{heights, leafNo}
 use Rattle.paper.specs.Walk.{End, damaged, absent, inLeaf, Walk, Reading, walkIn}
-use Rattle.paper.specs.Packed.{noLink, linksAt, leafAt, recordOk, leafOk}
+use Rattle.paper.specs.Packed.{noPointer, pointersAt, leafAt, recordOk, leafOk}
 use Rattle.paper.specs.declared.Refusal.the-variants.{BrokenRules}
 use Rattle.paper.specs.declared.Found.{Found}
 use Rattle.paper.specs.declared.Found.the-variants.{Refused, Solid, Empty}
@@ -43,7 +43,7 @@ abbrev pub listsReading : (ℕ → List ℕ) → Reading
 listsReading L = record {
   ok = entryIn L;
   leaf = λ p. leafNo (leafAt (L 0) p);
-  child = λ k p i. childTo (getD (linksAt (L (suc k)) p) i noLink);
+  child = λ k p i. childTo (getD (pointersAt (L (suc k)) p) i noPointer);
 }
 
 -- from the top record, seen under m, to v

@@ -7,25 +7,25 @@ ghost use lib.Dec.{T};
 ghost use lib.ListN.{length, drop, getD, replicate};
 ghost use Rattle.paper.specs.Numbers.{num};
 ghost use Rattle.paper.specs.Rooms.{point};
-ghost use Rattle.paper.specs.Outline.{frontOk, lengthOk};
+ghost use Rattle.paper.specs.Outline.{versionOk, lengthOk};
 ghost use Rattle.paper.specs.Store.{leafNo, heights};
-ghost use Rattle.paper.specs.Packed.{packedFront, packedHead, topOf, tailAt, headOk, startsOf, halves, codesOk, headerAt, recordOk, linkOf, linksAt, noLink, codeFor, leafAt, fileWalk};
+ghost use Rattle.paper.specs.Packed.{packedVersion, packedHead, topOf, tailAt, headOk, startsOf, halves, codesOk, headerAt, recordOk, pointerOf, pointersAt, noPointer, codeFor, leafAt, fileWalk};
 ghost use Rattle.paper.specs.Answers.{outcome, found};
 ghost use Rattle.paper.specs.Calls.{packedOutside, packedVoxelOutcome};
 ghost use Rattle.packed.specs.Header.{Tested, Sized, Opens, frontOf, laidStarts};
-ghost use Rattle.packed.specs.Records.{linkIs, headerOk, childIs, childTo, TagLow};
+ghost use Rattle.packed.specs.Records.{pointerIs, headerOk, childIs, childTo, TagLow};
 ghost use Rattle.packed.specs.Walk.{Parts, ending, endingOf, foundAt, leafEnding, partsWalk};
 use limits::CHILDREN;
-use limits::DEPTH_PLACE;
+use limits::DEPTH_POSITION;
 use limits::EMPTY_MARK;
 use limits::FARTHEST_SHORT;
 use limits::HALF_BYTES;
 use limits::LEAF_BYTES;
 use limits::LEAF_HEIGHT;
 use limits::LONG_PLACES;
-use limits::MIRROR_PLACE;
-use limits::PACKED_FRONT;
+use limits::MIRROR_POSITION;
 use limits::PACKED_HEAD;
+use limits::PACKED_VERSION;
 use limits::SHORT_PLACES;
 use numbers::be32;
 use numbers::be64;
@@ -35,8 +35,8 @@ use outline::file_refusal;
 use outline::head_number;
 use paper::Found;
 use paper::Refusal;
+use points::child_number;
 use points::leaf_solid;
-use points::octant;
 use points::outside;
 
 // The starts that a word holds are below this.
@@ -91,7 +91,7 @@ fn point_outside(file: &[u8], x: u32, y: u32, z: u32) -> bool
     requires { ⌜ Tested (now file) ⌝ }
     ensures { λ r. ⌜ r ≡ packedOutside (now (file .entry)) (point x y z) ⌝ }
 {
-    outside(wide(file[DEPTH_PLACE]), x, y, z)
+    outside(wide(file[DEPTH_POSITION]), x, y, z)
 }
 
 // Writes where each list starts, as the sizes say, from the top down; answers where the leaves end. Each size is read once; the
@@ -102,7 +102,7 @@ fn sized_lists(file: &[u8], out: &mut [u32; 15]) -> u64
     ensures { λ r. ⌜ r ≡ frontOf (now (file .entry)) + tailAt (now (file .entry)) (topOf (now (file .entry))) ⌝ }
     ensures { λ r. ⌜ now (out .exit) ≡ laidStarts (now (file .entry)) ⌝ }
 {
-    let top = wide(file[DEPTH_PLACE]) - LEAF_HEIGHT;
+    let top = wide(file[DEPTH_POSITION]) - LEAF_HEIGHT;
     let mut at = PACKED_HEAD;
     let mut start = (PACKED_HEAD + 4 * ((top + 1) as usize)) as u64;
     let mut k = top;
@@ -124,14 +124,14 @@ pub fn lists_bad(file: &[u8], out: &mut [u32; 15]) -> bool
     ensures { λ r. ⌜ r ≡ not (headOk (now (file .entry))) ⌝ }
     ensures { λ r. ⌜ (r ≡ false → now (out .exit) ≡ startsOf (now (file .entry))) ⌝ }
 {
-    let mark = file[MIRROR_PLACE];
+    let mark = file[MIRROR_POSITION];
     if mark == EMPTY_MARK {
         return file.len() != PACKED_HEAD;
     }
     if EMPTY_MARK < mark {
         return true;
     }
-    let lists = wide(file[DEPTH_PLACE]) - 1;
+    let lists = wide(file[DEPTH_POSITION]) - 1;
     if file.len() < PACKED_HEAD + 4 * (lists as usize) {
         return true;
     }
@@ -225,7 +225,7 @@ pub fn width(list: &[u8], place: u32) -> u32
 // The pointer of this code whose bytes begin at a position.
 pub fn pointer_from(list: &[u8], from: usize, code: u32) -> Pointer
     requires { ⌜ (code < 3) × (from + 2 * code ≤ length (now list)) ⌝ }
-    ensures { λ r. ⌜ (linkIs r ≡ linkOf code (num (2 * code) (drop from (now (list .entry))))) × (r .tag < 8) × (r .place < 2 ^ 29) ⌝ }
+    ensures { λ r. ⌜ (pointerIs r ≡ pointerOf code (num (2 * code) (drop from (now (list .entry))))) × (r .tag < 8) × (r .place < 2 ^ 29) ⌝ }
 {
     if code == 0 {
         return Pointer {
@@ -254,7 +254,7 @@ pub fn pointer_from(list: &[u8], from: usize, code: u32) -> Pointer
 pub fn pointer_at(list: &[u8], place: u32, i: u32) -> Pointer
     requires { ⌜ T (recordOk (now list) place) ⌝ }
     requires { ⌜ i < 8 ⌝ }
-    ensures { λ r. ⌜ (linkIs r ≡ getD (linksAt (now (list .entry)) place) i noLink) × (r .tag < 8) ⌝ }
+    ensures { λ r. ⌜ (pointerIs r ≡ getD (pointersAt (now (list .entry)) place) i noPointer) × (r .tag < 8) ⌝ }
 {
     let at = HALF_BYTES * (place as usize);
     let header = two(list, at);
@@ -272,7 +272,7 @@ pub fn code_for(place: u32) -> u32
 // What the pointer of this code whose bytes begin at a position leads to.
 fn child_from(list: &[u8], from: usize, code: u32) -> Taken
     requires { ⌜ (code < 3) × (from + 2 * code ≤ length (now list)) ⌝ }
-    ensures { λ r. ⌜ childIs r ≡ childTo (linkOf code (num (2 * code) (drop from (now (list .entry))))) ⌝ }
+    ensures { λ r. ⌜ childIs r ≡ childTo (pointerOf code (num (2 * code) (drop from (now (list .entry))))) ⌝ }
     ensures { λ r. ⌜ TagLow r ⌝ }
 {
     if code == 0 {
@@ -294,7 +294,7 @@ fn child_from(list: &[u8], from: usize, code: u32) -> Taken
 fn child(list: &[u8], place: u32, i: u32) -> Taken
     requires { ⌜ T (recordOk (now list) place) ⌝ }
     requires { ⌜ i < 8 ⌝ }
-    ensures { λ r. ⌜ childIs r ≡ childTo (getD (linksAt (now (list .entry)) place) i noLink) ⌝ }
+    ensures { λ r. ⌜ childIs r ≡ childTo (getD (pointersAt (now (list .entry)) place) i noPointer) ⌝ }
     ensures { λ r. ⌜ TagLow r ⌝ }
 {
     let at = HALF_BYTES * (place as usize);
@@ -358,7 +358,7 @@ pub fn walk(
             return Ended::Broken;
         }
         records += 1;
-        let taken = child(list, place, octant(k - 1, x, y, z) ^ seen);
+        let taken = child(list, place, child_number(k - 1, x, y, z) ^ seen);
         match taken {
             Taken::None => {
                 return Ended::Absent(k + 1, records);
@@ -401,13 +401,13 @@ fn found_in(file: &[u8], starts: [u32; 15], x: u32, y: u32, z: u32) -> Found
     requires { ⌜ packedOutside (now file) (point x y z) ≡ false ⌝ }
     ensures { λ r. ⌜ r ≡ foundAt (endingOf (fileWalk (now (file .entry)) (point x y z))) ⌝ }
 {
-    let mark = file[MIRROR_PLACE];
+    let mark = file[MIRROR_POSITION];
     if mark == EMPTY_MARK {
         return Found::Empty(0);
     }
     let last = starts[0] as usize;
     let leaves = &file[last..];
-    let top = wide(file[DEPTH_PLACE]) - LEAF_HEIGHT;
+    let top = wide(file[DEPTH_POSITION]) - LEAF_HEIGHT;
     answer(
         walk(file, leaves, starts, top, wide(mark), x, y, z),
         x,
@@ -420,7 +420,7 @@ fn found_in(file: &[u8], starts: [u32; 15], x: u32, y: u32, z: u32) -> Found
 pub fn packed_voxel(file: &[u8], x: u32, y: u32, z: u32) -> Found
     ensures { λ r. ⌜ outcome (found r) [] ≡ packedVoxelOutcome (now (file .entry)) (point x y z) ⌝ }
 {
-    let number = head_number(file, PACKED_FRONT, PACKED_HEAD);
+    let number = head_number(file, PACKED_VERSION, PACKED_HEAD);
     if number != 0 {
         return Found::Refused(file_refusal(number));
     }
@@ -437,7 +437,7 @@ pub fn packed_voxel(file: &[u8], x: u32, y: u32, z: u32) -> Found
 // The same for a file whose header is tested and whose lists start here: refused by 10, 6.
 pub fn voxel_in(file: &[u8], starts: [u32; 15], x: u32, y: u32, z: u32) -> Found
     requires { ⌜ Opens (now file) ⌝ }
-    requires { ⌜ (frontOk packedFront (now file) ≡ true) × (lengthOk packedHead (now file) ≡ true) ⌝ }
+    requires { ⌜ (versionOk packedVersion (now file) ≡ true) × (lengthOk packedHead (now file) ≡ true) ⌝ }
     requires { ⌜ starts ≡ startsOf (now file) ⌝ }
     ensures { λ r. ⌜ outcome (found r) [] ≡ packedVoxelOutcome (now (file .entry)) (point x y z) ⌝ }
 {

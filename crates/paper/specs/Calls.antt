@@ -8,13 +8,13 @@ use lib.Dec.{eqb, leb, ltb}
 use lib.ListN.{length, drop, replicate, set}
 use Rattle.paper.specs.Numbers.{bitFor, sameList}
 use Rattle.paper.specs.Rooms.{Point, depthOk, inside}
-use Rattle.paper.specs.Outline.{outlineFront, outlineHead, longest, outlineOf, frontOk, lengthOk, fileDepth, outlineRules, outlineTree}
+use Rattle.paper.specs.Outline.{outlineVersion, outlineHead, longest, outlineOf, versionOk, lengthOk, fileDepth, outlineRules, outlineTree}
 use Rattle.paper.specs.Store.{Cell, Store, mostScenes, used, capacityOf, scenesHeld, isHeld, keptCount, capacityOk, keptOf, storeOf, wordsOf, sceneDepth, sceneRoot, headerOk, sceneOk, storeOk}
 use Rattle.paper.specs.Meaning.{rootRoom}
 use Rattle.paper.specs.Match.{Adding, full, added, addTree}
 use Rattle.paper.specs.Walk.{isDamaged, solidAt}
-use Rattle.paper.specs.Questions.{voxelWalk, cellFull, cellWay, boxSolid, boxWay}
-use Rattle.paper.specs.Packed.{packedFront, packedHead, headOk, packedRules, fileWalk, startsOf}
+use Rattle.paper.specs.Questions.{voxelWalk, cellNonEmpty, cellWalkDamaged, boxSolid, boxWalkDamaged}
+use Rattle.paper.specs.Packed.{packedVersion, packedHead, headOk, packedRules, fileWalk, startsOf}
 use Rattle.paper.specs.Pack.{packedFile}
 use Rattle.paper.specs.Answers.{Outcome}
 use Rattle.paper.specs.Order.{Test, when, firstOf, settled}
@@ -74,7 +74,7 @@ cellsFull ws file = isFull (adding ws file)
 -- the refusals of a file by itself: 3,4,5,6
 abbrev pub outlineOrder : List ℕ → List Test
 outlineOrder file =
-    when (not (frontOk outlineFront file)) 3 ∷ when (not (lengthOk outlineHead file)) 4
+    when (not (versionOk outlineVersion file)) 3 ∷ when (not (lengthOk outlineHead file)) 4
     ∷ when (not (depthOk (fileDepth file))) 5 ∷ when (not (outlineRules file)) 6 ∷ []
 
 -- the order ('Add:')
@@ -130,11 +130,11 @@ unfoldable pub cellOutside : List ℕ → ℕ → ℕ → Point → Bool
 cellOutside ws n h c = not (leb h (sceneDepth ws n)) || not (inside (2 ^ (sceneDepth ws n - h)) c)
 
 unfoldable pub cellDamaged : List ℕ → ℕ → ℕ → Point → Bool
-cellDamaged ws n h c = ofScene cellWay ws n h c
+cellDamaged ws n h c = ofScene cellWalkDamaged ws n h c
 
 unfoldable pub cellOutcome : List ℕ → ℕ → ℕ → Point → Outcome
 cellOutcome ws n h c =
-    let value : ℕ = bitFor (ofScene cellFull ws n h c) in
+    let value : ℕ = bitFor (ofScene cellNonEmpty ws n h c) in
     settled (firstOf (questionOrder ws n (cellOutside ws n h c) (cellDamaged ws n h c))) (value ∷ []) [] []
 
 -- on one axis: low is above high, or high past the edge
@@ -147,7 +147,7 @@ boxOutside ws n low high =
     || axisOutside (2 ^ sceneDepth ws n) (low .z) (high .z)
 
 unfoldable pub boxDamaged : List ℕ → ℕ → Point → Point → Bool
-boxDamaged ws n low high = ofScene boxWay ws n low high
+boxDamaged ws n low high = ofScene boxWalkDamaged ws n low high
 
 unfoldable pub boxOutcome : List ℕ → ℕ → Point → Point → Outcome
 boxOutcome ws n low high =
@@ -221,7 +221,7 @@ packOutcome ws n scratch out =
 -- the refusals of a packed file before its rules: 3,4,5
 abbrev pub packedOrder : List ℕ → List Test → List Test
 packedOrder file rest =
-    when (not (frontOk packedFront file)) 3 ∷ when (not (lengthOk packedHead file)) 4 ∷ when (not (depthOk (fileDepth file))) 5 ∷ rest
+    when (not (versionOk packedVersion file)) 3 ∷ when (not (lengthOk packedHead file)) 4 ∷ when (not (depthOk (fileDepth file))) 5 ∷ rest
 
 -- the order ('Packed check:'); the scratch is too short where it is shorter than the file
 abbrev pub checkOrder : List ℕ → List ℕ → List Test

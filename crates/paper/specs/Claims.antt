@@ -166,7 +166,7 @@ pointerAt file k n i = getD (cellAt (graphOf file) (suc k) n) i 0
 -- a proper file that isn't empty, by voxels
 pub record RecordsDiffer (file : List ℕ) : Type 0 where
   -- each record has a solid voxel
-  pub full : (k q : ℕ) → q < recordsAt file k → NonEmpty (edge k) (recordRoom file k q)
+  pub non-empty : (k q : ℕ) → q < recordsAt file k → NonEmpty (edge k) (recordRoom file k q)
   -- no two of one height are images
   pub apart : (k q r : ℕ) → r < q → q < recordsAt file k → ¬ Image (edge k) (recordRoom file k q) (recordRoom file k r)
   -- a lower tag gives other voxels

@@ -16,10 +16,10 @@ abbrev pub edge : ℕ → ℕ
 edge k = 2 ^ suc (suc k)
 
 -- the version byte ('Byte 0')
-abbrev pub outlineFront : ℕ
-outlineFront = 0x11
+abbrev pub outlineVersion : ℕ
+outlineVersion = 0x11
 
--- the header: front byte, length, depth
+-- the head: version byte, length, depth
 abbrev pub outlineHead : ℕ
 outlineHead = 6
 
@@ -34,18 +34,18 @@ abbrev pub childOf : ℕ → Room → ℕ → Room
 childOf k r i = childRoom (edge k) i r
 
 -- is it non-empty
-abbrev pub childFull : ℕ → Room → ℕ → Bool
-childFull k r i = nonEmpty (edge k) (childOf k r i)
+abbrev pub childNonEmpty : ℕ → Room → ℕ → Bool
+childNonEmpty k r i = nonEmpty (edge k) (childOf k r i)
 
 -- which children are non-empty, a bit for each, child 0 lowest ('a mask byte')
 abbrev pub maskOf : ℕ → Room → ℕ
-maskOf k r = gather 0 8 (λ i. bitFor (childFull k r i))
+maskOf k r = gather 0 8 (λ i. bitFor (childNonEmpty k r i))
 
 -- the record of a non-empty cell of height k + 2: a leaf's number ('A leaf's record'); of any other the mask, then the records of the non-empty
 -- children in turn ('Any other record')
 unfoldable pub recordOf : ℕ → Room → List ℕ
 recordOf zero r = bytes 8 (leafOf r)
-recordOf (suc k) r = maskOf k r ∷ flatten (tabulate 0 8 (λ i. let b = recordOf k (childOf k r i) in cond (childFull k r i) b []))
+recordOf (suc k) r = maskOf k r ∷ flatten (tabulate 0 8 (λ i. let b = recordOf k (childOf k r i) in cond (childNonEmpty k r i) b []))
 
 -- the root's record; an empty room has none
 unfoldable pub rootRecord : ℕ → Room → List ℕ
@@ -53,7 +53,7 @@ rootRecord D r = let b = recordOf (D - 2) r in cond (nonEmpty (2 ^ D) r) b []
 
 -- the outline of a room of depth D
 unfoldable pub outlineOf : ℕ → Room → List ℕ
-outlineOf D r = outlineFront ∷ bytes 4 (outlineHead + length (rootRecord D r)) ++ (D ∷ rootRecord D r)
+outlineOf D r = outlineVersion ∷ bytes 4 (outlineHead + length (rootRecord D r)) ++ (D ∷ rootRecord D r)
 
 -- these bytes are the outline of the room r of depth D
 pub record IsOutline (bs : List ℕ) (D : ℕ) (r : Room) : Type 0 where
@@ -126,8 +126,8 @@ treeRead (ok t bs) = t
 -- ---- a file's parts and tests; both kinds of file begin alike
 
 -- refusal 3 is given where this fails: there is a first byte and it is v
-abbrev pub frontOk : ℕ → List ℕ → Bool
-frontOk v bs = ltb 0 (length bs) && eqb (getD bs 0 0) v
+abbrev pub versionOk : ℕ → List ℕ → Bool
+versionOk v bs = ltb 0 (length bs) && eqb (getD bs 0 0) v
 
 -- refusal 4 is given where this fails: at least n bytes, and the length that the file states ('length field') is its own
 abbrev pub lengthOk : ℕ → List ℕ → Bool

@@ -7,7 +7,7 @@ use lib.Dec.{eqb}
 use lib.ListN.{length, getD}
 use Rattle.paper.specs.Numbers.{bytes, flatten, count, tabulate, indexIn}
 use Rattle.paper.specs.Store.{Cell, heights, cellsAt, cellAt, tagOf, cellNo, pointer}
-use Rattle.paper.specs.Packed.{packedFront, packedHead, emptyMark, codeFor, mostWeight, popularity}
+use Rattle.paper.specs.Packed.{packedVersion, packedHead, emptyMark, codeFor, mostWeight, popularity}
 
 -- ---- a graph's bytes
 
@@ -75,11 +75,11 @@ body K (suc k) = listBytes K (suc k) ++ body K k
 unfoldable pub layout : ℕ → ℕ → List (List Cell) → List ℕ
 layout k m K =
     let tail : List ℕ = sizeBytes K k ++ body K k in
-    packedFront ∷ bytes 4 (packedHead + length tail) ++ (suc (suc k) ∷ m ∷ tail)
+    packedVersion ∷ bytes 4 (packedHead + length tail) ++ (suc (suc k) ∷ m ∷ tail)
 
 -- the 7 bytes of an empty scene
 unfoldable pub emptyFile : ℕ → List ℕ
-emptyFile D = packedFront ∷ bytes 4 packedHead ++ (D ∷ emptyMark ∷ [])
+emptyFile D = packedVersion ∷ bytes 4 packedHead ++ (D ∷ emptyMark ∷ [])
 
 -- the most bytes of a record: header and eight long pointers
 abbrev pub mostRecord : ℕ
@@ -106,9 +106,9 @@ unfoldable pub next : List (List Cell) → ℕ → List ℕ → List ℕ
 next K k ns = ordered (popularity (map (cellAt K (suc k)) ns)) (mostWeight * length ns) (length (cellsAt K k))
 
 -- the cells under those numbered ns of list k ('reachable'): the numbers in list j
-unfoldable pub reached : List (List Cell) → ℕ → List ℕ → ℕ → List ℕ
-reached K zero ns j = ns
-reached K (suc k) ns j = let r = reached K k (next K k ns) j in cond (eqb j (suc k)) ns r
+unfoldable pub reachable : List (List Cell) → ℕ → List ℕ → ℕ → List ℕ
+reachable K zero ns j = ns
+reachable K (suc k) ns j = let r = reachable K k (next K k ns) j in cond (eqb j (suc k)) ns r
 
 -- a pointer by the number in the packed list; ns: the store's numbers in that order
 unfoldable pub renumber : List ℕ → ℕ → ℕ
@@ -121,7 +121,7 @@ listFor K N (suc j) = map (λ q. map (renumber (N j)) (cellAt K (suc j) q)) (N (
 
 -- the graph under root p of list k
 unfoldable pub sceneGraph : List (List Cell) → ℕ → ℕ → List (List Cell)
-sceneGraph K k p = tabulate 0 (suc k) (listFor K (reached K k (cellNo p ∷ [])))
+sceneGraph K k p = tabulate 0 (suc k) (listFor K (reachable K k (cellNo p ∷ [])))
 
 -- the packed file of the scene of depth D with root p
 unfoldable pub packedFile : List (List Cell) → ℕ → ℕ → List ℕ

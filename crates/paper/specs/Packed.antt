@@ -11,20 +11,20 @@ use lib.Bits.{bitXor}
 use lib.ListN.{length, take, drop, getD, replicate}
 use Rattle.paper.specs.Numbers.{allBelow, num, count, tabulate, allIn, isIn, indexIn}
 use Rattle.paper.specs.Rooms.{Point, Room, mirror, depthOk}
-use Rattle.paper.specs.Outline.{fileDepth, frontOk, lengthOk}
+use Rattle.paper.specs.Outline.{fileDepth, versionOk, lengthOk}
 use Rattle.paper.specs.Store.{Cell, heights, cellsAt, cellAt, leafNo, tagOf, cellNo, pointer}
 use Rattle.paper.specs.Meaning.{cellVoxel}
 use Rattle.paper.specs.Match.{matches}
 use Rattle.paper.specs.Walk.{Child, none, wrong, to, Reading, Walk, unless, rootWalk}
 use Rattle.paper.specs.Questions.{graphReading}
 
--- ---- the header
+-- ---- the head
 
 -- the version byte ('Byte 0')
-abbrev pub packedFront : ℕ
-packedFront = 0x21
+abbrev pub packedVersion : ℕ
+packedVersion = 0x21
 
--- the bytes before the sizes: front byte, length, depth, the root's mirror
+-- the bytes before the sizes: version byte, length, depth, the root's mirror
 abbrev pub packedHead : ℕ
 packedHead = 7
 
@@ -77,25 +77,25 @@ codesOk zero h = true
 codesOk (suc n) h = let r = codesOk n (h / 4) in cond (eqb (h % 4) 3) false r
 
 -- a pointer with its code ('three mirror bits'): the tag on top, the place in the bits below it
-pub record Link : Type 0 where
+pub record PackedPointer : Type 0 where
   pub code : ℕ
   pub tag : ℕ
   pub place : ℕ
 
 -- of code c, read as the number v
-abbrev pub linkOf : ℕ → ℕ → Link
-linkOf c v = record { code = c; tag = v / 2 ^ (16 * c - 3); place = v % 2 ^ (16 * c - 3) }
+abbrev pub pointerOf : ℕ → ℕ → PackedPointer
+pointerOf c v = record { code = c; tag = v / 2 ^ (16 * c - 3); place = v % 2 ^ (16 * c - 3) }
 
-abbrev pub noLink : Link
-noLink = record { code = 0; tag = 0; place = 0 }
+abbrev pub noPointer : PackedPointer
+noPointer = record { code = 0; tag = 0; place = 0 }
 
 -- the pointers of n children in turn ('then the pointers'), with the codes of h
-unfoldable pub readLinks : ℕ → ℕ → List ℕ → List Link
-readLinks zero h bs = []
-readLinks (suc n) h bs = linkOf (h % 4) (num (2 * (h % 4)) bs) ∷ readLinks n (h / 4) (drop (2 * (h % 4)) bs)
+unfoldable pub readPointers : ℕ → ℕ → List ℕ → List PackedPointer
+readPointers zero h bs = []
+readPointers (suc n) h bs = pointerOf (h % 4) (num (2 * (h % 4)) bs) ∷ readPointers n (h / 4) (drop (2 * (h % 4)) bs)
 
-unfoldable pub linksAt : List ℕ → ℕ → List Link
-linksAt l p = readLinks 8 (headerAt l p) (drop (2 * p + 2) l)
+unfoldable pub pointersAt : List ℕ → ℕ → List PackedPointer
+pointersAt l p = readPointers 8 (headerAt l p) (drop (2 * p + 2) l)
 
 -- leaf p: its two words, high first
 unfoldable pub leafAt : List ℕ → ℕ → Cell
@@ -130,12 +130,12 @@ placesAt bs (suc k) = startsFrom (listAt bs (suc k)) (sizeAt bs (suc k)) 0
 
 -- a pointer by the number of the record that it names; ps: where those start. Where rules 1 to 4 hold the number plus 1 is below 2^29: an inner
 -- record takes two half-words at least and its place is below 2^29, and a file has less than 2^29 leaves
-abbrev pub byNumber : List ℕ → Link → ℕ
+abbrev pub byNumber : List ℕ → PackedPointer → ℕ
 byNumber ps l = cond (eqb (l .code) 0) 0 (pointer (l .tag) (indexIn (l .place) ps))
 
 unfoldable pub cellsOf : List ℕ → ℕ → List Cell
 cellsOf bs zero = map (leafAt (listAt bs 0)) (placesAt bs 0)
-cellsOf bs (suc k) = map (λ p. map (byNumber (placesAt bs k)) (linksAt (listAt bs (suc k)) p)) (placesAt bs (suc k))
+cellsOf bs (suc k) = map (λ p. map (byNumber (placesAt bs k)) (pointersAt (listAt bs (suc k)) p)) (placesAt bs (suc k))
 
 -- leaves first
 unfoldable pub graphOf : List ℕ → List (List Cell)
@@ -158,11 +158,11 @@ wholeAt bs (suc k) = allIn (recordOk (listAt bs (suc k))) (placesAt bs (suc k))
 
 -- 4 ('names the start'): each pointer of list k + 1 leads to one of the places ps, where the records of list k start, and has the code that its
 -- place calls for
-unfoldable pub linkOk : List ℕ → Link → Bool
-linkOk ps l = cond (eqb (l .code) 0) true (isIn (l .place) ps && eqb (l .code) (codeFor (l .place)))
+unfoldable pub packedPointerOk : List ℕ → PackedPointer → Bool
+packedPointerOk ps l = cond (eqb (l .code) 0) true (isIn (l .place) ps && eqb (l .code) (codeFor (l .place)))
 
-unfoldable pub linksOk : List ℕ → ℕ → Bool
-linksOk bs k = allIn (λ p. allIn (linkOk (placesAt bs k)) (linksAt (listAt bs (suc k)) p)) (placesAt bs (suc k))
+unfoldable pub packedPointersOk : List ℕ → ℕ → Bool
+packedPointersOk bs k = allIn (λ p. allIn (packedPointerOk (placesAt bs k)) (pointersAt (listAt bs (suc k)) p)) (placesAt bs (suc k))
 
 -- does the cell name number q
 unfoldable pub names : ℕ → Cell → Bool
@@ -208,7 +208,7 @@ fallingOk K k =
 
 -- rules 2 to 4, on the bytes
 unfoldable pub listsOk : List ℕ → Bool
-listsOk bs = topOk bs && allBelow (suc (topOf bs)) (wholeAt bs) && allBelow (topOf bs) (linksOk bs)
+listsOk bs = topOk bs && allBelow (suc (topOf bs)) (wholeAt bs) && allBelow (topOf bs) (packedPointersOk bs)
 
 -- rules 5 to 8, on a graph; k the top and m the root's mirror
 unfoldable pub graphOk : ℕ → ℕ → List (List Cell) → Bool
@@ -230,7 +230,7 @@ packedRules bs =
 
 -- a proper file ('is proper when'): nothing in it that refusals 3 to 6 speak of. An empty scene's file, which has no list, is proper
 unfoldable pub proper : List ℕ → Bool
-proper bs = frontOk packedFront bs && lengthOk packedHead bs && depthOk (fileDepth bs) && packedRules bs
+proper bs = versionOk packedVersion bs && lengthOk packedHead bs && depthOk (fileDepth bs) && packedRules bs
 
 -- ---- the room that a proper file means, by coordinates, and the path to a voxel
 
@@ -255,8 +255,8 @@ packedPath bs v = length (rootWalk (graphReading (graphOf bs)) (fileDepth bs) (r
 -- ---- the walk of a packed voxel question, on any bytes
 
 -- what a pointer of list k + 1 leads to: wrong where it leads past list k, or hasn't the code that its place calls for
-unfoldable pub linkTo : List ℕ → ℕ → Link → Child
-linkTo bs k l = cond (eqb (l .code) 0) none (cond (ltb (l .place) (sizeAt bs k) && eqb (l .code) (codeFor (l .place))) (to (l .tag) (l .place)) wrong)
+unfoldable pub packedChild : List ℕ → ℕ → PackedPointer → Child
+packedChild bs k l = cond (eqb (l .code) 0) none (cond (ltb (l .place) (sizeAt bs k) && eqb (l .code) (codeFor (l .place))) (to (l .tag) (l .place)) wrong)
 
 -- the tests on entering place p of list k
 abbrev pub entryOk : List ℕ → ℕ → ℕ → Bool
@@ -268,7 +268,7 @@ abbrev pub fileReading : List ℕ → Reading
 fileReading bs = record {
   ok = entryOk bs;
   leaf = λ p. leafNo (leafAt (listAt bs 0) p);
-  child = λ k p i. linkTo bs k (getD (linksAt (listAt bs (suc k)) p) i noLink);
+  child = λ k p i. packedChild bs k (getD (pointersAt (listAt bs (suc k)) p) i noPointer);
 }
 
 -- from the root; an empty scene reads nothing

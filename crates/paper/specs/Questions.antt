@@ -49,11 +49,11 @@ inBelow k p v = mirror (tagOf p) (edge k) (inChild (edge k) v)
 
 -- cell ('of a cell entered'): one of the cells entered has a bad pointer. Cells above list `stop` are entered: those above the one asked for
 -- ('stops above')
-unfoldable pub wayDamaged : List (List Cell) → ℕ → ℕ → Cell → Point → Bool
-wayDamaged K stop zero c v = false
-wayDamaged K stop (suc k) c v =
+unfoldable pub walkDamaged : List (List Cell) → ℕ → ℕ → Cell → Point → Bool
+walkDamaged K stop zero c v = false
+walkDamaged K stop (suc k) c v =
     let p : ℕ = taken k c v in
-    let r : Bool = wayDamaged K stop k (below K k p) (inBelow k p v) in
+    let r : Bool = walkDamaged K stop k (below K k p) (inBelow k p v) in
     let here : Bool = cond (anyBad (length (cellsAt K k)) c) true (cond (eqb p 0) false r) in
     cond (leb (suc k) stop) false here
 
@@ -68,7 +68,7 @@ takenBad K (suc k) c v =
 
 -- from the root of depth D: an absent root enters nothing
 abbrev pub fromRoot : (ℕ → Cell → Point → Bool) → List (List Cell) → ℕ → ℕ → Point → Bool
-fromRoot way K D p v = let r = way (D - 2) (below K (D - 2) p) (mirror (tagOf p) (2 ^ D) v) in cond (eqb p 0) false r
+fromRoot test K D p v = let r = test (D - 2) (below K (D - 2) p) (mirror (tagOf p) (2 ^ D) v) in cond (eqb p 0) false r
 
 -- ---- the answers
 
@@ -85,18 +85,18 @@ abbrev pub corner : ℕ → Point → Point
 corner h c = point (c .x * 2 ^ h) (c .y * 2 ^ h) (c .z * 2 ^ h)
 
 -- cell ('pointer or bits'): from height 2 up it is non-empty where there is a pointer to it, below that where the leaf has a solid voxel in it
-unfoldable pub cellFull : List (List Cell) → ℕ → ℕ → ℕ → Point → Bool
-cellFull K D p h c =
+unfoldable pub cellNonEmpty : List (List Cell) → ℕ → ℕ → ℕ → Point → Bool
+cellNonEmpty K D p h c =
     let bits : Bool = nonEmpty (2 ^ h) (cellOf (rootRoom K D p) h c) in
     let named : Bool = not (eqb (pointerTo K (h - 2) (D - 2) p (corner h c)) 0) in
     cond (leb 2 h) named bits
 
-abbrev pub cellWay : List (List Cell) → ℕ → ℕ → ℕ → Point → Bool
-cellWay K D p h c = fromRoot (wayDamaged K (h - 2)) K D p (corner h c)
+abbrev pub cellWalkDamaged : List (List Cell) → ℕ → ℕ → ℕ → Point → Bool
+cellWalkDamaged K D p h c = fromRoot (walkDamaged K (h - 2)) K D p (corner h c)
 
 -- box: how many of its voxels are solid
 abbrev pub boxSolid : List (List Cell) → ℕ → ℕ → Point → Point → ℕ
 boxSolid K D p low high = boxCount (2 ^ D) (rootRoom K D p) low high
 
-unfoldable pub boxWay : List (List Cell) → ℕ → ℕ → Point → Point → Bool
-boxWay K D p low high = ltb 0 (boxCount (2 ^ D) (fromRoot (takenBad K) K D p) low high)
+unfoldable pub boxWalkDamaged : List (List Cell) → ℕ → ℕ → Point → Point → Bool
+boxWalkDamaged K D p low high = ltb 0 (boxCount (2 ^ D) (fromRoot (takenBad K) K D p) low high)

@@ -181,7 +181,7 @@ pub record Occurs (held : Held) (h : ℕ) (c : Room) : Type 0 where
 -- cells of height h, each occurring, non-empty, no two of them images
 pub record Differing (held : Held) (h : ℕ) (cs : List Room) : Type 0 where
   pub occur : (i : ℕ) → i < length cs → Occurs held h (getD cs i (λ v. false))
-  pub full : (i : ℕ) → i < length cs → NonEmpty (2 ^ h) (getD cs i (λ v. false))
+  pub non-empty : (i : ℕ) → i < length cs → NonEmpty (2 ^ h) (getD cs i (λ v. false))
   pub apart : (i j : ℕ) → i < j → j < length cs → ¬ Image (2 ^ h) (getD cs i (λ v. false)) (getD cs j (λ v. false))
 
 -- at some height from 2 up there are more than C of them

@@ -75,8 +75,8 @@ halfOf m = fin false m (negsuc 0)
 abbrev pub widest : Float → List ℕ
 widest e = answer (detailOutcome 6 (WidestEdge e))
 
-abbrev pub sight : Float → Float → List ℕ
-sight d f = answer (detailOutcome 6 (Distance (record { distance = d; factor = f })))
+abbrev pub distant : Float → Float → List ℕ
+distant d f = answer (detailOutcome 6 (Distance (record { distance = d; factor = f })))
 
 -- is leaf 0x8001 matched by itself under t
 abbrev pub ownMirror : ℕ → ℕ
@@ -129,8 +129,8 @@ s10-s11 =
     widest (whole 1 3) is (0 ∷ 3 ∷ [])
     ∷ widest (halfOf 15) is (0 ∷ 2 ∷ [])
     ∷ widest (halfOf 1) is (13 ∷ 0 ∷ [])
-    ∷ sight (whole 5 1) (halfOf 5) is (0 ∷ 2 ∷ [])
-    ∷ sight (whole 5 1) (whole 3 0) is (0 ∷ 1 ∷ [])
+    ∷ distant (whole 5 1) (halfOf 5) is (0 ∷ 2 ∷ [])
+    ∷ distant (whole 5 1) (whole 3 0) is (0 ∷ 1 ∷ [])
     ∷ []
 
 -- accepted; its scene's two words: depth 2, no root; nothing solid

@@ -72,7 +72,7 @@ heights = 15
 abbrev pub firstScene : ℕ
 firstScene = 32
 
--- the header ('Word 0'): the capacity, the number of scenes held, how many cells each height keeps, and from `zerosPlace` on nothing
+-- the header ('Word 0'): the capacity, the number of scenes held, how many cells each height keeps, and from `zerosPosition` on nothing
 abbrev pub capacityOf : List ℕ → ℕ
 capacityOf ws = getD ws 0 0
 
@@ -86,15 +86,15 @@ isHeld ws n = ltb n (scenesHeld ws)
 abbrev pub keptCount : List ℕ → ℕ → ℕ
 keptCount ws k = getD ws (2 + k) 0
 
-abbrev pub zerosPlace : ℕ
-zerosPlace = 17
+abbrev pub zerosPosition : ℕ
+zerosPosition = 17
 
 -- how many words a scene has, and where those of scene n are ('64 scenes of two'), its depth first, then its root pointer
 abbrev pub sceneWords : ℕ
 sceneWords = 2
 
-abbrev pub scenePlace : ℕ → ℕ
-scenePlace n = firstScene + sceneWords * n
+abbrev pub scenePosition : ℕ → ℕ
+scenePosition n = firstScene + sceneWords * n
 
 -- the words of a cell of list k: a leaf two, any other eight pointers
 abbrev pub cellLength : ℕ → ℕ
@@ -109,18 +109,18 @@ stride (suc k) = 8
 -- the lists ('Then C leaves'), lowest height first, each with room for C cells: where list k starts, where its cell n does. All lists above the
 -- leaves have one stride.
 abbrev pub firstList : ℕ
-firstList = scenePlace mostScenes
+firstList = scenePosition mostScenes
 
-abbrev pub listPlace : ℕ → ℕ → ℕ
-listPlace C zero = firstList
-listPlace C (suc k) = firstList + stride 0 * C + stride 1 * C * k
+abbrev pub listPosition : ℕ → ℕ → ℕ
+listPosition C zero = firstList
+listPosition C (suc k) = firstList + stride 0 * C + stride 1 * C * k
 
-abbrev pub cellPlace : ℕ → ℕ → ℕ → ℕ
-cellPlace C k n = listPlace C k + stride k * n
+abbrev pub cellPosition : ℕ → ℕ → ℕ → ℕ
+cellPosition C k n = listPosition C k + stride k * n
 
 -- how many words a store of capacity C has ('uses the first'): up to where a list after the last would start
 abbrev pub used : ℕ → ℕ
-used C = listPlace C heights
+used C = listPosition C heights
 
 -- ---- from words to cells
 
@@ -130,7 +130,7 @@ groups s w zero l = []
 groups s w (suc n) l = take w l ∷ groups s w n (drop s l)
 
 unfoldable pub keptIn : List ℕ → ℕ → List Cell
-keptIn ws k = groups (stride k) (cellLength k) (keptCount ws k) (drop (listPlace (capacityOf ws) k) ws)
+keptIn ws k = groups (stride k) (cellLength k) (keptCount ws k) (drop (listPosition (capacityOf ws) k) ws)
 
 unfoldable pub keptOf : List ℕ → List (List Cell)
 keptOf ws = tabulate 0 heights (keptIn ws)
@@ -145,10 +145,10 @@ storeOf ws = record {
 
 -- a scene's two words
 abbrev pub sceneDepth : List ℕ → ℕ → ℕ
-sceneDepth ws n = getD ws (scenePlace n) 0
+sceneDepth ws n = getD ws (scenePosition n) 0
 
 abbrev pub sceneRoot : List ℕ → ℕ → ℕ
-sceneRoot ws n = getD ws (scenePlace n + 1) 0
+sceneRoot ws n = getD ws (scenePosition n + 1) 0
 
 -- ---- from cells to words
 
@@ -202,7 +202,7 @@ capacityOk C = leb 1 C && leb C mostCapacity
 unfoldable pub headerOk : List ℕ → Bool
 headerOk ws =
     leb (used (capacityOf ws)) (length ws) && capacityOk (capacityOf ws) && leb (scenesHeld ws) mostScenes
-    && allBelow heights (λ k. leb (keptCount ws k) (capacityOf ws)) && blank ws zerosPlace (firstScene - zerosPlace)
+    && allBelow heights (λ k. leb (keptCount ws k) (capacityOf ws)) && blank ws zerosPosition (firstScene - zerosPosition)
 
 -- the two words of scene n are not damaged ('Scene:')
 unfoldable pub sceneOk : List ℕ → ℕ → Bool
@@ -230,7 +230,7 @@ listUsable K (suc k) = allIn (cellUsable (length (cellsAt K k))) (cellsAt K (suc
 -- nothing stands past the cells kept in list k
 abbrev pub listBlank : List ℕ → ℕ → Bool
 listBlank ws k =
-    blank ws (cellPlace (capacityOf ws) k (keptCount ws k)) (stride k * (capacityOf ws - keptCount ws k))
+    blank ws (cellPosition (capacityOf ws) k (keptCount ws k)) (stride k * (capacityOf ws - keptCount ws k))
 
 -- the whole store is not damaged ('for the whole store'): its header, every place of a scene, every kept cell, and nothing where nothing is kept
 unfoldable pub storeOk : List ℕ → Bool

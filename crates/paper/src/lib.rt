@@ -308,7 +308,7 @@ impl Found {
 }
 
 // A distance with the factor that goes with it.
-pub struct Sight {
+pub struct DistanceFactor {
     pub distance: f64,
     pub factor: f64,
 }
@@ -317,7 +317,7 @@ pub struct Sight {
 pub enum Wish {
     EveryVoxel,
     WidestEdge(f64),
-    Distance(Sight),
+    Distance(DistanceFactor),
 }
 
 // Detail: the height at which to draw.

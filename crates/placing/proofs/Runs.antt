@@ -11,7 +11,7 @@ use lib.Seq.{drop-cons, drop-length}
 use borrow.Author.Tests.{ne-eqb}
 use Rattle.paper.specs.Store.{Cell, heights, capacityOf, keptCount, keptOf, cellAt, storeOk}
 use Rattle.paper.specs.Pack.{width}
-use Rattle.laws.proofs.Undamaged.{headed, store-header}
+use Rattle.laws.proofs.Undamaged.{fine-header, store-header}
 use Rattle.laws.proofs.StoreFacts.{cell-sound, cell-names}
 use Rattle.numbers.specs.Laid.{reached}
 use Rattle.scratch.specs.Parts.{orders, places, buckets, wordIn, withWord, Only, OnlyPart, orderIn, placesIn}
@@ -25,7 +25,7 @@ use Rattle.placing.proofs.Placings.{words, placing-only}
 pub cell-below : (ws : List ℕ) → T (storeOk ws) → (k q : ℕ) → (k ≡ 0 → ⊥) → k < heights → q < keptCount ws k → Below (capacityOf ws) (cellAt (keptOf ws) k q)
 cell-below ws ok zero q z hk hq = absurd (z refl)
 cell-below ws ok (suc k) q z hk hq = λ i h n.
-    let few : keptCount ws k ≤ capacityOf ws = headed ws (store-header ws ok) .few k (omega arith) in
+    let few : keptCount ws k ≤ capacityOf ws = fine-header ws (store-header ws ok) .few k (omega arith) in
     omega (arith, cell-names (keptCount ws k) (cellAt (keptOf ws) (suc k) q) (cell-sound ws ok k q hk hq) i h (ne-eqb (getD (cellAt (keptOf ws) (suc k) q) i 0) 0 n))
 
 pub span-leaf : (K : List (List Cell)) (C k : ℕ) (s : List ℕ) (q : ℕ) → k ≡ 0 → 1 ≡ span K C k s q
@@ -118,7 +118,7 @@ kept-still ws k n s s′ h r o = record {
 
 -- and below the capacity
 pub kept-below : (ws : List ℕ) (k n : ℕ) (s : List ℕ) → T (storeOk ws) → k < heights → Kept ws k n s → (i : ℕ) → i < n → wordIn (capacityOf ws) (orders k) s i < capacityOf ws
-kept-below ws k n s ok h r i l = omega (arith, r .kept i l, headed ws (store-header ws ok) .few k h)
+kept-below ws k n s ok h r i l = omega (arith, r .kept i l, fine-header ws (store-header ws ok) .few k h)
 
 module _ (K : List (List Cell)) (C : ℕ) (counts : List ℕ) (top : ℕ) (s₀ : List ℕ) where
   -- the first k lists are placed

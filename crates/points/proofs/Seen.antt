@@ -15,7 +15,7 @@ use Rattle.laws.proofs.Eight.{xor8-lt}
 use Rattle.laws.proofs.Matching.{tag-lt}
 use Rattle.laws.proofs.OutlineWriting.{edge-twice}
 use Rattle.laws.proofs.Mirrors.{mirror-mirror, childNo-mirror, inChild-mirror}
-use Rattle.points.specs.Seeing.{octant, seenAt}
+use Rattle.points.specs.Seeing.{childNoAt, seenAt}
 
 -- ---- one coordinate reduced twice
 
@@ -44,7 +44,7 @@ pub edge-pos : (k : ℕ) → 0 < edge k
 edge-pos k = pow-pos (suc (suc k))
 
 -- the child that holds it
-pub child-seen : (k m : ℕ) (v : Point) → m < 8 → childNo (edge k) (seenAt (suc k) m v) ≡ bitXor (octant k v) m
+pub child-seen : (k m : ℕ) (v : Point) → m < 8 → childNo (edge k) (seenAt (suc k) m v) ≡ bitXor (childNoAt k v) m
 child-seen k m v hm =
     ap (λ (E : ℕ). childNo (edge k) (mirror m E (inChild E v))) (edge-twice k)
     ∙ childNo-mirror m (edge k) (inChild (2 * edge k) v) hm (reduced-inside (2 * edge k) v (two-pos (edge k) (edge-pos k)))

@@ -5,8 +5,8 @@ use Rattle.paper.specs.Rooms.{Point, mirror, inChild}
 use Rattle.paper.specs.Outline.{edge}
 
 -- which child of a cell of list k + 1 holds v, as the room shows them
-abbrev pub octant : ℕ → Point → ℕ
-octant k v = v .x / edge k % 2 + 2 * (v .y / edge k % 2) + 4 * (v .z / edge k % 2)
+abbrev pub childNoAt : ℕ → Point → ℕ
+childNoAt k v = v .x / edge k % 2 + 2 * (v .y / edge k % 2) + 4 * (v .z / edge k % 2)
 
 -- v in the cell of list k that holds it, seen under mirror m
 abbrev pub seenAt : ℕ → ℕ → Point → Point

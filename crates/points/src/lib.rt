@@ -7,7 +7,7 @@ ghost use lib.Dec.{eqb};
 ghost use Rattle.paper.specs.Rooms.{deepest, depthOk, flip, inside, point};
 ghost use Rattle.paper.specs.Leaf.{leafVoxel};
 ghost use Rattle.paper.specs.Store.{heights};
-ghost use Rattle.points.specs.Seeing.{octant as octant-of, seenAt};
+ghost use Rattle.points.specs.Seeing.{childNoAt, seenAt};
 use limits::DEEPEST;
 use limits::LEAF_HEIGHT;
 use limits::LEAST_DEPTH;
@@ -46,9 +46,9 @@ pub fn outside(height: u32, x: u32, y: u32, z: u32) -> bool
 }
 
 // Which child of a cell of list k + 1 holds a point, as the room shows them: no coordinate is reduced.
-pub fn octant(k: u32, x: u32, y: u32, z: u32) -> u32
+pub fn child_number(k: u32, x: u32, y: u32, z: u32) -> u32
     requires { ⌜ k < heights ⌝ }
-    ensures { λ r. ⌜ (r ≡ octant-of k (point x y z)) × (r < 8) ⌝ }
+    ensures { λ r. ⌜ (r ≡ childNoAt k (point x y z)) × (r < 8) ⌝ }
 {
     let s = k + LEAF_HEIGHT;
     (x >> s) % 2 + 2 * ((y >> s) % 2) + 4 * ((z >> s) % 2)

@@ -8,13 +8,13 @@ use native.Mathlib.Omega.{arith}
 use borrow.Author.Tests.{lt-ltb, lt-leb, le-leb}
 use lib.Dec.{T, ltb}
 use lib.ListN.{length}
-use Rattle.paper.specs.Packed.{linksAt, recordOk}
+use Rattle.paper.specs.Packed.{pointersAt, recordOk}
 use Rattle.laws.proofs.Tests.{and-left}
 use Rattle.alike.proofs.Along.{restFrom, widthAt, rest-more}
-use Rattle.popular.specs.Counting.{countLinks, countRecords, countable, fallsFrom}
+use Rattle.popular.specs.Counting.{countPointers, countRecords, countable, fallsFrom}
 
 module _ (l : List ℕ) (even : length l % 2 ≡ 0) (p : ℕ) (h : 2 * p < length l) where
-  pub counts-more : (u : ℕ) (m : List ℕ) → countRecords u l (restFrom l p) m ≡ countRecords u l (restFrom l (p + widthAt l p)) (countLinks u (linksAt l p) 8 m)
+  pub counts-more : (u : ℕ) (m : List ℕ) → countRecords u l (restFrom l p) m ≡ countRecords u l (restFrom l (p + widthAt l p)) (countPointers u (pointersAt l p) 8 m)
   unfolding countRecords
   counts-more u m = ap (λ (r : List ℕ). countRecords u l r m) (rest-more l even p h)
 

@@ -13,16 +13,16 @@ use lib.Dec.{T, eqb}
 use lib.ListN.{length, getD, take, drop, replicate, length-append, length-replicate}
 use lib.Seq.{length-take-le, take-append-le, drop-append-add, take-take, take-add, drop-drop, drop-at}
 use Rattle.paper.specs.Numbers.{anyBelow, allIn, isIn, bitFor, bytes, be, num}
-use Rattle.paper.specs.Packed.{Link, noLink, linksAt, mostWeight}
+use Rattle.paper.specs.Packed.{PackedPointer, noPointer, pointersAt, mostWeight}
 use Rattle.laws.proofs.Tests.{not-not, any-same}
 use Rattle.laws.proofs.Bytes.{bytes-length}
 use Rattle.laws.proofs.RecordReading.{num-bytes}
 use Rattle.numbers.specs.Laid.{laid}
 use Rattle.numbers.proofs.Laying.{length-laid}
 use Rattle.popular.specs.Places.{namesPlace, weightAt, timesNamed}
-use Rattle.popular.specs.Counting.{linkTo, countOf, oneMore, countLink, countLinks, countRecords}
+use Rattle.popular.specs.Counting.{pointsTo, countOf, oneMore, countPointer, countPointers, countRecords}
 use Rattle.alike.proofs.Loops.{not-allIn}
-use Rattle.alike.proofs.Linking.{links-length}
+use Rattle.alike.proofs.Pointing.{packedPointers-length}
 
 -- ---- four bytes laid over others
 
@@ -75,7 +75,7 @@ zeros-num j (suc k) (suc n) = zeros-num j k n
 
 -- ---- a record names a place by one of its eight pointers
 
-weight-most : (x : ℕ) (rs : List Link) → weightAt x rs ≤ mostWeight
+weight-most : (x : ℕ) (rs : List PackedPointer) → weightAt x rs ≤ mostWeight
 unfolding weightAt
 weight-most x rs = go (namesPlace x rs)
   where
@@ -83,25 +83,25 @@ weight-most x rs = go (namesPlace x rs)
     go true = omega arith
     go false = omega arith
 
-names-some : (x : ℕ) (rs : List Link) → namesPlace x rs ≡ not (allIn (λ r. not (linkTo x r)) rs)
+names-some : (x : ℕ) (rs : List PackedPointer) → namesPlace x rs ≡ not (allIn (λ r. not (pointsTo x r)) rs)
 unfolding namesPlace allIn
 names-some x [] = refl
 names-some x (r ∷ rs) = go (eqb (r .code) 0) (eqb (r .place) x) (names-some x rs)
   where
-    go : (a b : Bool) → namesPlace x rs ≡ not (allIn (λ r. not (linkTo x r)) rs)
-        → cond a (namesPlace x rs) (cond b true (namesPlace x rs)) ≡ not (cond (not (not a && b)) (allIn (λ r. not (linkTo x r)) rs) false)
+    go : (a b : Bool) → namesPlace x rs ≡ not (allIn (λ r. not (pointsTo x r)) rs)
+        → cond a (namesPlace x rs) (cond b true (namesPlace x rs)) ≡ not (cond (not (not a && b)) (allIn (λ r. not (pointsTo x r)) rs) false)
     go true b ih = ih
     go false true ih = refl
     go false false ih = ih
 
 -- pointer i goes to place x
-abbrev pub goesTo : ℕ → List Link → ℕ → Bool
-goesTo x rs i = linkTo x (getD rs i noLink)
+abbrev pub goesTo : ℕ → List PackedPointer → ℕ → Bool
+goesTo x rs i = pointsTo x (getD rs i noPointer)
 
-names-any : (x : ℕ) (rs : List Link) → namesPlace x rs ≡ anyBelow (length rs) (goesTo x rs)
+names-any : (x : ℕ) (rs : List PackedPointer) → namesPlace x rs ≡ anyBelow (length rs) (goesTo x rs)
 names-any x rs =
-    names-some x rs ∙ not-allIn (λ r. not (linkTo x r)) noLink rs
-    ∙ any-same (length rs) (λ i. not (not (linkTo x (getD rs i noLink)))) (goesTo x rs) (λ i h. not-not (goesTo x rs i))
+    names-some x rs ∙ not-allIn (λ r. not (pointsTo x r)) noPointer rs
+    ∙ any-same (length rs) (λ i. not (not (pointsTo x (getD rs i noPointer)))) (goesTo x rs) (λ i h. not-not (goesTo x rs i))
 
 -- ---- counting, where each place has four bytes of its own
 
@@ -111,7 +111,7 @@ pub record Roomy (u n : ℕ) (ps : List ℕ) : Type 0 where
   pub apart : (x y : ℕ) → T (isIn x ps) → T (isIn y ps) → (x ≡ y → ⊥) → (u * x + 4 ≤ u * y) ⊎ (u * y + 4 ≤ u * x)
 
 -- a pointer goes nowhere, or to a start
-abbrev pub Lands : List ℕ → Link → Type 0
+abbrev pub Lands : List ℕ → PackedPointer → Type 0
 Lands ps r = (r .code ≡ 0) ⊎ T (isIn (r .place) ps)
 
 module _ (u n : ℕ) (ps : List ℕ) (roomy : Roomy u n ps) where
@@ -136,44 +136,44 @@ module _ (u n : ℕ) (ps : List ℕ) (roomy : Roomy u n ps) where
       go (inr h) = laid-before b (u * x) (u * y) m (more-room x (countOf u m x + 1) m e i) h
 
   -- ---- of one record
-  module _ (rs : List Link) (lands : (i : ℕ) → Lands ps (getD rs i noLink)) where
-    start-of : (i : ℕ) → (getD rs i noLink .code ≡ 0 → ⊥) → T (isIn (getD rs i noLink .place) ps)
+  module _ (rs : List PackedPointer) (lands : (i : ℕ) → Lands ps (getD rs i noPointer)) where
+    start-of : (i : ℕ) → (getD rs i noPointer .code ≡ 0 → ⊥) → T (isIn (getD rs i noPointer .place) ps)
     start-of i ne = go (lands i)
       where
-        go : Lands ps (getD rs i noLink) → T (isIn (getD rs i noLink .place) ps)
+        go : Lands ps (getD rs i noPointer) → T (isIn (getD rs i noPointer .place) ps)
         go (inl e) = absurd (ne e)
         go (inr t) = t
 
-    pub links-length-kept : (m : List ℕ) → length m ≡ n → (j : ℕ) → length (countLinks u rs j m) ≡ n
-    unfolding countLink countLinks
-    links-length-kept m e zero = e
-    links-length-kept m e (suc j) =
-        go (eqb (getD rs j noLink .code) 0) refl (anyBelow j (goesTo (getD rs j noLink .place) rs)) (links-length-kept m e j)
+    pub pointers-length-kept : (m : List ℕ) → length m ≡ n → (j : ℕ) → length (countPointers u rs j m) ≡ n
+    unfolding countPointer countPointers
+    pointers-length-kept m e zero = e
+    pointers-length-kept m e (suc j) =
+        go (eqb (getD rs j noPointer .code) 0) refl (anyBelow j (goesTo (getD rs j noPointer .place) rs)) (pointers-length-kept m e j)
       where
         old : List ℕ
-        old = countLinks u rs j m
+        old = countPointers u rs j m
 
         x : ℕ
-        x = getD rs j noLink .place
+        x = getD rs j noPointer .place
 
-        go : (a : Bool) → eqb (getD rs j noLink .code) 0 ≡ a → (b : Bool) → length old ≡ n → length (cond a old (cond b old (oneMore u x old))) ≡ n
+        go : (a : Bool) → eqb (getD rs j noPointer .code) 0 ≡ a → (b : Bool) → length old ≡ n → length (cond a old (cond b old (oneMore u x old))) ≡ n
         go true ea b ih = ih
         go false ea true ih = ih
-        go false ea false ih = more-length x old ih (start-of j (eqb-false (getD rs j noLink .code) 0 ea))
+        go false ea false ih = more-length x old ih (start-of j (eqb-false (getD rs j noPointer .code) 0 ea))
 
     -- a place's counter has one more exactly where a pointer goes there
-    pub links-count : (m : List ℕ) → length m ≡ n → (x : ℕ) → T (isIn x ps) → countOf u m x + 1 < 2 ^ 32 → (j : ℕ)
-        → countOf u (countLinks u rs j m) x ≡ countOf u m x + bitFor (anyBelow j (goesTo x rs))
-    unfolding countLink countLinks
-    links-count m e x ix lt zero = omega arith
-    links-count m e x ix lt (suc j) =
-        go (eqb (getD rs j noLink .code) 0) refl (ℕ-discrete (getD rs j noLink .place) x) (links-length-kept m e j) (links-count m e x ix lt j)
+    pub pointers-count : (m : List ℕ) → length m ≡ n → (x : ℕ) → T (isIn x ps) → countOf u m x + 1 < 2 ^ 32 → (j : ℕ)
+        → countOf u (countPointers u rs j m) x ≡ countOf u m x + bitFor (anyBelow j (goesTo x rs))
+    unfolding countPointer countPointers
+    pointers-count m e x ix lt zero = omega arith
+    pointers-count m e x ix lt (suc j) =
+        go (eqb (getD rs j noPointer .code) 0) refl (ℕ-discrete (getD rs j noPointer .place) x) (pointers-length-kept m e j) (pointers-count m e x ix lt j)
       where
         old : List ℕ
-        old = countLinks u rs j m
+        old = countPointers u rs j m
 
         y : ℕ
-        y = getD rs j noLink .place
+        y = getD rs j noPointer .place
 
         After : Bool → Bool → Bool → Bool → Type 0
         After a before same found =
@@ -188,30 +188,30 @@ module _ (u n : ℕ) (ps : List ℕ) (roomy : Roomy u n ps) where
         other ne iy el true f ih = ih
         other ne iy el false f ih = more-other y x old el iy ix ne ∙ ih
 
-        go : (a : Bool) → eqb (getD rs j noLink .code) 0 ≡ a → Dec (y ≡ x) → length old ≡ n
+        go : (a : Bool) → eqb (getD rs j noPointer .code) 0 ≡ a → Dec (y ≡ x) → length old ≡ n
             → countOf u old x ≡ countOf u m x + bitFor (anyBelow j (goesTo x rs)) → After a (anyBelow j (goesTo y rs)) (eqb y x) (anyBelow j (goesTo x rs))
         go true ea d el ih = ih
         go false ea (yes ey) el ih =
             subst (λ (z : ℕ). After false (anyBelow j (goesTo z rs)) (eqb y x) (anyBelow j (goesTo x rs))) (sym ey)
-            (rw (eq-eqb y x ey) (here ey (start-of j (eqb-false (getD rs j noLink .code) 0 ea)) el (anyBelow j (goesTo x rs)) ih))
+            (rw (eq-eqb y x ey) (here ey (start-of j (eqb-false (getD rs j noPointer .code) 0 ea)) el (anyBelow j (goesTo x rs)) ih))
         go false ea (no ne) el ih =
-            rw (ne-eqb y x ne) (other ne (start-of j (eqb-false (getD rs j noLink .code) 0 ea)) el (anyBelow j (goesTo y rs)) (anyBelow j (goesTo x rs)) ih)
+            rw (ne-eqb y x ne) (other ne (start-of j (eqb-false (getD rs j noPointer .code) 0 ea)) el (anyBelow j (goesTo y rs)) (anyBelow j (goesTo x rs)) ih)
 
   -- ---- of the records at some places of the list l
   module _ (l : List ℕ) where
     abbrev AllLand : List ℕ → Type 0
-    AllLand qs = (j : ℕ) → j < length qs → (i : ℕ) → Lands ps (getD (linksAt l (getD qs j 0)) i noLink)
+    AllLand qs = (j : ℕ) → j < length qs → (i : ℕ) → Lands ps (getD (pointersAt l (getD qs j 0)) i noPointer)
 
     -- one record
-    record-count : (q : ℕ) → ((i : ℕ) → Lands ps (getD (linksAt l q) i noLink)) → (m : List ℕ) → length m ≡ n → (x : ℕ) → T (isIn x ps) → countOf u m x + mostWeight < 2 ^ 32
-        → countOf u (countLinks u (linksAt l q) 8 m) x ≡ countOf u m x + weightAt x (linksAt l q)
+    record-count : (q : ℕ) → ((i : ℕ) → Lands ps (getD (pointersAt l q) i noPointer)) → (m : List ℕ) → length m ≡ n → (x : ℕ) → T (isIn x ps) → countOf u m x + mostWeight < 2 ^ 32
+        → countOf u (countPointers u (pointersAt l q) 8 m) x ≡ countOf u m x + weightAt x (pointersAt l q)
     unfolding weightAt
     record-count q lands m e x ix lt =
-        let rs : List Link = linksAt l q in
+        let rs : List PackedPointer = pointersAt l q in
         let b : Bool = anyBelow 8 (goesTo x rs) in
-        let one : countOf u (countLinks u rs 8 m) x ≡ countOf u m x + bitFor b = links-count rs lands m e x ix (omega arith) 8 in
+        let one : countOf u (countPointers u rs 8 m) x ≡ countOf u m x + bitFor b = pointers-count rs lands m e x ix (omega arith) 8 in
         let named : cond (namesPlace x rs) 1 0 ≡ bitFor b =
-        ap (λ (c : Bool). cond c 1 0) (names-any x rs ∙ ap (λ (k : ℕ). anyBelow k (goesTo x rs)) (links-length l q)) ∙ bit-is b in
+        ap (λ (c : Bool). cond c 1 0) (names-any x rs ∙ ap (λ (k : ℕ). anyBelow k (goesTo x rs)) (packedPointers-length l q)) ∙ bit-is b in
         omega (arith, one, named)
       where
         bit-is : (b : Bool) → cond b 1 0 ≡ bitFor b
@@ -223,10 +223,10 @@ module _ (u n : ℕ) (ps : List ℕ) (roomy : Roomy u n ps) where
     unfolding countRecords timesNamed
     records-count [] lands m e x ix lt = omega arith
     records-count (q ∷ qs) lands m e x ix lt =
-        let rs : List Link = linksAt l q in
-        let mine : (i : ℕ) → Lands ps (getD rs i noLink) = lands 0 (omega arith) in
-        let one : countOf u (countLinks u rs 8 m) x ≡ countOf u m x + weightAt x rs = record-count q mine m e x ix (omega arith) in
-        records-count qs (λ j h. lands (suc j) (suc-le-suc h)) (countLinks u rs 8 m) (links-length-kept rs mine m e 8) x ix (omega (arith, one, weight-most x rs))
+        let rs : List PackedPointer = pointersAt l q in
+        let mine : (i : ℕ) → Lands ps (getD rs i noPointer) = lands 0 (omega arith) in
+        let one : countOf u (countPointers u rs 8 m) x ≡ countOf u m x + weightAt x rs = record-count q mine m e x ix (omega arith) in
+        records-count qs (λ j h. lands (suc j) (suc-le-suc h)) (countPointers u rs 8 m) (pointers-length-kept rs mine m e 8) x ix (omega (arith, one, weight-most x rs))
         ∙ omega (arith, one)
 
     -- from zero: the number of records that name the place
@@ -238,4 +238,4 @@ module _ (u n : ℕ) (ps : List ℕ) (roomy : Roomy u n ps) where
 pub times-few : (l qs : List ℕ) (x : ℕ) → timesNamed l qs x ≤ mostWeight * length qs
 unfolding timesNamed
 times-few l [] x = omega arith
-times-few l (q ∷ qs) x = omega (arith, weight-most x (linksAt l q), times-few l qs x)
+times-few l (q ∷ qs) x = omega (arith, weight-most x (pointersAt l q), times-few l qs x)

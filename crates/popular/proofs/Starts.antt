@@ -12,14 +12,14 @@ use borrow.Author.Tests.{eq-eqb, eqb-true, le-leb, ltb-true, ltb-false}
 use lib.Dec.{T, eqb, ltb}
 use lib.ListN.{length, getD, replicate}
 use Rattle.paper.specs.Numbers.{allIn, isIn, indexIn, count}
-use Rattle.paper.specs.Packed.{topOf, sizeAt, tailAt, listAt, headerAt, halves, Link, noLink, linksAt, recordOk, codeFor, startsFrom, placesAt, wholeAt, linkOk, linksOk}
+use Rattle.paper.specs.Packed.{topOf, sizeAt, tailAt, listAt, headerAt, halves, PackedPointer, noPointer, pointersAt, recordOk, codeFor, startsFrom, placesAt, wholeAt, packedPointerOk, packedPointersOk}
 use Rattle.paper.specs.Runs.{Bytes}
 use Rattle.laws.proofs.Tests.{and-left, and-T}
 use Rattle.laws.proofs.Lists.{in-nil, in-cons, allIn-isIn, count-below, allIn-head, allIn-tail, allIn-at, allIn-in, allIn-T, At, isIn-at, isIn-getD}
 use Rattle.laws.proofs.PackedLists.{list-bytes, record-two}
 use Rattle.laws.proofs.PackedWalk.{SoundLists}
 use Rattle.popular.specs.Places.{unitAt, popularAt, popularRules}
-use Rattle.popular.specs.Counting.{countOf, countRecords, linkFits, countable, countsFall}
+use Rattle.popular.specs.Counting.{countOf, countRecords, pointerFits, countable, countsFall}
 use Rattle.popular.proofs.InFile.{tail-inside, list-length}
 use Rattle.alike.proofs.Along.{record-wide}
 use Rattle.popular.proofs.Counts.{Roomy, Lands, counted, times-few}
@@ -112,20 +112,20 @@ module _ (bs : List ℕ) (by : Bytes bs) (short : length bs < 2 ^ 32) (sound : S
   whole-at : (k : ℕ) → suc k ≤ topOf bs → (j : ℕ) → j < length (placesAt bs (suc k)) → T (recordOk (above k) (getD (placesAt bs (suc k)) j 0))
   whole-at k h j l = allIn-in (recordOk (above k)) 0 (placesAt bs (suc k)) (all-whole k h) j l
 
-  links-land : (k : ℕ) → suc k ≤ topOf bs → (j : ℕ) → j < length (placesAt bs (suc k)) → (i : ℕ)
-      → Lands (placesAt bs k) (getD (linksAt (above k) (getD (placesAt bs (suc k)) j 0)) i noLink)
-  unfolding linksOk linkOk
-  links-land k h j l i = go (eqb (r .code) 0) refl t
+  pointers-land : (k : ℕ) → suc k ≤ topOf bs → (j : ℕ) → j < length (placesAt bs (suc k)) → (i : ℕ)
+      → Lands (placesAt bs k) (getD (pointersAt (above k) (getD (placesAt bs (suc k)) j 0)) i noPointer)
+  unfolding packedPointersOk packedPointerOk
+  pointers-land k h j l i = go (eqb (r .code) 0) refl t
     where
       p : ℕ
       p = getD (placesAt bs (suc k)) j 0
 
-      r : Link
-      r = getD (linksAt (above k) p) i noLink
+      r : PackedPointer
+      r = getD (pointersAt (above k) p) i noPointer
 
-      t : T (linkOk (placesAt bs k) r)
-      t = allIn-at (linkOk (placesAt bs k)) noLink tt (linksAt (above k) p)
-          (allIn-in (λ q. allIn (linkOk (placesAt bs k)) (linksAt (above k) q)) 0 (placesAt bs (suc k)) (sound .linked k h) j l) i
+      t : T (packedPointerOk (placesAt bs k) r)
+      t = allIn-at (packedPointerOk (placesAt bs k)) noPointer tt (pointersAt (above k) p)
+          (allIn-in (λ q. allIn (packedPointerOk (placesAt bs k)) (pointersAt (above k) q)) 0 (placesAt bs (suc k)) (sound .pointed k h) j l) i
 
       go : (b : Bool) → eqb (r .code) 0 ≡ b → T (cond b true (isIn (r .place) (placesAt bs k) && eqb (r .code) (codeFor (r .place)))) → Lands (placesAt bs k) r
       go true e s = inl (eqb-true (r .code) 0 e)
@@ -146,10 +146,10 @@ module _ (bs : List ℕ) (by : Bytes bs) (short : length bs < 2 ^ 32) (sound : S
   all-countable k h =
       allIn-T (countable (unitAt k) (length (listAt bs k)) (above k)) 0 (placesAt bs (suc k)) (λ j l.
       let p : ℕ = getD (placesAt bs (suc k)) j 0 in
-      and-T (recordOk (above k) p) (allIn (linkFits (unitAt k) (length (listAt bs k))) (linksAt (above k) p)) (whole-at k h j l)
-      (allIn-T (linkFits (unitAt k) (length (listAt bs k))) noLink (linksAt (above k) p) (λ i _. fits (getD (linksAt (above k) p) i noLink) (links-land k h j l i))))
+      and-T (recordOk (above k) p) (allIn (pointerFits (unitAt k) (length (listAt bs k))) (pointersAt (above k) p)) (whole-at k h j l)
+      (allIn-T (pointerFits (unitAt k) (length (listAt bs k))) noPointer (pointersAt (above k) p) (λ i _. fits (getD (pointersAt (above k) p) i noPointer) (pointers-land k h j l i))))
     where
-      fits : (r : Link) → Lands (placesAt bs k) r → T (linkFits (unitAt k) (length (listAt bs k)) r)
+      fits : (r : PackedPointer) → Lands (placesAt bs k) r → T (pointerFits (unitAt k) (length (listAt bs k)) r)
       fits r (inl e) = rw (eq-eqb (r .code) 0 e) tt
       fits r (inr t) = rw (le-leb (unitAt k * r .place + 4) (length (listAt bs k)) (roomy-at k (omega arith) .room (r .place) t)) (go (eqb (r .code) 0))
         where
@@ -163,7 +163,7 @@ module _ (bs : List ℕ) (by : Bytes bs) (short : length bs < 2 ^ 32) (sound : S
 
   pub counts-are : (k : ℕ) → suc k ≤ topOf bs → (x : ℕ) → T (isIn x (placesAt bs k)) → countOf (unitAt k) (counts k) x ≡ popularAt bs k x
   counts-are k h x i =
-      counted (unitAt k) (length (listAt bs k)) (placesAt bs k) (roomy-at k (omega arith)) (above k) (placesAt bs (suc k)) (links-land k h) (omega (arith, few-at k h)) x i
+      counted (unitAt k) (length (listAt bs k)) (placesAt bs k) (roomy-at k (omega arith)) (above k) (placesAt bs (suc k)) (pointers-land k h) (omega (arith, few-at k h)) x i
 
   -- the test along them is rules 5 and 8
   pub popular-is : (k : ℕ) → suc k ≤ topOf bs → countsFall (unitAt k) (counts k) (placesAt bs k) ≡ popularRules bs k

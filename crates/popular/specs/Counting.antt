@@ -6,14 +6,14 @@ use Prim.Native.Nat.{ℕ, zero, suc, _+_, _-_, _*_, _%_, _^_, _<_}
 use lib.Dec.{T, eqb, leb, ltb}
 use lib.ListN.{length, drop, getD}
 use Rattle.paper.specs.Numbers.{anyBelow, allIn, num, bytes}
-use Rattle.paper.specs.Packed.{Link, noLink, linksAt, recordOk}
+use Rattle.paper.specs.Packed.{PackedPointer, noPointer, pointersAt, recordOk}
 use Rattle.numbers.specs.Laid.{laid}
 use Rattle.alike.specs.Matching.{placesIn}
 use Rattle.popular.specs.Places.{unitAt}
 
 -- a pointer to place x
-abbrev pub linkTo : ℕ → Link → Bool
-linkTo x r = not (eqb (r .code) 0) && eqb (r .place) x
+abbrev pub pointsTo : ℕ → PackedPointer → Bool
+pointsTo x r = not (eqb (r .code) 0) && eqb (r .place) x
 
 -- the number at place x: four bytes
 abbrev pub countOf : ℕ → List ℕ → ℕ → ℕ
@@ -23,29 +23,29 @@ countOf u m x = num 4 (drop (u * x) m)
 abbrev pub oneMore : ℕ → ℕ → List ℕ → List ℕ
 oneMore u x m = laid (bytes 4 (countOf u m x + 1)) (u * x) m
 
--- the record with the links rs counted at the place of link n, unless an earlier one goes there
-unfoldable pub countLink : ℕ → List Link → ℕ → List ℕ → List ℕ
-countLink u rs n m =
-    let x : ℕ = getD rs n noLink .place in
+-- the record with the pointers rs counted at the place of pointer n, unless an earlier one goes there
+unfoldable pub countPointer : ℕ → List PackedPointer → ℕ → List ℕ → List ℕ
+countPointer u rs n m =
+    let x : ℕ = getD rs n noPointer .place in
     let new : List ℕ = oneMore u x m in
-    cond (eqb (getD rs n noLink .code) 0) m (cond (anyBelow n (λ j. linkTo x (getD rs j noLink))) m new)
+    cond (eqb (getD rs n noPointer .code) 0) m (cond (anyBelow n (λ j. pointsTo x (getD rs j noPointer))) m new)
 
 -- at the places of the first n: each once
-unfoldable pub countLinks : ℕ → List Link → ℕ → List ℕ → List ℕ
-countLinks u rs zero m = m
-countLinks u rs (suc n) m = countLink u rs n (countLinks u rs n m)
+unfoldable pub countPointers : ℕ → List PackedPointer → ℕ → List ℕ → List ℕ
+countPointers u rs zero m = m
+countPointers u rs (suc n) m = countPointer u rs n (countPointers u rs n m)
 
 -- of the records at these places
 unfoldable pub countRecords : ℕ → List ℕ → List ℕ → List ℕ → List ℕ
 countRecords u l [] m = m
-countRecords u l (p ∷ ps) m = countRecords u l ps (countLinks u (linksAt l p) 8 m)
+countRecords u l (p ∷ ps) m = countRecords u l ps (countPointers u (pointersAt l p) 8 m)
 
 -- a record whose places have four bytes each among n
-abbrev pub linkFits : ℕ → ℕ → Link → Bool
-linkFits u n r = cond (eqb (r .code) 0) true (leb (u * r .place + 4) n)
+abbrev pub pointerFits : ℕ → ℕ → PackedPointer → Bool
+pointerFits u n r = cond (eqb (r .code) 0) true (leb (u * r .place + 4) n)
 
 unfoldable pub countable : ℕ → ℕ → List ℕ → ℕ → Bool
-countable u n l p = recordOk l p && allIn (linkFits u n) (linksAt l p)
+countable u n l p = recordOk l p && allIn (pointerFits u n) (pointersAt l p)
 
 -- above 0, and never rising
 unfoldable pub fallsFrom : ℕ → List ℕ → Bool

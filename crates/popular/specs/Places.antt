@@ -7,7 +7,7 @@ use Prim.Native.Nat.{ℕ, zero, suc, _+_, _-_}
 use lib.Dec.{eqb, leb, ltb}
 use lib.ListN.{length, getD}
 use Rattle.paper.specs.Numbers.{allBelow}
-use Rattle.paper.specs.Packed.{isEmpty, startAt, listAt, Link, linksAt, placesAt, startsOf}
+use Rattle.paper.specs.Packed.{isEmpty, startAt, listAt, PackedPointer, pointersAt, placesAt, startsOf}
 use Rattle.packed.specs.Header.{Opens}
 use Rattle.alike.specs.Matching.{placesIn, leavesIn}
 
@@ -26,18 +26,18 @@ unitAt (suc k) = 2
 -- ---- popularity
 
 -- one of the pointers goes to place x
-unfoldable pub namesPlace : ℕ → List Link → Bool
+unfoldable pub namesPlace : ℕ → List PackedPointer → Bool
 namesPlace x [] = false
 namesPlace x (r ∷ rs) = let m = namesPlace x rs in cond (eqb (r .code) 0) m (cond (eqb (r .place) x) true m)
 
 -- what a record with these pointers counts towards the popularity of place x
-unfoldable pub weightAt : ℕ → List Link → ℕ
+unfoldable pub weightAt : ℕ → List PackedPointer → ℕ
 weightAt x rs = cond (namesPlace x rs) 1 0
 
 -- what the records at these places of the list l count towards that of place x one list down
 unfoldable pub timesNamed : List ℕ → List ℕ → ℕ → ℕ
 timesNamed l [] x = 0
-timesNamed l (p ∷ ps) x = weightAt x (linksAt l p) + timesNamed l ps x
+timesNamed l (p ∷ ps) x = weightAt x (pointersAt l p) + timesNamed l ps x
 
 -- of a record of list k
 abbrev pub popularAt : List ℕ → ℕ → ℕ → ℕ

@@ -7,13 +7,13 @@ ghost use Prim.Native.Nat.{_+_, _*_, _%_, _^_, _≤_, _<_};
 ghost use lib.Dec.{T};
 ghost use lib.ListN.{length, getD, take, drop, replicate};
 ghost use Rattle.paper.specs.Numbers.{allIn, allBelow, anyBelow, num, bytes};
-ghost use Rattle.paper.specs.Packed.{topOf, startAt, noLink, linksAt, recordOk};
+ghost use Rattle.paper.specs.Packed.{topOf, startAt, noPointer, pointersAt, recordOk};
 ghost use Rattle.numbers.specs.Laid.{laid};
-ghost use Rattle.packed.specs.Records.{linkIs};
+ghost use Rattle.packed.specs.Records.{pointerIs};
 ghost use Rattle.popular.specs.Places.{unitAt, popularRules, startsIn, endAt, Listed, endIn};
 ghost use Rattle.laws.proofs.PackedWalk.{SoundLists};
 ghost use Rattle.alike.specs.Matching.{placesIn, leavesIn};
-ghost use Rattle.popular.specs.Counting.{linkTo, countLink, countLinks, countRecords, countable, countsFall, Shared};
+ghost use Rattle.popular.specs.Counting.{pointsTo, countPointer, countPointers, countRecords, countable, countsFall, Shared};
 use limits::CHILDREN;
 use limits::HALF_BYTES;
 use limits::LEAF_BYTES;
@@ -52,20 +52,20 @@ pub fn unit_of(k: u32) -> usize
 // ---- the records that name a place
 
 // Whether a pointer goes to place `x`.
-fn goes_to(link: Pointer, x: u32) -> bool
-    ensures { λ r. ⌜ r ≡ linkTo x (linkIs link) ⌝ }
+fn goes_to(pointer: Pointer, x: u32) -> bool
+    ensures { λ r. ⌜ r ≡ pointsTo x (pointerIs pointer) ⌝ }
 {
-    if link.code == 0 {
+    if pointer.code == 0 {
         return false;
     }
-    link.place == x
+    pointer.place == x
 }
 
 // Whether one of the first `n` pointers of a record goes to place `x`.
 fn named_before(list: &[u8], place: u32, n: u32, x: u32) -> bool
     requires { ⌜ T (recordOk (now list) place) ⌝ }
     requires { ⌜ n ≤ 8 ⌝ }
-    ensures { λ r. ⌜ r ≡ anyBelow n (λ j. linkTo x (getD (linksAt (now (list .entry)) place) j noLink)) ⌝ }
+    ensures { λ r. ⌜ r ≡ anyBelow n (λ j. pointsTo x (getD (pointersAt (now (list .entry)) place) j noPointer)) ⌝ }
 {
     let mut i = 0u32;
     while i < n {
@@ -87,30 +87,30 @@ fn add_one(counts: &mut [u8], at: usize)
 }
 
 // Counts a record at the place of its pointer i, unless one of its earlier pointers goes there.
-fn count_link(list: &[u8], place: u32, i: u32, counts: &mut [u8], unit: usize)
+fn count_pointer(list: &[u8], place: u32, i: u32, counts: &mut [u8], unit: usize)
     requires { ⌜ T (countable unit (length (now counts)) (now list) place) ⌝ }
     requires { ⌜ (i < 8) × (unit ≤ 8) ⌝ }
-    ensures { λ _. ⌜ now (counts .exit) ≡ countLink unit (linksAt (now (list .entry)) place) i (now (counts .entry)) ⌝ }
+    ensures { λ _. ⌜ now (counts .exit) ≡ countPointer unit (pointersAt (now (list .entry)) place) i (now (counts .entry)) ⌝ }
 {
-    let link = pointer_at(list, place, i);
-    if link.code == 0 {
+    let pointer = pointer_at(list, place, i);
+    if pointer.code == 0 {
         return;
     }
-    if named_before(list, place, i, link.place) {
+    if named_before(list, place, i, pointer.place) {
         return;
     }
-    add_one(counts, unit * (link.place as usize));
+    add_one(counts, unit * (pointer.place as usize));
 }
 
 // Counts a record at each place that it names, once.
 fn count_record(list: &[u8], place: u32, counts: &mut [u8], unit: usize)
     requires { ⌜ T (countable unit (length (now counts)) (now list) place) ⌝ }
     requires { ⌜ unit ≤ 8 ⌝ }
-    ensures { λ _. ⌜ now (counts .exit) ≡ countLinks unit (linksAt (now (list .entry)) place) 8 (now (counts .entry)) ⌝ }
+    ensures { λ _. ⌜ now (counts .exit) ≡ countPointers unit (pointersAt (now (list .entry)) place) 8 (now (counts .entry)) ⌝ }
 {
     let mut i = 0u32;
     while i < CHILDREN {
-        count_link(list, place, i, counts, unit);
+        count_pointer(list, place, i, counts, unit);
         i += 1;
     }
 }

@@ -9,7 +9,7 @@ use borrow.Author.Tests.{lt-ltb, le-ltb, ne-eqb}
 use lib.ListN.{length, replicate}
 use Rattle.paper.specs.Numbers.{allBelow}
 use Rattle.paper.specs.Outline.{fileDepth}
-use Rattle.paper.specs.Packed.{packedFront, packedHead, topOf, isEmpty, topOk, headOk, packedRules}
+use Rattle.paper.specs.Packed.{packedVersion, packedHead, topOf, isEmpty, topOk, headOk, packedRules}
 use Rattle.paper.specs.Answers.{told, outcome, numberOf, checked}
 use Rattle.paper.specs.Order.{Test, when, firstOf, settled}
 use Rattle.paper.specs.Calls.{cleared, packedOrder, checkOrder, checkScratchAfter, checkOutcome}
@@ -36,21 +36,21 @@ module _ (file scratch : List ℕ) where
     unfolding firstOf
     goes-on = rw (le-ltb (length scratch) (length file) enough)
 
-    pub way-bytes : (r : Refusal) (n : ℕ) → numberOf r ≡ n → n ≡ headNumber packedFront packedHead file → (n ≡ 0 → ⊥)
+    pub way-bytes : (r : Refusal) (n : ℕ) → numberOf r ≡ n → n ≡ headNumber packedVersion packedHead file → (n ≡ 0 → ⊥)
         → outcome (checked (Refused r)) (scratch ∷ []) ≡ checkOutcome file scratch
     unfolding checkOutcome
     way-bytes r n e f ne =
-        let stops : firstOf (checkOrder file scratch) ≡ n = goes-on ∙ head-stops packedFront packedHead file later (λ z. ne (f ∙ z)) ∙ sym f in
-        let low : n ≤ 5 = head-range packedFront packedHead file n f ne .1 in
+        let stops : firstOf (checkOrder file scratch) ≡ n = goes-on ∙ head-stops packedVersion packedHead file later (λ z. ne (f ∙ z)) ∙ sym f in
+        let low : n ≤ 5 = head-range packedVersion packedHead file n f ne .1 in
         let kept : checkScratchAfter (firstOf (checkOrder file scratch)) file scratch ≡ scratch =
         ap (λ (m : ℕ). checkScratchAfter m file scratch) stops ∙ ap (λ (b : Bool). cond b (cleared (length file) scratch) scratch) (ne-eqb n 6 (λ z. omega (arith, z))) in
         ap₂ (λ (m : ℕ) (l : List ℕ). outcome (told m (0 ∷ [])) (l ∷ [])) (e ∙ sym stops) (sym kept)
         ∙ sym (settled-refused (firstOf (checkOrder file scratch)) (fileDepth file ∷ []) (cleared (length file) scratch ∷ []) (checkScratchAfter (firstOf (checkOrder file scratch)) file scratch ∷ []) (λ z. ne (sym stops ∙ z)))
 
-    module _ (h : Headed packedFront packedHead file) where
+    module _ (h : Headed packedVersion packedHead file) where
       rules : (b : Bool) → not (packedRules file) ≡ b → firstOf (checkOrder file scratch) ≡ cond b 6 0
       unfolding firstOf
-      rules b e = goes-on ∙ head-goes-on packedFront packedHead file later h ∙ rw e
+      rules b e = goes-on ∙ head-goes-on packedVersion packedHead file later h ∙ rw e
 
       pub way-rules : not (packedRules file) ≡ true → outcome (told 6 (0 ∷ [])) (cleared (length file) scratch ∷ []) ≡ checkOutcome file scratch
       unfolding checkOutcome settled

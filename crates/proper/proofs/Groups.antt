@@ -13,10 +13,10 @@ use Rattle.paper.specs.Numbers.{allBelow, allIn, isIn}
 use Rattle.paper.specs.Packed.{listAt, placesAt}
 use Rattle.paper.specs.Runs.{Bytes}
 use Rattle.laws.proofs.Tests.{both-left, both-right, and-left}
-use Rattle.laws.proofs.Masks.{mask-lt}
+use Rattle.laws.proofs.Symmetries.{symmetry-lt}
 use Rattle.laws.proofs.PackedLists.{list-bytes}
 use Rattle.least.specs.Keys.{Group}
-use Rattle.alike.specs.Matching.{leavesMatch, recordsMatch, leafMask, recordMask, recordRules, apartIn, Grouped}
+use Rattle.alike.specs.Matching.{leavesMatch, recordsMatch, leafSymmetry, recordSymmetry, recordRules, apartIn, Grouped}
 use Rattle.proper.specs.Places.{marksOn, marksAt, listRules}
 use Rattle.popular.specs.Places.{unitAt}
 use Rattle.laws.proofs.Lists.{in-head, in-later, allIn-isIn, zeros-at}
@@ -40,12 +40,12 @@ zero-byte : (n j : ℕ) → getD (replicate n 0) j 0 < 256
 zero-byte n j = rw (zeros-at n j) (lit< tt)
 
 pub marks-bytes : (bs : List ℕ) (k : ℕ) → Bytes (marksAt bs k)
-unfolding marksAt leafMask recordMask
+unfolding marksAt leafSymmetry recordSymmetry
 marks-bytes bs zero =
-    marks-each (λ m. m < 256) (leafMask (listAt bs 0)) 8 (placesAt bs 0) (replicate (length (listAt bs 0)) 0) (λ p t. mask-lt (leavesMatch (listAt bs 0) p p)) (zero-byte (length (listAt bs 0)))
+    marks-each (λ m. m < 256) (leafSymmetry (listAt bs 0)) 8 (placesAt bs 0) (replicate (length (listAt bs 0)) 0) (λ p t. symmetry-lt (leavesMatch (listAt bs 0) p p)) (zero-byte (length (listAt bs 0)))
 marks-bytes bs (suc k) =
-    marks-each (λ m. m < 256) (recordMask (unitAt k) (marksAt bs k) (listAt bs (suc k))) 2 (placesAt bs (suc k)) (replicate (length (listAt bs (suc k))) 0)
-    (λ p t. mask-lt (recordsMatch (unitAt k) (marksAt bs k) (listAt bs (suc k)) p p)) (zero-byte (length (listAt bs (suc k))))
+    marks-each (λ m. m < 256) (recordSymmetry (unitAt k) (marksAt bs k) (listAt bs (suc k))) 2 (placesAt bs (suc k)) (replicate (length (listAt bs (suc k))) 0)
+    (λ p t. symmetry-lt (recordsMatch (unitAt k) (marksAt bs k) (listAt bs (suc k)) p p)) (zero-byte (length (listAt bs (suc k))))
 
 -- a mark that is not 0 is a group
 abbrev Good : ℕ → Type 0
@@ -65,10 +65,10 @@ rules-in bs k p t i =
 pub marks-grouped : (bs : List ℕ) → Bytes bs → (k : ℕ) → T (allBelow (suc k) (listRules bs)) → Grouped (unitAt k) (marksAt bs k)
 unfolding marksAt
 marks-grouped bs by zero t x =
-    marks-each Good (leafMask (listAt bs 0)) 8 (placesAt bs 0) (replicate (length (listAt bs 0)) 0) (λ p i ne. leaf-group (listAt bs 0) (list-bytes bs by 0) p)
+    marks-each Good (leafSymmetry (listAt bs 0)) 8 (placesAt bs 0) (replicate (length (listAt bs 0)) 0) (λ p i ne. leaf-group (listAt bs 0) (list-bytes bs by 0) p)
     (zero-good (length (listAt bs 0))) (8 * x)
 marks-grouped bs by (suc k) t x =
-    marks-each Good (recordMask (unitAt k) (marksAt bs k) (listAt bs (suc k))) 2 (placesAt bs (suc k)) (replicate (length (listAt bs (suc k))) 0)
+    marks-each Good (recordSymmetry (unitAt k) (marksAt bs k) (listAt bs (suc k))) 2 (placesAt bs (suc k)) (replicate (length (listAt bs (suc k))) 0)
     (λ p i ne. record-group (unitAt k) (marksAt bs k) (listAt bs (suc k)) p
     (record-kept (unitAt k) (marksAt bs k) (listAt bs (suc k)) (list-bytes bs by (suc k)) (marks-bytes bs k)
     (marks-grouped bs by k (both-right (listRules bs (suc k)) (allBelow (suc k) (listRules bs)) t)) p

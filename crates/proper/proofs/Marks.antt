@@ -11,7 +11,7 @@ use lib.Seq.{getD-set-same, getD-set-other}
 use Rattle.paper.specs.Numbers.{isIn}
 use Rattle.paper.specs.Packed.{listAt, placesAt}
 use Rattle.laws.proofs.Lists.{in-head, in-later}
-use Rattle.alike.specs.Matching.{leafMask, recordMask}
+use Rattle.alike.specs.Matching.{leafSymmetry, recordSymmetry}
 use Rattle.proper.specs.Places.{marksOn, marksAt}
 use Rattle.popular.specs.Places.{unitAt}
 
@@ -30,7 +30,7 @@ marks-other f u (p ∷ ps) z j h =
     marks-other f u ps (set z (u * p) (f p)) j (λ q t e. h q (in-later q p ps t) e)
     ∙ getD-set-other z (u * p) j (f p) 0 (λ e. h p (in-head p ps) e)
 
--- the first byte of a record has its mask
+-- the first byte of a record has its symmetry
 pub marks-start : (f : ℕ → ℕ) (u : ℕ) → ((p q : ℕ) → u * p ≡ u * q → p ≡ q) → (ps z : List ℕ) (x : ℕ) → u * x < length z → T (isIn x ps)
     → getD (marksOn f u ps z) (u * x) 0 ≡ f x
 unfolding marksOn isIn
@@ -52,7 +52,7 @@ marks-start f u inj (p ∷ ps) z x l t = go (isIn x ps) refl (eqb p x) refl t (m
 pub marksAt-length : (bs : List ℕ) (k : ℕ) → length (marksAt bs k) ≡ length (listAt bs k)
 unfolding marksAt
 marksAt-length bs zero =
-    marks-length (leafMask (listAt bs 0)) 8 (placesAt bs 0) (replicate (length (listAt bs 0)) 0) ∙ length-replicate (length (listAt bs 0)) 0
+    marks-length (leafSymmetry (listAt bs 0)) 8 (placesAt bs 0) (replicate (length (listAt bs 0)) 0) ∙ length-replicate (length (listAt bs 0)) 0
 marksAt-length bs (suc k) =
-    marks-length (recordMask (unitAt k) (marksAt bs k) (listAt bs (suc k))) 2 (placesAt bs (suc k)) (replicate (length (listAt bs (suc k))) 0)
+    marks-length (recordSymmetry (unitAt k) (marksAt bs k) (listAt bs (suc k))) 2 (placesAt bs (suc k)) (replicate (length (listAt bs (suc k))) 0)
     ∙ length-replicate (length (listAt bs (suc k))) 0

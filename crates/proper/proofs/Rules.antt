@@ -10,16 +10,16 @@ use lib.Dec.{T}
 use lib.ListN.{getD}
 use Rattle.paper.specs.Numbers.{allBelow, allIn}
 use Rattle.paper.specs.Outline.{lengthOk}
-use Rattle.paper.specs.Packed.{packedHead, topOf, rootTag, isEmpty, listAt, noLink, linksAt, recordOk, leafOk, placesAt, graphOf, linkOk, linksOk, wholeAt, graphOk, sizesOk, topOk, listsOk, rootOk, headOk, packedRules}
+use Rattle.paper.specs.Packed.{packedHead, topOf, rootTag, isEmpty, listAt, noPointer, pointersAt, recordOk, leafOk, placesAt, graphOf, packedPointerOk, packedPointersOk, wholeAt, graphOk, sizesOk, topOk, listsOk, rootOk, headOk, packedRules}
 use Rattle.paper.specs.Runs.{Bytes}
 use Rattle.laws.proofs.Tests.{true-T, iff-eq, and-left, and-right, and-T, all-at, all-T}
 use Rattle.laws.proofs.Lists.{allIn-in, allIn-T}
 use Rattle.laws.proofs.PackedWalk.{SoundLists, lists-of}
 use Rattle.packed.proofs.Lists.{root-small}
-use Rattle.alike.specs.Matching.{leavesMatch, linkRules, recordRules, apartIn}
+use Rattle.alike.specs.Matching.{leavesMatch, pointerRules, recordRules, apartIn}
 use Rattle.popular.specs.Places.{unitAt}
 use Rattle.proper.specs.Places.{marksAt, listRules, rulesBy, packedBy}
-use Rattle.proper.proofs.Starting.{link-ok}
+use Rattle.proper.proofs.Starting.{pointer-ok}
 use Rattle.proper.proofs.ByPlaces.{graph-by, by-graph}
 
 -- ---- all rules
@@ -31,34 +31,34 @@ whole-by bs (suc k) t =
     let l : List ℕ = listAt bs (suc k) in
     let r : T (allIn (recordRules (unitAt k) (marksAt bs k) l) (placesAt bs (suc k))) = search and-left in
     allIn-T (recordOk l) 0 (placesAt bs (suc k)) (λ n h.
-    and-left (recordOk l (getD (placesAt bs (suc k)) n 0)) (allIn (linkRules (unitAt k) (marksAt bs k)) (linksAt l (getD (placesAt bs (suc k)) n 0)))
+    and-left (recordOk l (getD (placesAt bs (suc k)) n 0)) (allIn (pointerRules (unitAt k) (marksAt bs k)) (pointersAt l (getD (placesAt bs (suc k)) n 0)))
     (allIn-in (recordRules (unitAt k) (marksAt bs k) l) 0 (placesAt bs (suc k)) r n h))
 
-linked-by : (bs : List ℕ) (k : ℕ) → T (listRules bs (suc k)) → T (linksOk bs k)
-unfolding listRules linksOk recordRules
-linked-by bs k t =
+pointed-by : (bs : List ℕ) (k : ℕ) → T (listRules bs (suc k)) → T (packedPointersOk bs k)
+unfolding listRules packedPointersOk recordRules
+pointed-by bs k t =
     let l : List ℕ = listAt bs (suc k) in
     let ps : List ℕ = placesAt bs (suc k) in
     let r : T (allIn (recordRules (unitAt k) (marksAt bs k) l) (placesAt bs (suc k))) = search and-left in
-    allIn-T (λ p. allIn (linkOk (placesAt bs k)) (linksAt l p)) 0 ps (λ n h.
-    allIn-T (linkOk (placesAt bs k)) noLink (linksAt l (getD ps n 0)) (λ i m.
-    link-ok bs k (getD (linksAt l (getD ps n 0)) i noLink)
-    (allIn-in (linkRules (unitAt k) (marksAt bs k)) noLink (linksAt l (getD ps n 0))
-    (and-right (recordOk l (getD ps n 0)) (allIn (linkRules (unitAt k) (marksAt bs k)) (linksAt l (getD ps n 0)))
+    allIn-T (λ p. allIn (packedPointerOk (placesAt bs k)) (pointersAt l p)) 0 ps (λ n h.
+    allIn-T (packedPointerOk (placesAt bs k)) noPointer (pointersAt l (getD ps n 0)) (λ i m.
+    pointer-ok bs k (getD (pointersAt l (getD ps n 0)) i noPointer)
+    (allIn-in (pointerRules (unitAt k) (marksAt bs k)) noPointer (pointersAt l (getD ps n 0))
+    (and-right (recordOk l (getD ps n 0)) (allIn (pointerRules (unitAt k) (marksAt bs k)) (pointersAt l (getD ps n 0)))
     (allIn-in (recordRules (unitAt k) (marksAt bs k) l) 0 ps r n h)) i m)))
 
 lists-ok : (bs : List ℕ) → SoundLists bs → T (listsOk bs)
 unfolding listsOk
 lists-ok bs s =
-    and-T (topOk bs && allBelow (suc (topOf bs)) (wholeAt bs)) (allBelow (topOf bs) (linksOk bs))
+    and-T (topOk bs && allBelow (suc (topOf bs)) (wholeAt bs)) (allBelow (topOf bs) (packedPointersOk bs))
     (and-T (topOk bs) (allBelow (suc (topOf bs)) (wholeAt bs)) (s .top) (all-T (suc (topOf bs)) (wholeAt bs) (λ k l. s .whole k (omega arith))))
-    (all-T (topOf bs) (linksOk bs) (s .linked))
+    (all-T (topOf bs) (packedPointersOk bs) (s .pointed))
 
 -- a file whose lists keep the rules by marks, the top list with one record, has sound lists
 pub lists-sound : (bs : List ℕ) → T (sizesOk bs) → T (allBelow (suc (topOf bs)) (listRules bs)) → T (topOk bs) → SoundLists bs
 lists-sound bs sized rules one =
     let lists : (k : ℕ) → k ≤ topOf bs → T (listRules bs k) = λ k l. all-at (suc (topOf bs)) (listRules bs) rules k (omega arith) in
-    record { sizes = sized; top = one; whole = λ k l. whole-by bs k (lists k l); linked = λ k l. linked-by bs k (lists (suc k) l) }
+    record { sizes = sized; top = one; whole = λ k l. whole-by bs k (lists k l); pointed = λ k l. pointed-by bs k (lists (suc k) l) }
 
 lists-by : (bs : List ℕ) → T (sizesOk bs) → T (rulesBy bs) → SoundLists bs
 unfolding rulesBy

@@ -11,7 +11,7 @@ use lib.Seq.{take-at, drop-at, set-append-left, getD-append-add}
 use Rattle.paper.specs.Numbers.{allIn, isIn}
 use Rattle.paper.specs.Packed.{topOf, tailAt, startAt, listAt, leafOk}
 use Rattle.laws.proofs.Lists.{in-head, in-later}
-use Rattle.alike.specs.Matching.{leafMask, recordMask, leavesMatch, recordsMatch, recordRules, apartIn, placesIn}
+use Rattle.alike.specs.Matching.{leafSymmetry, recordSymmetry, leavesMatch, recordsMatch, recordRules, apartIn, placesIn}
 use Rattle.proper.specs.Places.{marksOn, marksAt, listRules}
 use Rattle.popular.specs.Places.{unitAt, endAt, Listed}
 use Rattle.proper.specs.Phases.{leavesRules, leafMarks, innerRules, recordMarks, marksTail, scratchAt}
@@ -65,7 +65,7 @@ module _ (bs starts : List ℕ) (known : Listed bs starts) where
   unfolding scratchAt marksTail marksAt
   leaf-marked =
       ap (λ (r : List ℕ). zeros (startAt bs 0) ++ r)
-      (append-nil (leafMarks (listAt bs 0) (zeros (own 0))) ∙ ap (λ (ps : List ℕ). marksOn (leafMask (listAt bs 0)) 8 ps (zeros (own 0))) (sym (places-leaf bs starts known)))
+      (append-nil (leafMarks (listAt bs 0) (zeros (own 0))) ∙ ap (λ (ps : List ℕ). marksOn (leafSymmetry (listAt bs 0)) 8 ps (zeros (own 0))) (sym (places-leaf bs starts known)))
 
   -- what follows the marks of list k
   abbrev after : ℕ → List ℕ
@@ -89,7 +89,7 @@ module _ (bs starts : List ℕ) (known : Listed bs starts) where
   unfolding scratchAt marksTail marksAt
   inner-marked k h =
       let l : List ℕ = listAt bs (suc k) in
-      let f : ℕ → ℕ = recordMask (unitAt k) (marksAt bs k) l in
+      let f : ℕ → ℕ = recordSymmetry (unitAt k) (marksAt bs k) l in
       ap (λ (r : List ℕ). zeros (startAt bs (suc k)) ++ r)
       (ap (λ (r : List ℕ). r ++ after k) (marks-first f 2 (placesIn l) (zeros (own (suc k))) (marksAt bs k)
       (λ p t. subst (λ (n : ℕ). 2 * p < n) (sym (length-replicate (own (suc k)) 0)) (in-inside l (length l / 2) 0 p t)))

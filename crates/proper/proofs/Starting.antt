@@ -9,12 +9,12 @@ use native.Mathlib.Omega.{arith}
 use lib.Dec.{T, eqb, ltb, ltb→lt}
 use lib.ListN.{length, getD, replicate}
 use Rattle.paper.specs.Numbers.{isIn}
-use Rattle.paper.specs.Packed.{sizeAt, listAt, headerAt, halves, Link, codeFor, startsFrom, placesAt, linkOk}
+use Rattle.paper.specs.Packed.{sizeAt, listAt, headerAt, halves, PackedPointer, codeFor, startsFrom, placesAt, packedPointerOk}
 use Rattle.laws.proofs.Tests.{and-left, and-right, and-T}
 use Rattle.laws.proofs.Lists.{zeros-at, Once, length-count, getD-count}
 use Rattle.laws.proofs.PackedLists.{halves-one}
 use Rattle.least.specs.Keys.{markOf}
-use Rattle.alike.specs.Matching.{leafMask, recordMask, lowBy, linkRules}
+use Rattle.alike.specs.Matching.{leafSymmetry, recordSymmetry, lowBy, pointerRules}
 use Rattle.popular.specs.Places.{unitAt}
 use Rattle.popular.proofs.Starts.{starts-late}
 use Rattle.proper.specs.Places.{marksAt}
@@ -58,11 +58,11 @@ unit-inj (suc k) p q e = omega arith
 pub no-mark : (bs : List ℕ) (k x : ℕ) → isIn x (placesAt bs k) ≡ false → markOf (unitAt k) (marksAt bs k) x ≡ 0
 unfolding marksAt
 no-mark bs zero x e =
-    marks-other (leafMask (listAt bs 0)) 8 (placesAt bs 0) (replicate (length (listAt bs 0)) 0) (8 * x)
+    marks-other (leafSymmetry (listAt bs 0)) 8 (placesAt bs 0) (replicate (length (listAt bs 0)) 0) (8 * x)
     (λ p t q. subst T e (subst (λ (n : ℕ). T (isIn n (placesAt bs 0))) (sym (unit-inj 0 x p q)) t))
     ∙ zeros-at (length (listAt bs 0)) (8 * x)
 no-mark bs (suc k) x e =
-    marks-other (recordMask (unitAt k) (marksAt bs k) (listAt bs (suc k))) 2 (placesAt bs (suc k)) (replicate (length (listAt bs (suc k))) 0) (2 * x)
+    marks-other (recordSymmetry (unitAt k) (marksAt bs k) (listAt bs (suc k))) 2 (placesAt bs (suc k)) (replicate (length (listAt bs (suc k))) 0) (2 * x)
     (λ p t q. subst T e (subst (λ (n : ℕ). T (isIn n (placesAt bs (suc k)))) (sym (unit-inj (suc k) x p q)) t))
     ∙ zeros-at (length (listAt bs (suc k))) (2 * x)
 
@@ -74,9 +74,9 @@ mark-start bs k x h = go (isIn x (placesAt bs k)) refl
     go false e = absurd (omega (arith, h, no-mark bs k x e))
 
 -- so a pointer that keeps the rules by marks keeps rule 4
-pub link-ok : (bs : List ℕ) (k : ℕ) (r : Link) → T (linkRules (unitAt k) (marksAt bs k) r) → T (linkOk (placesAt bs k) r)
-unfolding linkRules linkOk
-link-ok bs k r t = go (eqb (r .code) 0) t
+pub pointer-ok : (bs : List ℕ) (k : ℕ) (r : PackedPointer) → T (pointerRules (unitAt k) (marksAt bs k) r) → T (packedPointerOk (placesAt bs k) r)
+unfolding pointerRules packedPointerOk
+pointer-ok bs k r t = go (eqb (r .code) 0) t
   where
     m : ℕ
     m = markOf (unitAt k) (marksAt bs k) (r .place)

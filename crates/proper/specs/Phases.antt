@@ -6,7 +6,7 @@ use Prim.Native.Nat.{ℕ, zero, suc, _+_}
 use lib.ListN.{length, replicate}
 use Rattle.paper.specs.Numbers.{allIn}
 use Rattle.paper.specs.Packed.{startAt, leafOk}
-use Rattle.alike.specs.Matching.{placesIn, leavesIn, leavesMatch, recordsMatch, leafMask, recordMask, recordRules, apartIn}
+use Rattle.alike.specs.Matching.{placesIn, leavesIn, leavesMatch, recordsMatch, leafSymmetry, recordSymmetry, recordRules, apartIn}
 use Rattle.proper.specs.Places.{marksOn, marksAt}
 
 -- a list of leaves
@@ -14,14 +14,14 @@ unfoldable pub leavesRules : List ℕ → Bool
 leavesRules l = allIn (leafOk l) (leavesIn l) && apartIn (leavesMatch l) (leavesIn l)
 
 abbrev pub leafMarks : List ℕ → List ℕ → List ℕ
-leafMarks l z = marksOn (leafMask l) 8 (leavesIn l) z
+leafMarks l z = marksOn (leafSymmetry l) 8 (leavesIn l) z
 
 -- a list of records; m: the marks one list down, u the bytes that a place counts there
 unfoldable pub innerRules : ℕ → List ℕ → List ℕ → Bool
 innerRules u m l = allIn (recordRules u m l) (placesIn l) && apartIn (recordsMatch u m l) (placesIn l)
 
 abbrev pub recordMarks : ℕ → List ℕ → List ℕ → List ℕ → List ℕ
-recordMarks u m l z = marksOn (recordMask u m l) 2 (placesIn l) z
+recordMarks u m l z = marksOn (recordSymmetry u m l) 2 (placesIn l) z
 
 -- the scratch when n lists are marked, from the leaves up: scratch position = file position
 unfoldable pub marksTail : List ℕ → ℕ → List ℕ

@@ -8,7 +8,7 @@ use Rattle.paper.specs.Numbers.{allBelow, allIn}
 use Rattle.paper.specs.Packed.{topOf, rootTag, isEmpty, listAt, leafOk, placesAt, topOk, headOk}
 use Rattle.least.specs.Keys.{markOf}
 use Rattle.popular.specs.Places.{unitAt, popularRules}
-use Rattle.alike.specs.Matching.{leavesMatch, recordsMatch, leafMask, recordMask, lowBy, recordRules, apartIn}
+use Rattle.alike.specs.Matching.{leavesMatch, recordsMatch, leafSymmetry, recordSymmetry, lowBy, recordRules, apartIn}
 
 -- ---- the marks of a list: f p at the first byte of each record, place p counting u bytes
 
@@ -18,9 +18,9 @@ marksOn f u (p ∷ ps) z = marksOn f u ps (set z (u * p) (f p))
 
 -- the marks of list k
 unfoldable pub marksAt : List ℕ → ℕ → List ℕ
-marksAt bs zero = marksOn (leafMask (listAt bs 0)) 8 (placesAt bs 0) (replicate (length (listAt bs 0)) 0)
+marksAt bs zero = marksOn (leafSymmetry (listAt bs 0)) 8 (placesAt bs 0) (replicate (length (listAt bs 0)) 0)
 marksAt bs (suc k) =
-    marksOn (recordMask (unitAt k) (marksAt bs k) (listAt bs (suc k))) 2 (placesAt bs (suc k)) (replicate (length (listAt bs (suc k))) 0)
+    marksOn (recordSymmetry (unitAt k) (marksAt bs k) (listAt bs (suc k))) 2 (placesAt bs (suc k)) (replicate (length (listAt bs (suc k))) 0)
 
 -- ---- the rules of one list
 

@@ -16,14 +16,14 @@ ghost use Rattle.popular.specs.Places.{Listed};
 use crate::lists::lists_bad;
 use alike::clear;
 use alike::tag_high;
-use limits::DEPTH_PLACE;
+use limits::DEPTH_POSITION;
 use limits::EMPTY_MARK;
 use limits::HALF_BYTES;
 use limits::LEAF_BYTES;
 use limits::LEAF_HEIGHT;
-use limits::MIRROR_PLACE;
-use limits::PACKED_FRONT;
+use limits::MIRROR_POSITION;
 use limits::PACKED_HEAD;
+use limits::PACKED_VERSION;
 use numbers::wide;
 use outline::depth;
 use outline::file_refusal;
@@ -64,7 +64,7 @@ fn root_high(file: &[u8], scratch: &[u8], starts: [u32; 15], top: u32) -> bool
     ensures { λ r. ⌜ r ≡ not (rootLow (now (file .entry))) ⌝ }
 {
     let a = starts[top as usize] as usize;
-    tag_high(wide(scratch[a]), wide(file[MIRROR_PLACE]))
+    tag_high(wide(scratch[a]), wide(file[MIRROR_POSITION]))
 }
 
 // Whether the file of a scene that is not empty breaks a rule past the sizes, 2 to 8. The scratch is left as the last test has it.
@@ -75,7 +75,7 @@ fn records_broken(file: &[u8], scratch: &mut [u8]) -> bool
     ensures { λ r. ⌜ r ≡ not (rulesBy (now (file .entry))) ⌝ }
 {
     let begins = starts(file);
-    let top = wide(file[DEPTH_PLACE]) - LEAF_HEIGHT;
+    let top = wide(file[DEPTH_POSITION]) - LEAF_HEIGHT;
     clear(scratch);
     if lists_bad(file, scratch, begins, top) {
         return true;
@@ -99,7 +99,7 @@ fn broken(file: &[u8], scratch: &mut [u8]) -> bool
     if head_bad(file) {
         return true;
     }
-    if file[MIRROR_PLACE] == EMPTY_MARK {
+    if file[MIRROR_POSITION] == EMPTY_MARK {
         return false;
     }
     records_broken(file, scratch)
@@ -125,7 +125,7 @@ pub fn check(file: &[u8], scratch: &mut [u8]) -> Checked
     if scratch.len() < n {
         return Checked::Refused(Refusal::ScratchShort);
     }
-    let number = head_number(file, PACKED_FRONT, PACKED_HEAD);
+    let number = head_number(file, PACKED_VERSION, PACKED_HEAD);
     if number != 0 {
         return Checked::Refused(file_refusal(number));
     }

@@ -10,11 +10,11 @@ ghost use Rattle.alike.specs.Matching.{recordRules, placesIn, leavesIn, Grouped
 ghost use Rattle.popular.specs.Places.{Listed};
 ghost use Rattle.proper.specs.Places.{listRules};
 ghost use Rattle.proper.specs.Phases.{leavesRules, leafMarks, innerRules, recordMarks, scratchAt};
-use alike::links_bad;
-use alike::record_mask;
+use alike::pointers_bad;
+use alike::record_symmetry;
 use alike::two_leaves_match;
 use alike::two_match;
-use leaf::leaf_mask;
+use leaf::leaf_symmetry;
 use limits::HALF_BYTES;
 use limits::LEAF_BYTES;
 use packed::leaf;
@@ -52,7 +52,7 @@ fn mark_leaves(leaves: &[u8], share: &mut [u8])
     let count = (leaves.len() / LEAF_BYTES) as u32;
     let mut place = 0u32;
     while place < count {
-        share[LEAF_BYTES * (place as usize)] = leaf_mask(leaf(leaves, place));
+        share[LEAF_BYTES * (place as usize)] = leaf_symmetry(leaf(leaves, place));
         place += 1;
     }
 }
@@ -87,7 +87,7 @@ fn records_bad(list: &[u8], marks: &[u8], unit: usize) -> bool
         if record_bad(list, place) {
             return true;
         }
-        if links_bad(list, place, marks, unit) {
+        if pointers_bad(list, place, marks, unit) {
             return true;
         }
         place += width(list, place);
@@ -106,8 +106,8 @@ fn mark_records(list: &[u8], shares: &mut [u8], unit: usize)
     let own = list.len();
     let mut place = 0u32;
     while HALF_BYTES * (place as usize) < list.len() {
-        let mask = record_mask(list, place, &shares[own..], unit);
-        shares[HALF_BYTES * (place as usize)] = mask;
+        let symmetry = record_symmetry(list, place, &shares[own..], unit);
+        shares[HALF_BYTES * (place as usize)] = symmetry;
         place += width(list, place);
     }
 }

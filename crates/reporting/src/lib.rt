@@ -2,7 +2,7 @@
 // voxels of the whole room and the packed length are printed.
 ghost use Prim.Native.Nat.{_≤_};
 use limits::DEEPEST;
-use limits::DEPTH_PLACE;
+use limits::DEPTH_POSITION;
 use limits::LEAST_DEPTH;
 use numbers::wide;
 
@@ -30,10 +30,10 @@ fn line(word: &[u8], number: u64) {
 fn depth(file: &[u8]) -> u32
     ensures { λ r. ⌜ r ≤ 16 ⌝ }
 {
-    if file.len() <= DEPTH_PLACE {
+    if file.len() <= DEPTH_POSITION {
         return 0;
     }
-    let said = wide(file[DEPTH_PLACE]);
+    let said = wide(file[DEPTH_POSITION]);
     if DEEPEST < said {
         return 0;
     }

@@ -9,7 +9,7 @@ ghost use lib.ListN.{length};
 ghost use Rattle.paper.specs.Rooms.{point};
 ghost use Rattle.paper.specs.Calls.{over};
 ghost use Rattle.rooms_c.specs.Exports.{openedNumbers, startsHeld, wishGiven, RoomsNewPromise, RoomsAddPromise, RoomsVoxelPromise, RoomsCellPromise, RoomsBoxPromise, RoomsKeptPromise, RoomsOutlinePromise, RoomsPackPromise, RoomsCheckPromise, RoomsPackedVoxelPromise, RoomsOpenPromise, RoomsAskPromise, RoomsDetailPromise};
-use paper::Sight;
+use paper::DistanceFactor;
 use paper::Wish;
 
 // The numbers of an opened scene: the depth, then the fifteen list starts.
@@ -220,7 +220,7 @@ fn wish_of(kind: u32, a: f64, b: f64) -> Wish
         return Wish::WidestEdge(a);
     }
     if kind == 2 {
-        return Wish::Distance(Sight {
+        return Wish::Distance(DistanceFactor {
             distance: a,
             factor: b,
         });

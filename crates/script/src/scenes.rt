@@ -4,7 +4,7 @@ use crate::given::byte;
 use crate::given::long;
 use crate::given::word;
 use crate::sums::sum_bytes;
-use paper::Sight;
+use paper::DistanceFactor;
 use paper::Wish;
 
 // `v`: packed voxel.
@@ -61,11 +61,11 @@ fn wish_of(kind: u8, first: f64, second: f64) -> Wish {
     if kind == 1 {
         return Wish::WidestEdge(first);
     }
-    let sight = Sight {
+    let pair = DistanceFactor {
         distance: first,
         factor: second,
     };
-    Wish::Distance(sight)
+    Wish::Distance(pair)
 }
 
 // `D`: detail.

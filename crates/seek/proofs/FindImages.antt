@@ -16,10 +16,10 @@ use Rattle.laws.proofs.Leaves.{mirrorLeaf-zero, mirrorLeaf-mirrorLeaf}
 use Rattle.laws.proofs.Places.{leaf-fits}
 use Rattle.laws.proofs.AddingTrees.{leaf-words}
 use Rattle.laws.proofs.StoreFacts.{Words}
-use Rattle.laws.specs.Masks.{maskMatch}
+use Rattle.laws.specs.Symmetries.{symmetryMatch}
 use Rattle.store.specs.Mirrored.{mirroredCell}
-use Rattle.seek.specs.Sought.{firstBelow, masksUnder}
-use Rattle.seek.proofs.MaskImage.{mask-image}
+use Rattle.seek.specs.Sought.{firstBelow, symmetriesUnder}
+use Rattle.seek.proofs.SymmetryImage.{symmetry-image}
 use Rattle.seek.proofs.FindFirst.{First, first-is, first-agree}
 
 -- ---- leaves
@@ -59,14 +59,14 @@ module _ (ws : List ℕ) (leaf t end : ℕ) (w : Words ws) (hl : leaf < 2 ^ 64) 
 
 -- cell q of list k matches under t
 abbrev pub cellPasses : List ℕ → ℕ → Cell → List ℕ → ℕ → ℕ → Bool
-cellPasses ws k cell masks q t = maskMatch masks cell (cellAt (keptOf ws) k q) t
+cellPasses ws k cell symmetries q t = symmetryMatch symmetries cell (cellAt (keptOf ws) k q) t
 
-module _ (ws : List ℕ) (k : ℕ) (cell : Cell) (masks : List ℕ) (t end : ℕ) (ht : t < 8) where
+module _ (ws : List ℕ) (k : ℕ) (cell : Cell) (symmetries : List ℕ) (t end : ℕ) (ht : t < 8) where
   pub cell-first : {image : List ℕ} {n : ℕ} → image ≡ mirroredCell t cell
-      → n ≡ firstBelow end (λ q. maskMatch (masksUnder t masks) image (cellAt (keptOf ws) k q) 0) → First (λ q. cellPasses ws k cell masks q t) end n
+      → n ≡ firstBelow end (λ q. symmetryMatch (symmetriesUnder t symmetries) image (cellAt (keptOf ws) k q) 0) → First (λ q. cellPasses ws k cell symmetries q t) end n
   cell-first {image} {n} ei en =
-      let under : List ℕ = masksUnder t masks in
+      let under : List ℕ = symmetriesUnder t symmetries in
       let of : ℕ → Cell = λ q. cellAt (keptOf ws) k q in
-      first-agree end n (λ q. maskMatch under image (of q) 0) (λ q. cellPasses ws k cell masks q t)
-      (λ q h. ap (λ (i : List ℕ). maskMatch under i (of q) 0) ei ∙ mask-image masks cell (of q) t ht)
-      (subst (First (λ q. maskMatch under image (of q) 0) end) (sym en) (first-is end (λ q. maskMatch under image (of q) 0)))
+      first-agree end n (λ q. symmetryMatch under image (of q) 0) (λ q. cellPasses ws k cell symmetries q t)
+      (λ q h. ap (λ (i : List ℕ). symmetryMatch under i (of q) 0) ei ∙ symmetry-image symmetries cell (of q) t ht)
+      (subst (First (λ q. symmetryMatch under image (of q) 0) end) (sym en) (first-is end (λ q. symmetryMatch under image (of q) 0)))

@@ -1,9 +1,9 @@
--- Laws that belong to no one function: matching by masks, and the search.
--- matching by masks
-pub mod MaskImage
-pub mod MaskWays
+-- Laws that belong to no one function: matching by symmetries, and the search.
+-- matching by symmetries
+pub mod SymmetryImage
+pub mod SymmetryWays
 -- seeking
 pub mod FindFirst
 pub mod FindBest
 pub mod FindImages
-pub mod FindMasks
+pub mod FindSymmetries

@@ -1,4 +1,4 @@
--- What seeking answers, read as the paper's; the masks of the children of a cell's image; the first number that passes, and the best so far.
+-- What seeking answers, read as the paper's; the symmetries of the children of a cell's image; the first number that passes, and the best so far.
 -- Definitions only.
 use mathlib.Core.Bool.{Bool, cond}
 use mathlib.Core.List.{List}
@@ -20,9 +20,9 @@ abbrev pub sought : Sought → Option ℕ
 sought (At p) = some p
 sought Nowhere = O.none
 
--- the masks of the children of a cell's image under t
-unfoldable pub masksUnder : ℕ → List ℕ → List ℕ
-masksUnder t ms = tabulate 0 8 (λ i. getD ms (bitXor i t) 0)
+-- the symmetries of the children of a cell's image under t
+unfoldable pub symmetriesUnder : ℕ → List ℕ → List ℕ
+symmetriesUnder t ms = tabulate 0 8 (λ i. getD ms (bitXor i t) 0)
 
 -- the lowest number below `end` that passes, or `end`
 abbrev pub orEnd : ℕ → Option ℕ → ℕ

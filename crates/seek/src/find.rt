@@ -5,9 +5,9 @@ ghost use Prim.Native.Nat.{_≤_, _<_};
 ghost use lib.Dec.{T, eqb};
 ghost use Rattle.paper.specs.Store.{mostCapacity, heights, keptCount, keptOf, cellsAt, cellAt, leafNo, headerOk};
 ghost use Rattle.paper.specs.Match.{matches, find, leafCell};
-ghost use Rattle.laws.specs.Masks.{maskMatch};
-ghost use Rattle.seek.specs.Sought.{masksUnder, sought, firstBelow, betterOf, foundOf};
-use crate::masks::same_cell;
+ghost use Rattle.laws.specs.Symmetries.{symmetryMatch};
+ghost use Rattle.seek.specs.Sought.{symmetriesUnder, sought, firstBelow, betterOf, foundOf};
+use crate::symmetries::same_cell;
 use leaf::mirror_leaf;
 use limits::MIRRORS;
 use store::cell_at;
@@ -87,17 +87,24 @@ pub fn find_leaf(store: &[u32], leaf: u64) -> Sought
     found(best, count)
 }
 
-// The first cell kept in list k below `end` that the image of a cell under a mirror matches under mirror 0, or `end`; `masks`
+// The first cell kept in list k below `end` that the image of a cell under a mirror matches under mirror 0, or `end`; `symmetries`
 // are those of the cell's children.
-fn first_cell(store: &[u32], k: u32, image: [u32; 8], masks: [u8; 8], mirror: u32, end: u32) -> u32
+fn first_cell(
+    store: &[u32],
+    k: u32,
+    image: [u32; 8],
+    symmetries: [u8; 8],
+    mirror: u32,
+    end: u32,
+) -> u32
     requires { ⌜ T (headerOk (now store)) ⌝ }
     requires { ⌜ (1 ≤ k) × (k < heights) ⌝ }
     requires { ⌜ (end ≤ keptCount (now store) k) × (mirror < 8) ⌝ }
-    ensures { λ r. ⌜ r ≡ firstBelow end (λ n. maskMatch (masksUnder mirror masks) image (cellAt (keptOf (now (store .entry))) k n) 0) ⌝ }
+    ensures { λ r. ⌜ r ≡ firstBelow end (λ n. symmetryMatch (symmetriesUnder mirror symmetries) image (cellAt (keptOf (now (store .entry))) k n) 0) ⌝ }
 {
     let mut n = 0u32;
     while n < end {
-        if same_cell(image, masks, mirror, cell_at(store, k, n)) {
+        if same_cell(image, symmetries, mirror, cell_at(store, k, n)) {
             return n;
         }
         n += 1;
@@ -105,11 +112,11 @@ fn first_cell(store: &[u32], k: u32, image: [u32; 8], masks: [u8; 8], mirror: u3
     end
 }
 
-// A cell sought among those kept in list k, k not 0, `masks` being those of its children.
-pub fn find_cell(store: &[u32], k: u32, cell: [u32; 8], masks: [u8; 8]) -> Sought
+// A cell sought among those kept in list k, k not 0, `symmetries` being those of its children.
+pub fn find_cell(store: &[u32], k: u32, cell: [u32; 8], symmetries: [u8; 8]) -> Sought
     requires { ⌜ T (headerOk (now store)) ⌝ }
     requires { ⌜ (1 ≤ k) × (k < heights) ⌝ }
-    ensures { λ r. ⌜ sought r ≡ find (maskMatch masks cell) (cellsAt (keptOf (now (store .entry))) k) 0 ⌝ }
+    ensures { λ r. ⌜ sought r ≡ find (symmetryMatch symmetries cell) (cellsAt (keptOf (now (store .entry))) k) 0 ⌝ }
 {
     let count = kept_count(store, k);
     let mut best = Best {
@@ -118,7 +125,7 @@ pub fn find_cell(store: &[u32], k: u32, cell: [u32; 8], masks: [u8; 8]) -> Sough
     };
     let mut t = 0u32;
     while t < MIRRORS {
-        let n = first_cell(store, k, mirrored(cell, t), masks, t, best.number);
+        let n = first_cell(store, k, mirrored(cell, t), symmetries, t, best.number);
         best = better(best, n, t);
         t += 1;
     }

@@ -1,8 +1,8 @@
 // A cell sought among those that the store keeps at its height, as it is or mirrored.
 mod find; // the lowest number and, for it, the lowest mirror
-mod masks; // the mirrors under which a cell matches itself
+mod symmetries; // the mirrors under which a cell matches itself
 
 pub use find::Sought;
 pub use find::find_cell;
 pub use find::find_leaf;
-pub use masks::cell_mask;
+pub use symmetries::cell_symmetry;

@@ -10,7 +10,7 @@ use lib.ListN.{length}
 use borrow.Author.Tests.{le-leb, lt-leb}
 use Rattle.laws.proofs.Tests.{and-left, and-right, all-at}
 use Rattle.paper.specs.Numbers.{allBelow}
-use Rattle.paper.specs.Store.{mostCapacity, mostScenes, heights, firstScene, used, zerosPlace, capacityOf, scenesHeld, keptCount, scenePlace, blank, capacityOk, headerOk}
+use Rattle.paper.specs.Store.{mostCapacity, mostScenes, heights, firstScene, used, zerosPosition, capacityOf, scenesHeld, keptCount, scenePosition, blank, capacityOk, headerOk}
 
 pub record Header (ws : List ℕ) : Type 0 where
   pub room : used (capacityOf ws) ≤ length ws
@@ -27,7 +27,7 @@ header ws t =
     let b : Bool = capacityOk C in
     let s : Bool = leb (scenesHeld ws) mostScenes in
     let p : ℕ → Bool = λ k. leb (keptCount ws k) C in
-    let z : Bool = blank ws zerosPlace (firstScene - zerosPlace) in
+    let z : Bool = blank ws zerosPosition (firstScene - zerosPosition) in
     let four : T (a && b && s && allBelow heights p) = and-left (a && b && s && allBelow heights p) z t in
     let three : T (a && b && s) = and-left (a && b && s) (allBelow heights p) four in
     let two : T (a && b) = and-left (a && b) s three in
@@ -41,7 +41,7 @@ header ws t =
     }
 
 -- the words before the first list are there
-pub header-front : (ws : List ℕ) → T (headerOk ws) → scenePlace mostScenes ≤ length ws
+pub header-front : (ws : List ℕ) → T (headerOk ws) → scenePosition mostScenes ≤ length ws
 header-front ws t = omega (arith, header ws t .room)
 
 -- ---- the ways through the header's test, in the code's order: size, scenes, counts, zeros
@@ -56,7 +56,7 @@ module _ (ws : List ℕ) where
   counted = allBelow heights (λ k. leb (keptCount ws k) (capacityOf ws))
 
   abbrev pub zeros : Bool
-  zeros = blank ws zerosPlace (firstScene - zerosPlace)
+  zeros = blank ws zerosPosition (firstScene - zerosPosition)
 
   abbrev parts : Bool → Bool → Bool → Bool
   parts s h k = s && h && k && zeros
@@ -65,7 +65,7 @@ module _ (ws : List ℕ) where
   unfolding headerOk
   in-parts = ap (λ (s : Bool). parts s (leb (scenesHeld ws) mostScenes) counted) (and-comm (leb (used (capacityOf ws)) (length ws)) (capacityOk (capacityOf ws)))
 
-  pub header-short : length ws < scenePlace mostScenes → headerOk ws ≡ false
+  pub header-short : length ws < scenePosition mostScenes → headerOk ws ≡ false
   unfolding headerOk
   header-short l = rw (lt-leb (used (capacityOf ws)) (length ws) (omega arith))
 

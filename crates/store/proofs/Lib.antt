@@ -3,7 +3,7 @@
 pub mod Tests
 pub mod Blank
 pub mod HeaderFacts
-pub mod Places
+pub mod Positions
 pub mod Usable
 pub mod Ways
 pub mod InPlace

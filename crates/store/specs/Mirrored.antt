@@ -9,9 +9,9 @@ use Rattle.paper.specs.Store.{Cell, tagOf, cellNo, pointer}
 
 -- a pointer mirrored by t ('one after the other'): the tag changes, the cell's number stays, and none stays none; a tag with no number
 -- is read as number 0, as the match rule reads it
-unfoldable pub turnedBy : ℕ → ℕ → ℕ
-turnedBy t p = cond (eqb p 0) 0 (pointer (bitXor (tagOf p) t) (cellNo p))
+unfoldable pub mirroredPointer : ℕ → ℕ → ℕ
+mirroredPointer t p = cond (eqb p 0) 0 (pointer (bitXor (tagOf p) t) (cellNo p))
 
 -- a cell mirrored by t ('A mirrored cell'): its pointers change places and are each mirrored
 unfoldable pub mirroredCell : ℕ → Cell → Cell
-mirroredCell t c = tabulate 0 8 (λ i. turnedBy t (getD c (bitXor i t) 0))
+mirroredCell t c = tabulate 0 8 (λ i. mirroredPointer t (getD c (bitXor i t) 0))

@@ -3,7 +3,7 @@ ghost use mathlib.Core.Path.{_≡_};
 ghost use Prim.Native.Nat.{_+_, _≤_, _<_};
 ghost use lib.Dec.{T};
 ghost use lib.ListN.{length, take, drop};
-ghost use Rattle.paper.specs.Store.{mostCapacity, heights, keptCount, cellPlace, keptOf, cellAt, leafNo, headerOk};
+ghost use Rattle.paper.specs.Store.{mostCapacity, heights, keptCount, cellPosition, keptOf, cellAt, leafNo, headerOk};
 use crate::header::FIRST_LIST;
 use crate::header::capacity;
 use numbers::wider;
@@ -17,11 +17,11 @@ pub const CELL_STRIDE: usize = 8;
 pub const HIGH_WORD: u64 = 4294967296;
 
 // Where cell n of list k starts, in a store of capacity c.
-pub fn cell_place(c: u32, k: u32, n: u32) -> usize
+pub fn cell_position(c: u32, k: u32, n: u32) -> usize
     requires { ⌜ c ≤ mostCapacity ⌝ }
     requires { ⌜ k < heights ⌝ }
     requires { ⌜ n ≤ c ⌝ }
-    ensures { λ r. ⌜ r ≡ cellPlace c k n ⌝ }
+    ensures { λ r. ⌜ r ≡ cellPosition c k n ⌝ }
 {
     let number = n as usize;
     if k == 0 {
@@ -40,7 +40,7 @@ pub fn leaf_at(store: &[u32], n: u32) -> u64
     requires { ⌜ n < keptCount (now store) 0 ⌝ }
     ensures { λ r. ⌜ r ≡ leafNo (cellAt (keptOf (now (store .entry))) 0 n) ⌝ }
 {
-    let at = cell_place(capacity(store), 0, n);
+    let at = cell_position(capacity(store), 0, n);
     wider(store[at]) * HIGH_WORD + wider(store[at + 1])
 }
 
@@ -68,5 +68,5 @@ pub fn cell_at(store: &[u32], k: u32, n: u32) -> [u32; 8]
     requires { ⌜ n < keptCount (now store) k ⌝ }
     ensures { λ r. ⌜ r ≡ cellAt (keptOf (now (store .entry))) k n ⌝ }
 {
-    eight(store, cell_place(capacity(store), k, n))
+    eight(store, cell_position(capacity(store), k, n))
 }

@@ -8,7 +8,7 @@ ghost use Rattle.paper.specs.Store.{heights, keptOf, headerOk, listUsable, list
 use crate::cells::CELL_STRIDE;
 use crate::cells::LEAF_STRIDE;
 use crate::cells::cell_at;
-use crate::cells::cell_place;
+use crate::cells::cell_position;
 use crate::cells::leaf_at;
 use crate::header::HEIGHTS;
 use crate::header::capacity;
@@ -75,7 +75,7 @@ fn list_not_blank(store: &[u32], k: u32) -> bool
 {
     let c = capacity(store);
     let n = kept_count(store, k);
-    let at = cell_place(c, k, n);
+    let at = cell_position(c, k, n);
     let spare = (c - n) as usize;
     if k == 0 {
         return not_blank(store, at, LEAF_STRIDE * spare);

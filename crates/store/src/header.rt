@@ -5,7 +5,7 @@ ghost use Prim.Native.Nat.{_+_, _≤_, _<_};
 ghost use lib.Dec.{T, leb};
 ghost use lib.ListN.{length};
 ghost use Rattle.paper.specs.Numbers.{allBelow};
-ghost use Rattle.paper.specs.Store.{mostCapacity, mostScenes, heights, used, capacityOf, scenesHeld, isHeld, keptCount, scenePlace, blank, capacityOk, headerOk};
+ghost use Rattle.paper.specs.Store.{mostCapacity, mostScenes, heights, used, capacityOf, scenesHeld, isHeld, keptCount, scenePosition, blank, capacityOk, headerOk};
 
 // A capacity is 1 to 65,536.
 const LEAST_CAPACITY: u32 = 1;
@@ -55,7 +55,7 @@ pub fn size_bad(capacity: u32, words: usize) -> bool
 
 // Whether a list's count is above the capacity. Here and below no early exit: so it compiles to vector instructions.
 fn counts_bad(store: &[u32]) -> bool
-    requires { ⌜ scenePlace mostScenes ≤ length (now store) ⌝ }
+    requires { ⌜ scenePosition mostScenes ≤ length (now store) ⌝ }
     ensures { λ r. ⌜ r ≡ not (allBelow heights (λ k. leb (keptCount (now (store .entry)) k) (capacityOf (now (store .entry))))) ⌝ }
 {
     let mut bad = false;

@@ -3,16 +3,16 @@ ghost use mathlib.Core.Path.{_≡_};
 ghost use Prim.Native.Nat.{_<_};
 ghost use lib.Bits.{bitXor};
 ghost use lib.ListN.{getD};
-ghost use Rattle.store.specs.Mirrored.{turnedBy, mirroredCell};
+ghost use Rattle.store.specs.Mirrored.{mirroredPointer, mirroredCell};
 use crate::pointers::cell_number;
 use crate::pointers::pointer;
 use crate::pointers::tag;
 
 // A pointer mirrored once more, by its mirror and its number: none stays none, and a tag with no number is read as number 0,
 // as the match rule reads it.
-pub fn turned(p: u32, mirror: u32) -> u32
+pub fn mirrored_pointer(p: u32, mirror: u32) -> u32
     requires { ⌜ mirror < 8 ⌝ }
-    ensures { λ r. ⌜ r ≡ turnedBy mirror p ⌝ }
+    ensures { λ r. ⌜ r ≡ mirroredPointer mirror p ⌝ }
 {
     if p == 0 {
         return 0;
@@ -21,12 +21,12 @@ pub fn turned(p: u32, mirror: u32) -> u32
 }
 
 // Pointer i of a cell so mirrored.
-fn turned_child(cell: [u32; 8], mirror: u32, i: u32) -> u32
+fn mirrored_at(cell: [u32; 8], mirror: u32, i: u32) -> u32
     requires { ⌜ (mirror < 8) × (i < 8) ⌝ }
-    ensures { λ r. ⌜ r ≡ turnedBy mirror (getD cell (bitXor i mirror) 0) ⌝ }
+    ensures { λ r. ⌜ r ≡ mirroredPointer mirror (getD cell (bitXor i mirror) 0) ⌝ }
 {
     let from = (i ^ mirror) as usize;
-    turned(cell[from], mirror)
+    mirrored_pointer(cell[from], mirror)
 }
 
 // A cell so mirrored.
@@ -35,13 +35,13 @@ pub fn mirrored(cell: [u32; 8], mirror: u32) -> [u32; 8]
     ensures { λ r. ⌜ r ≡ mirroredCell mirror cell ⌝ }
 {
     [
-        turned_child(cell, mirror, 0),
-        turned_child(cell, mirror, 1),
-        turned_child(cell, mirror, 2),
-        turned_child(cell, mirror, 3),
-        turned_child(cell, mirror, 4),
-        turned_child(cell, mirror, 5),
-        turned_child(cell, mirror, 6),
-        turned_child(cell, mirror, 7),
+        mirrored_at(cell, mirror, 0),
+        mirrored_at(cell, mirror, 1),
+        mirrored_at(cell, mirror, 2),
+        mirrored_at(cell, mirror, 3),
+        mirrored_at(cell, mirror, 4),
+        mirrored_at(cell, mirror, 5),
+        mirrored_at(cell, mirror, 6),
+        mirrored_at(cell, mirror, 7),
     ]
 }

@@ -4,7 +4,7 @@ ghost use mathlib.Core.Bool.{not};
 ghost use Prim.Native.Nat.{_≤_, _<_};
 ghost use lib.Dec.{T};
 ghost use Rattle.paper.specs.Numbers.{allBelow};
-ghost use Rattle.paper.specs.Store.{mostScenes, scenePlace, sceneDepth, sceneRoot, headerOk, sceneOk, placeOk};
+ghost use Rattle.paper.specs.Store.{mostScenes, scenePosition, sceneDepth, sceneRoot, headerOk, sceneOk, placeOk};
 use crate::header::MOST_SCENES;
 use crate::header::kept_count;
 use crate::header::not_held;
@@ -18,9 +18,9 @@ const FIRST_SCENE: usize = 32;
 const SCENE_WORDS: usize = 2;
 
 // Where scene n's words start.
-pub fn scene_place(n: u32) -> usize
+pub fn scene_position(n: u32) -> usize
     requires { ⌜ n ≤ mostScenes ⌝ }
-    ensures { λ r. ⌜ r ≡ scenePlace n ⌝ }
+    ensures { λ r. ⌜ r ≡ scenePosition n ⌝ }
 {
     FIRST_SCENE + SCENE_WORDS * (n as usize)
 }
@@ -31,7 +31,7 @@ pub fn scene_depth(store: &[u32], n: u32) -> u32
     requires { ⌜ n < mostScenes ⌝ }
     ensures { λ r. ⌜ r ≡ sceneDepth (now (store .entry)) n ⌝ }
 {
-    store[scene_place(n)]
+    store[scene_position(n)]
 }
 
 // The root pointer of scene n.
@@ -40,7 +40,7 @@ pub fn scene_root(store: &[u32], n: u32) -> u32
     requires { ⌜ n < mostScenes ⌝ }
     ensures { λ r. ⌜ r ≡ sceneRoot (now (store .entry)) n ⌝ }
 {
-    store[scene_place(n) + 1]
+    store[scene_position(n) + 1]
 }
 
 // Whether scene n is damaged: its depth not 2 to 16, or its root pointer bad.

@@ -14,7 +14,7 @@ use Rattle.paper.specs.Rooms.{Point, Inside, inside, depthOk, deepest, cellOf, 
 use Rattle.paper.specs.Store.{Cell, tagOf, cellNo, sceneDepth, sceneRoot, keptOf}
 use Rattle.paper.specs.Meaning.{rootRoom}
 use Rattle.paper.specs.Answers.{told, outcome, numberOf}
-use Rattle.paper.specs.Questions.{corner, pointerTo, cellFull, cellWay, fromRoot, wayDamaged}
+use Rattle.paper.specs.Questions.{corner, pointerTo, cellNonEmpty, cellWalkDamaged, fromRoot, walkDamaged}
 use Rattle.paper.specs.Calls.{cellOutside, cellDamaged, cellOutcome}
 use Rattle.paper.specs.declared.Refusal.{Refusal}
 use Rattle.laws.proofs.OutlineCells.{no-voxel-empty}
@@ -28,18 +28,18 @@ use Rattle.walk.proofs.Ends.{told-end, none-stays}
 use Rattle.walk.proofs.Cells.{corner-inside, pointer-root, small-root}
 
 -- which of the two decides
-full-high : (K : List (List Cell)) (D p h : ℕ) (c : Point) → 2 ≤ h → cellFull K D p h c ≡ not (eqb (pointerTo K (h - 2) (D - 2) p (corner h c)) 0)
-unfolding cellFull
+full-high : (K : List (List Cell)) (D p h : ℕ) (c : Point) → 2 ≤ h → cellNonEmpty K D p h c ≡ not (eqb (pointerTo K (h - 2) (D - 2) p (corner h c)) 0)
+unfolding cellNonEmpty
 full-high K D p h c l = ap (λ (b : Bool). cond b (not (eqb (pointerTo K (h - 2) (D - 2) p (corner h c)) 0)) (nonEmpty (2 ^ h) (cellOf (rootRoom K D p) h c))) (le-leb 2 h l)
 
-full-low : (K : List (List Cell)) (D p h : ℕ) (c : Point) → h < 2 → cellFull K D p h c ≡ nonEmpty (2 ^ h) (cellOf (rootRoom K D p) h c)
-unfolding cellFull
+full-low : (K : List (List Cell)) (D p h : ℕ) (c : Point) → h < 2 → cellNonEmpty K D p h c ≡ nonEmpty (2 ^ h) (cellOf (rootRoom K D p) h c)
+unfolding cellNonEmpty
 full-low K D p h c l = ap (λ (b : Bool). cond b (not (eqb (pointerTo K (h - 2) (D - 2) p (corner h c)) 0)) (nonEmpty (2 ^ h) (cellOf (rootRoom K D p) h c))) (lt-leb 2 h l)
 
 -- ---- an absent root
 
-none-full : (K : List (List Cell)) (D h : ℕ) (c : Point) → cellFull K D 0 h c ≡ false
-unfolding cellFull rootRoom
+none-full : (K : List (List Cell)) (D h : ℕ) (c : Point) → cellNonEmpty K D 0 h c ≡ false
+unfolding cellNonEmpty rootRoom
 none-full K D h c =
     ap (λ (q : ℕ). cond (leb 2 h) (not (eqb q 0)) (nonEmpty (2 ^ h) (λ v. false))) (none-stays K (h - 2) (D - 2) (corner h c))
     ∙ ap (cond (leb 2 h) false) (no-voxel-empty (2 ^ h)) ∙ same (leb 2 h)
@@ -57,8 +57,8 @@ pub cell-high : (K : List (List Cell)) (D p h : ℕ) (c : Point) → T (depthOk 
     → toldBy (cellEnd (walkTo K (h - 2) (D - 2) (cellNo p) (tagOf p) (corner h c))) ≡ cellAsked K D p h c
 cell-high K D p h c d l m i z =
     ap toldBy (pointer-root K (h - 2) D p (corner h c) d (corner-inside D h c m i) z)
-    ∙ told-end (cellWay K D p h c) (not (eqb (pointerTo K (h - 2) (D - 2) p (corner h c)) 0))
-    ∙ ap (λ (b : Bool). pastEntry false (cellWay K D p h c) (bitFor b)) (sym (full-high K D p h c l))
+    ∙ told-end (cellWalkDamaged K D p h c) (not (eqb (pointerTo K (h - 2) (D - 2) p (corner h c)) 0))
+    ∙ ap (λ (b : Bool). pastEntry false (cellWalkDamaged K D p h c) (bitFor b)) (sym (full-high K D p h c l))
 
 pub cell-low : (K : List (List Cell)) (D p h : ℕ) (c : Point) → T (depthOk D) → h < 2 → h ≤ D → Inside (2 ^ (D - h)) c → T (not (eqb p 0))
     → toldBy (smallAt K h (corner h c) (walkTo K (h - 2) (D - 2) (cellNo p) (tagOf p) (corner h c))) ≡ cellAsked K D p h c
@@ -66,24 +66,24 @@ cell-low K D p h c d l m i z =
     let e : h - 2 ≡ 0 = omega arith in
     ap (λ (s : ℕ). toldBy (smallAt K h (corner h c) (walkTo K s (D - 2) (cellNo p) (tagOf p) (corner h c)))) e
     ∙ ap toldBy (small-root K D p h c d l m i z)
-    ∙ told-end (fromRoot (wayDamaged K 0) K D p (corner h c)) (nonEmpty (2 ^ h) (cellOf (rootRoom K D p) h c))
-    ∙ ap₂ (λ (s : ℕ) (b : Bool). pastEntry false (fromRoot (wayDamaged K s) K D p (corner h c)) (bitFor b)) (sym e) (sym (full-low K D p h c l))
+    ∙ told-end (fromRoot (walkDamaged K 0) K D p (corner h c)) (nonEmpty (2 ^ h) (cellOf (rootRoom K D p) h c))
+    ∙ ap₂ (λ (s : ℕ) (b : Bool). pastEntry false (fromRoot (walkDamaged K s) K D p (corner h c)) (bitFor b)) (sym e) (sym (full-low K D p h c l))
 
 -- ---- outside
 
 module _ (K : List (List Cell)) (D p h : ℕ) (c : Point) where
   pub cell-above : D < h → told 10 (0 ∷ []) ≡ cellTold K D p h c
-  cell-above l = past-outside (cellOut D h c) (cellWay K D p h c) (bitFor (cellFull K D p h c)) (true-T (ap (λ (b : Bool). not b || not (inside (2 ^ (D - h)) c)) (lt-leb h D l)))
+  cell-above l = past-outside (cellOut D h c) (cellWalkDamaged K D p h c) (bitFor (cellNonEmpty K D p h c)) (true-T (ap (λ (b : Bool). not b || not (inside (2 ^ (D - h)) c)) (lt-leb h D l)))
 
   -- at most the depth: the coordinates decide
   out-is : h ≤ D → cellOut D h c ≡ not (inside (2 ^ (D - h)) c)
   out-is l = ap (λ (b : Bool). not b || not (inside (2 ^ (D - h)) c)) (le-leb h D l)
 
   pub cell-past : h ≤ D → T (not (inside (2 ^ (D - h)) c)) → told 10 (0 ∷ []) ≡ cellTold K D p h c
-  cell-past l o = past-outside (cellOut D h c) (cellWay K D p h c) (bitFor (cellFull K D p h c)) (true-T (out-is l ∙ T-true {b = not (inside (2 ^ (D - h)) c)} o))
+  cell-past l o = past-outside (cellOut D h c) (cellWalkDamaged K D p h c) (bitFor (cellNonEmpty K D p h c)) (true-T (out-is l ∙ T-true {b = not (inside (2 ^ (D - h)) c)} o))
 
   pub cell-inside : h ≤ D → T (inside (2 ^ (D - h)) c) → cellAsked K D p h c ≡ cellTold K D p h c
-  cell-inside l i = past-inside (cellOut D h c) (cellWay K D p h c) (bitFor (cellFull K D p h c)) (true-T (ap not (out-is l) ∙ not-not (inside (2 ^ (D - h)) c) ∙ T-true {b = inside (2 ^ (D - h)) c} i))
+  cell-inside l i = past-inside (cellOut D h c) (cellWalkDamaged K D p h c) (bitFor (cellNonEmpty K D p h c)) (true-T (ap not (out-is l) ∙ not-not (inside (2 ^ (D - h)) c) ∙ T-true {b = inside (2 ^ (D - h)) c} i))
 
 -- ---- the whole outcome
 
@@ -91,12 +91,12 @@ pub cell-settled : (ws : List ℕ) (n D p h : ℕ) (c : Point) → Entered ws n 
 unfolding cellOutcome cellOutside cellDamaged
 cell-settled ws n D p h c e =
     ap₂ (λ (d q : ℕ). outcome (cellTold (keptOf ws) d q h c) []) (e .depth) (e .root)
-    ∙ past-settled e (cellOut (sceneDepth ws n) h c) (cellWay (keptOf ws) (sceneDepth ws n) (sceneRoot ws n) h c) (bitFor (cellFull (keptOf ws) (sceneDepth ws n) (sceneRoot ws n) h c))
+    ∙ past-settled e (cellOut (sceneDepth ws n) h c) (cellWalkDamaged (keptOf ws) (sceneDepth ws n) (sceneRoot ws n) h c) (bitFor (cellNonEmpty (keptOf ws) (sceneDepth ws n) (sceneRoot ws n) h c))
 
 pub cell-refused : (ws : List ℕ) (n h : ℕ) (c : Point) (r : Refusal) → Says ws n (Refused r) → refusedBy (numberOf r) ≡ cellOutcome ws n h c
 unfolding cellOutcome cellOutside cellDamaged
 cell-refused ws n h c r s =
-    s (cellOut (sceneDepth ws n) h c) (cellWay (keptOf ws) (sceneDepth ws n) (sceneRoot ws n) h c) (bitFor (cellFull (keptOf ws) (sceneDepth ws n) (sceneRoot ws n) h c))
+    s (cellOut (sceneDepth ws n) h c) (cellWalkDamaged (keptOf ws) (sceneDepth ws n) (sceneRoot ws n) h c) (bitFor (cellNonEmpty (keptOf ws) (sceneDepth ws n) (sceneRoot ws n) h c))
 
 -- ---- a corner's coordinates are below 2^16
 

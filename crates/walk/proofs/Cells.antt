@@ -16,11 +16,11 @@ use Rattle.paper.specs.Outline.{edge}
 use Rattle.paper.specs.Store.{Cell, cellsAt, cellAt, tagOf, cellNo, anyBad}
 use Rattle.paper.specs.Meaning.{rootRoom}
 use Rattle.paper.specs.Walk.{isDamaged, solidAt}
-use Rattle.paper.specs.Questions.{voxelWalk, below, wayDamaged, fromRoot, corner, pointerTo}
+use Rattle.paper.specs.Questions.{voxelWalk, below, walkDamaged, fromRoot, corner, pointerTo}
 use Rattle.laws.proofs.CellVoxels.{voxel-means}
 use Rattle.laws.proofs.OutlineCells.{nonEmpty-same, no-voxel-empty}
 use Rattle.walk.specs.Walk.{takenFrom, walkTo, endOf, cellEnd, leafSeen, smallAt}
-use Rattle.points.specs.Seeing.{octant, seenAt}
+use Rattle.points.specs.Seeing.{childNoAt, seenAt}
 use Rattle.walk.specs.declared.walks.Ended.{Ended}
 use Rattle.walk.specs.declared.walks.Ended.the-variants.{Absent, At, Damaged}
 use Rattle.walk.proofs.Ends.{orDamage, metDamage, end-damage, pointer-end}
@@ -41,20 +41,20 @@ plain-seen : (D : ℕ) (v : Point) → T (depthOk D) → Inside (2 ^ D) v → se
 plain-seen D v d h = sym (root-seen D 0 v d h)
 
 pub pointer-root : (K : List (List Cell)) (stop D p : ℕ) (v : Point) → T (depthOk D) → Inside (2 ^ D) v → T (not (eqb p 0))
-    → cellEnd (walkTo K stop (D - 2) (cellNo p) (tagOf p) v) ≡ orDamage (fromRoot (wayDamaged K stop) K D p v) (bitFor (not (eqb (pointerTo K stop (D - 2) p v) 0)))
+    → cellEnd (walkTo K stop (D - 2) (cellNo p) (tagOf p) v) ≡ orDamage (fromRoot (walkDamaged K stop) K D p v) (bitFor (not (eqb (pointerTo K stop (D - 2) p v) 0)))
 pointer-root K stop D p v d h n =
     let t : ℕ = tagOf p in
     let e : bitXor t 0 ≡ t = xor-zero-r t in
     let c : Cell = below K (D - 2) p in
     ap (λ (m : ℕ). cellEnd (walkTo K stop (D - 2) (cellNo p) m v)) (sym e)
     ∙ pointer-end K stop (D - 2) p 0 v (omega arith) n
-    ∙ ap₂ (λ (w u : Point). orDamage (wayDamaged K stop (D - 2) c w) (bitFor (not (eqb (pointerTo K stop (D - 2) p u) 0))))
+    ∙ ap₂ (λ (w u : Point). orDamage (walkDamaged K stop (D - 2) c w) (bitFor (not (eqb (pointerTo K stop (D - 2) p u) 0))))
     (ap (λ (m : ℕ). seenAt (D - 2) m v) e ∙ sym (root-seen D t v d h)) (plain-seen D v d h)
     ∙ named (eqb p 0) n
   where
     named : (b : Bool) → T (not b)
-        → orDamage (wayDamaged K stop (D - 2) (below K (D - 2) p) (mirror (tagOf p) (2 ^ D) v)) (bitFor (not (eqb (pointerTo K stop (D - 2) p v) 0)))
-        ≡ orDamage (cond b false (wayDamaged K stop (D - 2) (below K (D - 2) p) (mirror (tagOf p) (2 ^ D) v))) (bitFor (not (eqb (pointerTo K stop (D - 2) p v) 0)))
+        → orDamage (walkDamaged K stop (D - 2) (below K (D - 2) p) (mirror (tagOf p) (2 ^ D) v)) (bitFor (not (eqb (pointerTo K stop (D - 2) p v) 0)))
+        ≡ orDamage (cond b false (walkDamaged K stop (D - 2) (below K (D - 2) p) (mirror (tagOf p) (2 ^ D) v))) (bitFor (not (eqb (pointerTo K stop (D - 2) p v) 0)))
     named true q = absurd q
     named false q = refl
 
@@ -73,8 +73,8 @@ by-fours x k =
 half-fours : (x y k : ℕ) → x / 4 ≡ y / 4 → x / edge k % 2 ≡ y / edge k % 2
 half-fours x y k e = ap (λ (n : ℕ). n % 2) (by-fours x k ∙ ap (λ (n : ℕ). n / 2 ^ k) e ∙ sym (by-fours y k))
 
-octant-fours : (k : ℕ) (v w : Point) → InFours v w → octant k v ≡ octant k w
-octant-fours k v w s = λ i. half-fours (v .x) (w .x) k (s .ofX) i + 2 * half-fours (v .y) (w .y) k (s .ofY) i + 4 * half-fours (v .z) (w .z) k (s .ofZ) i
+childNoAt-fours : (k : ℕ) (v w : Point) → InFours v w → childNoAt k v ≡ childNoAt k w
+childNoAt-fours k v w s = λ i. half-fours (v .x) (w .x) k (s .ofX) i + 2 * half-fours (v .y) (w .y) k (s .ofY) i + 4 * half-fours (v .z) (w .z) k (s .ofZ) i
 
 pub walk-fours : (K : List (List Cell)) (stop k n m : ℕ) (v w : Point) → InFours v w → walkTo K stop k n m v ≡ walkTo K stop k n m w
 unfolding walkTo
@@ -83,7 +83,7 @@ walk-fours K stop (suc k) n m v w s =
     let c : Cell = cellAt K (suc k) n in
     let q : ℕ = takenFrom k c m w in
     let at : ℕ → Ended → Ended = λ p r. cond (leb (suc k) stop) (At n m) (cond (anyBad (length (cellsAt K k)) c) Damaged (cond (eqb p 0) (Absent (suc (suc k))) r)) in
-    ap (λ (i : ℕ). at (getD c (bitXor i m) 0) (walkTo K stop k (cellNo (getD c (bitXor i m) 0)) (bitXor (tagOf (getD c (bitXor i m) 0)) m) v)) (octant-fours k v w s)
+    ap (λ (i : ℕ). at (getD c (bitXor i m) 0) (walkTo K stop k (cellNo (getD c (bitXor i m) 0)) (bitXor (tagOf (getD c (bitXor i m) 0)) m) v)) (childNoAt-fours k v w s)
     ∙ ap (at q) (walk-fours K stop k (cellNo q) (bitXor (tagOf q) m) v w s)
 
 -- ---- below height 2
@@ -128,7 +128,7 @@ module _ (K : List (List Cell)) (D p h : ℕ) (c : Point) (d : T (depthOk D)) (l
   by-end (At q m) e = ap bitFor (sym (nonEmpty-same (2 ^ h) (cellOf (rootRoom K D p) h c) (λ u. leafSeen K q m (within h c u)) (each-seen (At q m) e refl)))
   by-end Damaged e = refl
 
-  pub small-root : smallEnd K h c end ≡ orDamage (fromRoot (wayDamaged K 0) K D p (corner h c)) (bitFor (nonEmpty (2 ^ h) (cellOf (rootRoom K D p) h c)))
+  pub small-root : smallEnd K h c end ≡ orDamage (fromRoot (walkDamaged K 0) K D p (corner h c)) (bitFor (nonEmpty (2 ^ h) (cellOf (rootRoom K D p) h c)))
   small-root =
       by-end end refl
       ∙ ap (λ (b : Bool). orDamage b (bitFor (nonEmpty (2 ^ h) (cellOf (rootRoom K D p) h c)))) (sym (root-damaged K 0 D p (corner h c) d (corner-inside D h c low i) n))

@@ -12,7 +12,7 @@ use Rattle.paper.specs.Rooms.{Point, mirror, childNo, inChild}
 use Rattle.paper.specs.Outline.{edge}
 use Rattle.paper.specs.Store.{Cell, cellsAt, cellAt, leafNo, tagOf, cellNo, anyBad}
 use Rattle.paper.specs.Walk.{End, inLeaf, Step, Walk, isDamaged, unless, after, none, to, onward, walkIn}
-use Rattle.paper.specs.Questions.{childFor, keptReading, taken, below, inBelow, wayDamaged, pointerTo}
+use Rattle.paper.specs.Questions.{childFor, keptReading, taken, below, inBelow, walkDamaged, pointerTo}
 use Rattle.laws.proofs.Matching.{tag-lt}
 use Rattle.laws.proofs.Tests.{T-true}
 use Rattle.walk.specs.Walk.{takenFrom, walkTo, endOf, cellEnd, toldBy}
@@ -49,17 +49,17 @@ same-tests false true c r x n m h e = refl
 same-tests false false true r x n m h e = refl
 same-tests false false false r x n m h e = e
 
-pub way-damaged : (K : List (List Cell)) (stop k n m : ℕ) (v : Point) → m < 8 → wayDamaged K stop k (cellAt K k n) (seenAt k m v) ≡ metDamage (walkTo K stop k n m v)
-unfolding wayDamaged walkTo
-way-damaged K stop zero n m v h = refl
-way-damaged K stop (suc k) n m v h =
+pub cell-walk-damaged : (K : List (List Cell)) (stop k n m : ℕ) (v : Point) → m < 8 → walkDamaged K stop k (cellAt K k n) (seenAt k m v) ≡ metDamage (walkTo K stop k n m v)
+unfolding walkDamaged walkTo
+cell-walk-damaged K stop zero n m v h = refl
+cell-walk-damaged K stop (suc k) n m v h =
     let c : Cell = cellAt K (suc k) n in
     let p : ℕ = takenFrom k c m v in
-    let e : wayDamaged K stop (suc k) c (seenAt (suc k) m v) ≡ cond (leb (suc k) stop) false (cond (anyBad (length (cellsAt K k)) c) true (cond (eqb p 0) false (wayDamaged K stop k (below K k p) (inBelow k p (seenAt (suc k) m v))))) =
-    ap (λ (q : ℕ). cond (leb (suc k) stop) false (cond (anyBad (length (cellsAt K k)) c) true (cond (eqb q 0) false (wayDamaged K stop k (below K k q) (inBelow k q (seenAt (suc k) m v)))))) (taken-seen k m c v h) in
-    e ∙ same-tests (leb (suc k) stop) (anyBad (length (cellsAt K k)) c) (eqb p 0) (wayDamaged K stop k (below K k p) (inBelow k p (seenAt (suc k) m v)))
+    let e : walkDamaged K stop (suc k) c (seenAt (suc k) m v) ≡ cond (leb (suc k) stop) false (cond (anyBad (length (cellsAt K k)) c) true (cond (eqb p 0) false (walkDamaged K stop k (below K k p) (inBelow k p (seenAt (suc k) m v))))) =
+    ap (λ (q : ℕ). cond (leb (suc k) stop) false (cond (anyBad (length (cellsAt K k)) c) true (cond (eqb q 0) false (walkDamaged K stop k (below K k q) (inBelow k q (seenAt (suc k) m v)))))) (taken-seen k m c v h) in
+    e ∙ same-tests (leb (suc k) stop) (anyBad (length (cellsAt K k)) c) (eqb p 0) (walkDamaged K stop k (below K k p) (inBelow k p (seenAt (suc k) m v)))
     (walkTo K stop k (cellNo p) (bitXor (tagOf p) m) v) n m (suc (suc k))
-    (ap (wayDamaged K stop k (below K k p)) (below-seen k m p v h) ∙ way-damaged K stop k (cellNo p) (bitXor (tagOf p) m) v (tag-joins p m h))
+    (ap (walkDamaged K stop k (below K k p)) (below-seen k m p v h) ∙ cell-walk-damaged K stop k (cellNo p) (bitXor (tagOf p) m) v (tag-joins p m h))
 
 -- ---- the voxel
 
@@ -132,8 +132,8 @@ eqb-zero : (q : ℕ) → T (eqb q 0) → q ≡ 0
 eqb-zero q t = eqb→eq q 0 t
 
 pub pointer-end : (K : List (List Cell)) (stop k p m : ℕ) (v : Point) → m < 8 → T (not (eqb p 0))
-    → cellEnd (walkTo K stop k (cellNo p) (bitXor (tagOf p) m) v) ≡ orDamage (wayDamaged K stop k (below K k p) (seenAt k (bitXor (tagOf p) m) v)) (bitFor (not (eqb (pointerTo K stop k p (seenAt k m v)) 0)))
-unfolding wayDamaged walkTo pointerTo
+    → cellEnd (walkTo K stop k (cellNo p) (bitXor (tagOf p) m) v) ≡ orDamage (walkDamaged K stop k (below K k p) (seenAt k (bitXor (tagOf p) m) v)) (bitFor (not (eqb (pointerTo K stop k p (seenAt k m v)) 0)))
+unfolding walkDamaged walkTo pointerTo
 pointer-end K stop zero p m v h d = ap (λ (y : Bool). bitFor y) (sym (T-true {b = not (eqb p 0)} d))
 pointer-end K stop (suc k) p m v h d =
     let m′ : ℕ = bitXor (tagOf p) m in
@@ -146,10 +146,10 @@ pointer-end K stop (suc k) p m v h d =
     let path : to (mirror (tagOf p) (edge (suc k)) (seenAt (suc k) m v)) ≡ cond (leb (suc k) stop) p (cond (eqb p 0) 0 (pointerTo K stop k q (seenAt k m′ v))) =
     ap to (tag-seen (suc k) (tagOf p) m v (tag-lt p) h)
     ∙ (λ i. cond (leb (suc k) stop) p (cond (eqb p 0) 0 (pointerTo K stop k (taken-seen k m′ c v h′ i) (in-seen k m′ v h′ i)))) in
-    let harm : ℕ → Bool = λ y. cond (leb (suc k) stop) false (cond bad true (cond (eqb y 0) false (wayDamaged K stop k (below K k y) (inBelow k y w)))) in
-    let r : Bool = wayDamaged K stop k (below K k q) (inBelow k q w) in
+    let harm : ℕ → Bool = λ y. cond (leb (suc k) stop) false (cond bad true (cond (eqb y 0) false (walkDamaged K stop k (below K k y) (inBelow k y w)))) in
+    let r : Bool = walkDamaged K stop k (below K k q) (inBelow k q w) in
     let rest : T (not (leb (suc k) stop)) → T (not (eqb q 0)) → cellEnd (walkTo K stop k (cellNo q) (bitXor (tagOf q) m′) v) ≡ orDamage r (bitFor (not (eqb (pointerTo K stop k q (seenAt k m′ v)) 0))) =
-    λ a b. pointer-end K stop k q m′ v h′ b ∙ ap (λ (y : Point). orDamage (wayDamaged K stop k (below K k q) y) (bitFor (not (eqb (pointerTo K stop k q (seenAt k m′ v)) 0)))) (sym (below-seen k m′ q v h′)) in
+    λ a b. pointer-end K stop k q m′ v h′ b ∙ ap (λ (y : Point). orDamage (walkDamaged K stop k (below K k q) y) (bitFor (not (eqb (pointerTo K stop k q (seenAt k m′ v)) 0)))) (sym (below-seen k m′ q v h′)) in
     same-cell (leb (suc k) stop) bad (eqb q 0) r (walkTo K stop k (cellNo q) (bitXor (tagOf q) m′) v) (suc (suc k)) (cellNo p) m′ p (pointerTo K stop k q (seenAt k m′ v)) d rest
     (λ t. ap (λ (y : ℕ). pointerTo K stop k y (seenAt k m′ v)) (eqb-zero q t) ∙ none-stays K stop k (seenAt k m′ v))
     ∙ ap₂ (λ (x : Bool) (y : ℕ). orDamage x (bitFor (not (eqb y 0)))) (ap harm (sym (taken-seen k m′ c v h′))) (sym path)

@@ -13,15 +13,15 @@ use Rattle.paper.specs.Rooms.{Point, point, Inside, depthOk, mirror, inChild}
 use Rattle.paper.specs.Outline.{edge}
 use Rattle.paper.specs.Store.{Cell, cellsAt, cellAt, tagOf, cellNo, badPointer, anyBad}
 use Rattle.paper.specs.Walk.{none, to, walkIn, rootWalk}
-use Rattle.paper.specs.Questions.{keptReading, voxelWalk, below, wayDamaged, fromRoot}
+use Rattle.paper.specs.Questions.{keptReading, voxelWalk, below, walkDamaged, fromRoot}
 use Rattle.laws.proofs.Eight.{xor8-lt}
 use Rattle.laws.proofs.Tests.{none-at}
 use Rattle.laws.proofs.Outlines.{depth-two}
 use Rattle.walk.specs.Walk.{takenFrom, walkTo, endOf, AtKept}
-use Rattle.points.specs.Seeing.{octant, seenAt}
+use Rattle.points.specs.Seeing.{childNoAt, seenAt}
 use Rattle.walk.specs.declared.walks.Ended.{Ended}
 use Rattle.walk.specs.declared.walks.Ended.the-variants.{Absent, At, Damaged}
-use Rattle.walk.proofs.Ends.{metDamage, way-damaged, voxel-end}
+use Rattle.walk.proofs.Ends.{metDamage, cell-walk-damaged, voxel-end}
 use Rattle.laws.proofs.Invariant.{named-kept}
 use Rattle.laws.proofs.Matching.{tag-lt}
 use Rattle.points.proofs.Seen.{tag-joins}
@@ -40,13 +40,13 @@ root-seen D t v d h =
 
 -- damage on the way from the root
 pub root-damaged : (K : List (List Cell)) (stop D p : ℕ) (v : Point) → T (depthOk D) → Inside (2 ^ D) v → T (not (eqb p 0))
-    → fromRoot (wayDamaged K stop) K D p v ≡ metDamage (walkTo K stop (D - 2) (cellNo p) (tagOf p) v)
+    → fromRoot (walkDamaged K stop) K D p v ≡ metDamage (walkTo K stop (D - 2) (cellNo p) (tagOf p) v)
 root-damaged K stop D p v d h n =
     named (eqb p 0) n
-    ∙ ap (wayDamaged K stop (D - 2) (below K (D - 2) p)) (root-seen D (tagOf p) v d h)
-    ∙ way-damaged K stop (D - 2) (cellNo p) (tagOf p) v (tag-lt p)
+    ∙ ap (walkDamaged K stop (D - 2) (below K (D - 2) p)) (root-seen D (tagOf p) v d h)
+    ∙ cell-walk-damaged K stop (D - 2) (cellNo p) (tagOf p) v (tag-lt p)
   where
-    named : (b : Bool) → T (not b) → cond b false (wayDamaged K stop (D - 2) (below K (D - 2) p) (mirror (tagOf p) (2 ^ D) v)) ≡ wayDamaged K stop (D - 2) (below K (D - 2) p) (mirror (tagOf p) (2 ^ D) v)
+    named : (b : Bool) → T (not b) → cond b false (walkDamaged K stop (D - 2) (below K (D - 2) p) (mirror (tagOf p) (2 ^ D) v)) ≡ walkDamaged K stop (D - 2) (below K (D - 2) p) (mirror (tagOf p) (2 ^ D) v)
     named true t = absurd t
     named false t = refl
 
@@ -67,10 +67,10 @@ voxel-root K D p v d h n =
 pub taken-kept : (K : List (List Cell)) (k m : ℕ) (c : Cell) (v : Point) → m < 8 → anyBad (length (cellsAt K k)) c ≡ false → (takenFrom k c m v ≡ 0 → ⊥)
     → cellNo (takenFrom k c m v) < length (cellsAt K k)
 taken-kept K k m c v h e z =
-    let i : ℕ = bitXor (octant k v) m in
-    let l : octant k v < 8 = omega arith in
+    let i : ℕ = bitXor (childNoAt k v) m in
+    let l : childNoAt k v < 8 = omega arith in
     let p : ℕ = takenFrom k c m v in
-    named-kept (length (cellsAt K k)) p (none-at 8 (λ j. badPointer (length (cellsAt K k)) (getD c j 0)) e i (xor8-lt (octant k v) m l h)) z
+    named-kept (length (cellsAt K k)) p (none-at 8 (λ j. badPointer (length (cellsAt K k)) (getD c j 0)) e i (xor8-lt (childNoAt k v) m l h)) z
 
 no-confusion : true ≡ false → ⊥
 no-confusion e = subst T e tt

@@ -8,19 +8,19 @@ use lib.Dec.{eqb, leb}
 use lib.ListN.{length, getD}
 use Rattle.paper.specs.Rooms.{Point, point, inside, nonEmpty}
 use Rattle.paper.specs.Walk.{End, damaged, absent, inLeaf, isDamaged, solidAt}
-use Rattle.paper.specs.Questions.{voxelWalk, cellWay, cellFull}
+use Rattle.paper.specs.Questions.{voxelWalk, cellWalkDamaged, cellNonEmpty}
 use Rattle.paper.specs.Store.{Cell, cellsAt, cellAt, tagOf, cellNo, leafNo, anyBad}
 use Rattle.paper.specs.Leaf.{leafVoxel}
 use Rattle.paper.specs.Numbers.{bitFor}
 use Rattle.paper.specs.Answers.{Told, told}
 use Rattle.entry.specs.Entry.{pastEntry}
-use Rattle.points.specs.Seeing.{octant, seenAt}
+use Rattle.points.specs.Seeing.{childNoAt, seenAt}
 use Rattle.walk.specs.declared.walks.Ended.{Ended}
 use Rattle.walk.specs.declared.walks.Ended.the-variants.{Absent, At, Damaged}
 
 -- the pointer taken from cell c of list k + 1 seen under m
 abbrev pub takenFrom : ℕ → Cell → ℕ → Point → ℕ
-takenFrom k c m v = getD c (bitXor (octant k v) m) 0
+takenFrom k c m v = getD c (bitXor (childNoAt k v) m) 0
 
 -- from cell n of list k, seen under m, down to list `stop` on the way to v: where it ends
 unfoldable pub walkTo : List (List Cell) → ℕ → ℕ → ℕ → ℕ → Point → Ended
@@ -78,7 +78,7 @@ abbrev pub cellOut : ℕ → ℕ → Point → Bool
 cellOut D h c = not (leb h D) || not (inside (2 ^ (D - h)) c)
 
 abbrev pub cellTold : List (List Cell) → ℕ → ℕ → ℕ → Point → Told
-cellTold K D p h c = pastEntry (cellOut D h c) (cellWay K D p h c) (bitFor (cellFull K D p h c))
+cellTold K D p h c = pastEntry (cellOut D h c) (cellWalkDamaged K D p h c) (bitFor (cellNonEmpty K D p h c))
 
 abbrev pub cellAsked : List (List Cell) → ℕ → ℕ → ℕ → Point → Told
-cellAsked K D p h c = pastEntry false (cellWay K D p h c) (bitFor (cellFull K D p h c))
+cellAsked K D p h c = pastEntry false (cellWalkDamaged K D p h c) (bitFor (cellNonEmpty K D p h c))

@@ -12,7 +12,7 @@ ghost use Rattle.paper.specs.Answers.{outcome, occupied};
 ghost use Rattle.paper.specs.Calls.{cellOutcome};
 ghost use Rattle.walk.specs.Walk.{AtKept, cellEnd, smallAt, toldBy, cellAsked, cellTold};
 ghost use Rattle.points.specs.Seeing.{seenAt};
-use crate::leaves::eighth_full;
+use crate::leaves::cube_non_empty;
 use crate::walks::Ended;
 use crate::walks::walk_root;
 use entry::Entry;
@@ -45,7 +45,7 @@ fn list_of(height: u32) -> u32
 }
 
 // Whether the cell of height 0 or 1 with this low corner is non-empty, by its leaf's bits.
-fn leaf_full(leaf: u64, mirror: u32, height: u32, x: u32, y: u32, z: u32) -> bool
+fn leaf_non_empty(leaf: u64, mirror: u32, height: u32, x: u32, y: u32, z: u32) -> bool
     requires { ⌜ height < 2 ⌝ }
     requires { ⌜ (x < 65536) × (y < 65536) × (z < 65536) ⌝ }
     ensures { λ r. ⌜ r ≡ nonEmpty (2 ^ height) (λ u. leafVoxel leaf (seenAt 0 mirror (point (x + u .x) (y + u .y) (z + u .z)))) ⌝ }
@@ -53,7 +53,7 @@ fn leaf_full(leaf: u64, mirror: u32, height: u32, x: u32, y: u32, z: u32) -> boo
     if height == 0 {
         return leaf_solid(leaf, mirror, x, y, z);
     }
-    eighth_full(leaf, mirror, x, y, z)
+    cube_non_empty(leaf, mirror, x, y, z)
 }
 
 // The cell of height 0 or 1, where the walk to its leaf ended.
@@ -68,7 +68,7 @@ fn small_at(store: &[u32], end: Ended, height: u32, x: u32, y: u32, z: u32) -> O
         Ended::Damaged => Occupied::Refused(Refusal::DamagedStore),
         Ended::Absent(_) => Occupied::Empty,
         Ended::At(number, mirror) => {
-            if leaf_full(leaf_at(store, number), mirror, height, x, y, z) {
+            if leaf_non_empty(leaf_at(store, number), mirror, height, x, y, z) {
                 Occupied::NonEmpty
             } else {
                 Occupied::Empty

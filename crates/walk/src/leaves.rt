@@ -8,7 +8,7 @@ ghost use Rattle.points.specs.Seeing.{seenAt};
 use points::leaf_solid;
 
 // Whether one of two voxels along x is solid.
-fn row_full(leaf: u64, mirror: u32, x: u32, y: u32, z: u32) -> bool
+fn row_non_empty(leaf: u64, mirror: u32, x: u32, y: u32, z: u32) -> bool
     requires { ⌜ x < 65536 ⌝ }
     ensures { λ r. ⌜ r ≡ anyBelow 2 (λ a. leafVoxel leaf (seenAt 0 mirror (point (x + a) y z))) ⌝ }
 {
@@ -19,23 +19,23 @@ fn row_full(leaf: u64, mirror: u32, x: u32, y: u32, z: u32) -> bool
 }
 
 // Whether one of four voxels along x and y is solid.
-fn square_full(leaf: u64, mirror: u32, x: u32, y: u32, z: u32) -> bool
+fn square_non_empty(leaf: u64, mirror: u32, x: u32, y: u32, z: u32) -> bool
     requires { ⌜ (x < 65536) × (y < 65536) ⌝ }
     ensures { λ r. ⌜ r ≡ anyBelow 2 (λ b. anyBelow 2 (λ a. leafVoxel leaf (seenAt 0 mirror (point (x + a) (y + b) z)))) ⌝ }
 {
-    if row_full(leaf, mirror, x, y + 1, z) {
+    if row_non_empty(leaf, mirror, x, y + 1, z) {
         return true;
     }
-    row_full(leaf, mirror, x, y, z)
+    row_non_empty(leaf, mirror, x, y, z)
 }
 
 // Whether the cell of height 1 with this low corner is non-empty.
-pub fn eighth_full(leaf: u64, mirror: u32, x: u32, y: u32, z: u32) -> bool
+pub fn cube_non_empty(leaf: u64, mirror: u32, x: u32, y: u32, z: u32) -> bool
     requires { ⌜ (x < 65536) × (y < 65536) × (z < 65536) ⌝ }
     ensures { λ r. ⌜ r ≡ nonEmpty 2 (λ u. leafVoxel leaf (seenAt 0 mirror (point (x + u .x) (y + u .y) (z + u .z)))) ⌝ }
 {
-    if square_full(leaf, mirror, x, y, z + 1) {
+    if square_non_empty(leaf, mirror, x, y, z + 1) {
         return true;
     }
-    square_full(leaf, mirror, x, y, z)
+    square_non_empty(leaf, mirror, x, y, z)
 }

@@ -9,7 +9,7 @@ ghost use Rattle.paper.specs.Questions.{voxelWalk};
 ghost use Rattle.paper.specs.Store.{badPointer, cellNo, heights, headerOk, keptCount, keptOf, tagOf};
 ghost use Rattle.walk.specs.Walk.{AtKept, endOf, walkTo};
 use limits::LEAF_HEIGHT;
-use points::octant;
+use points::child_number;
 use store::any_bad;
 use store::cell_at;
 use store::cell_number;
@@ -51,7 +51,7 @@ pub fn walk_to(
         if any_bad(kept_count(store, list - 1), cell) {
             return Ended::Damaged;
         }
-        let p = cell[(octant(list - 1, x, y, z) ^ seen) as usize];
+        let p = cell[(child_number(list - 1, x, y, z) ^ seen) as usize];
         if p == 0 {
             return Ended::Absent(list + 1);
         }

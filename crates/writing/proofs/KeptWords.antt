@@ -9,25 +9,25 @@ use lib.Dec.{T, lit<}
 use lib.ListN.{length, getD, drop, length-drop}
 use lib.Seq.{length-take-le}
 use Rattle.paper.specs.Numbers.{bytes, flatten}
-use Rattle.paper.specs.Store.{Cell, heights, used, capacityOf, keptCount, cellPlace, keptOf, cellAt, leafNo, headerOk}
+use Rattle.paper.specs.Store.{Cell, heights, used, capacityOf, keptCount, cellPosition, keptOf, cellAt, leafNo, headerOk}
 use Rattle.paper.specs.Pack.{leafBytes}
 use Rattle.laws.proofs.Kept.{kept-cell}
 use Rattle.laws.proofs.Places.{kept-word}
-use Rattle.laws.proofs.Undamaged.{headed, Headed}
-use Rattle.store.proofs.Places.{cells-fit}
+use Rattle.laws.proofs.Undamaged.{fine-header, FineHeader}
+use Rattle.store.proofs.Positions.{cells-fit}
 
 module _ (ws : List ℕ) (ok : T (headerOk ws)) where
   pub leaf-two : (q : ℕ) → q < keptCount ws 0 → length (cellAt (keptOf ws) 0 q) ≡ 2
   leaf-two q h =
-      let a : ℕ = cellPlace (capacityOf ws) 0 q in
-      let r : Headed ws = headed ws ok in
+      let a : ℕ = cellPosition (capacityOf ws) 0 q in
+      let r : FineHeader ws = fine-header ws ok in
       let few : keptCount ws 0 ≤ capacityOf ws = r .few 0 (lit< tt) in
       ap length (kept-cell ws 0 q (lit< tt) h) ∙ length-take-le 2 (drop a ws) (rw (length-drop a ws) (omega (arith, r .long)))
 
   pub cell-eight : (k q : ℕ) → suc k < heights → q < keptCount ws (suc k) → length (cellAt (keptOf ws) (suc k) q) ≡ 8
   cell-eight k q hk h =
-      let a : ℕ = cellPlace (capacityOf ws) (suc k) q in
-      let r : Headed ws = headed ws ok in
+      let a : ℕ = cellPosition (capacityOf ws) (suc k) q in
+      let r : FineHeader ws = fine-header ws ok in
       let few : keptCount ws (suc k) ≤ capacityOf ws = r .few (suc k) hk in
       let room : a + 8 * (capacityOf ws - q) ≤ used (capacityOf ws) = cells-fit (capacityOf ws) (suc k) q (λ e. omega arith) hk (omega arith) in
       ap length (kept-cell ws (suc k) q hk h) ∙ length-take-le 8 (drop a ws) (rw (length-drop a ws) (omega (arith, r .long)))
@@ -71,5 +71,5 @@ leaf-shape (a ∷ b ∷ d ∷ c) e h = absurd (omega (arith, e))
 pub leaf-bytes : (ws : List ℕ) → T (headerOk ws) → ((i : ℕ) → getD ws i 0 < 2 ^ 32) → (q : ℕ) → q < keptCount ws 0
     → leafBytes (cellAt (keptOf ws) 0 q) ≡ bytes 8 (leafNo (cellAt (keptOf ws) 0 q))
 leaf-bytes ws ok words q h =
-    let small : getD (cellAt (keptOf ws) 0 q) 1 0 < 2 ^ 32 = rw (kept-word ws 0 q 1 (lit< tt) h (lit< tt)) (words (cellPlace (capacityOf ws) 0 q + 1)) in
+    let small : getD (cellAt (keptOf ws) 0 q) 1 0 < 2 ^ 32 = rw (kept-word ws 0 q 1 (lit< tt) h (lit< tt)) (words (cellPosition (capacityOf ws) 0 q + 1)) in
     sym (leaf-shape (cellAt (keptOf ws) 0 q) (leaf-two ws ok q h) small)

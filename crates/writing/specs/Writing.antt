@@ -7,7 +7,7 @@ use lib.Dec.{ltb}
 use lib.ListN.{length, getD}
 use Rattle.paper.specs.Numbers.{bytes, flatten}
 use Rattle.paper.specs.Store.{Cell, cellAt}
-use Rattle.paper.specs.Packed.{packedFront, packedHead}
+use Rattle.paper.specs.Packed.{packedVersion, packedHead}
 use Rattle.paper.specs.Pack.{recordBytes, leafBytes}
 use Rattle.paper.specs.Calls.{over}
 use Rattle.paper.specs.Answers.{Outcome, outcome, told}
@@ -42,7 +42,7 @@ fileLength sizes k = packedHead + 4 * (k + 1) + bodyLength sizes k
 
 -- the header of a file of this length and depth; m the root's mirror, or 8 for an empty scene
 abbrev pub headOf : ℕ → ℕ → ℕ → List ℕ
-headOf n D m = packedFront ∷ bytes 4 n ++ (D ∷ m ∷ [])
+headOf n D m = packedVersion ∷ bytes 4 n ++ (D ∷ m ∷ [])
 
 -- what comes of an output into which these bytes are to go
 unfoldable pub fitted : List ℕ → List ℕ → Outcome

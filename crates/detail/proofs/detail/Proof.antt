@@ -33,8 +33,8 @@ for-edge-requires c κs = fair (c .before .before .before)
 enum-known-wish-2 : tie.Need-enum-known-wish-2
 enum-known-wish-2 c = search needs
 
-for-sight-requires : tie.Need-for-sight-requires
-for-sight-requires c κs = fair (c .before .before .before)
+for-distance-requires : tie.Need-for-distance-requires
+for-distance-requires c κs = fair (c .before .before .before)
 
 returns-2 : tie.Need-returns-2
 returns-2 c =
@@ -50,7 +50,7 @@ returns-3 c =
 returns-4 : tie.Need-returns-4
 returns-4 c =
     let a = c .before .before .before .before .before .before .args in
-    c .for-sight .ensures ∙ sym (ap (detailOutcome (a .depth)) (c .before .before .wish2 .given .1))
+    c .for-distance .ensures ∙ sym (ap (detailOutcome (a .depth)) (c .before .before .wish2 .given .1))
 
 pub detail-spec : {M : Type 1} → statement M
 detail-spec =
@@ -62,7 +62,7 @@ detail-spec =
     enum-known-wish
     for-edge-requires
     enum-known-wish-2
-    for-sight-requires
+    for-distance-requires
     returns-2
     returns-3
     returns-4)

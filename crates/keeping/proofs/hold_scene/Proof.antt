@@ -4,21 +4,21 @@ use mathlib.Core.Path.{_∙_}
 use Prim.Native.Nat.{_+_, _≤_}
 use native.Mathlib.Omega.{arith}
 use lib.ListN.{length, length-set}
-use Rattle.paper.specs.Store.{mostScenes, scenePlace}
+use Rattle.paper.specs.Store.{mostScenes, scenePosition}
 use Rattle.store.proofs.HeaderFacts.{header-front}
 use Rattle.keeping.proofs.Ways.{scene-held}
 use borrow.Author.Needs.{needs}
 use Rattle.keeping.proofs.hold_scene.Statement.{statement}
 use Rattle.keeping.proofs.hold_scene.Tie as tie
 
-front : (c : tie.After-scene-place) → scenePlace mostScenes ≤ length (c .before .before .before .before .args .store .now)
+front : (c : tie.After-scene-position) → scenePosition mostScenes ≤ length (c .before .before .before .before .args .store .now)
 front c = header-front _ (c .before .before .before .before .pre .0)
 
 slice-write-store : tie.Need-slice-write-store
 slice-write-store c = omega (arith, front c)
 
 put-words-requires : tie.Need-put-words-requires
-put-words-requires c κs = let p = c .before .before in simp length-set (omega (arith, front p, p .scene-place .ensures, p .before .scenes-held .ensures, p .before .before .before .before .pre .1))
+put-words-requires c κs = let p = c .before .before in simp length-set (omega (arith, front p, p .scene-position .ensures, p .before .scenes-held .ensures, p .before .before .before .before .pre .1))
 
 same-length : tie.Need-same-length
 same-length c =
@@ -31,7 +31,7 @@ returns c =
     let w = c .before .before in
     let p = w .before .before .before in
     let s = p .before .before .before .before in
-    w .put-words .ensures ∙ scene-held (s .args .store .now) _ _ (s .args .depth) (s .args .root) (p .before .scenes-held .ensures) (p .scene-place .ensures)
+    w .put-words .ensures ∙ scene-held (s .args .store .now) _ _ (s .args .depth) (s .args .root) (p .before .scenes-held .ensures) (p .scene-position .ensures)
 
 pub hold-scene-spec : {M : Type 1} → statement M
 hold-scene-spec =

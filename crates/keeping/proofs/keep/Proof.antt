@@ -8,8 +8,8 @@ use borrow.Author.Needs.{needs}
 use Rattle.keeping.proofs.keep.Statement.{statement}
 use Rattle.keeping.proofs.keep.Tie as tie
 
-cell-place-requires : tie.Need-cell-place-requires
-cell-place-requires c κs =
+cell-position-requires : tie.Need-cell-position-requires
+cell-position-requires c κs =
     let s = c .before .before .before .before .before .before in
     let h = header _ (s .pre .0) in
     (omega (arith, h .most, c .capacity .ensures), (s .pre .1 .0 .0, omega (arith, c .capacity .ensures, c .before .before .kept-count .ensures, s .pre .1 .1)))
@@ -27,7 +27,7 @@ put-words-requires c κs =
     let k = q .before .before in
     let s = k .before .before .before .before in
     let h = header _ (s .pre .0) in
-    omega (arith, n .set-count .kept .0, h .room, p .cell-place .ensures, q .capacity .ensures, s .pre .1 .0 .1, cell-room (q .capacity .result) (s .args .k) (k .kept-count .result) (s .pre .1 .0 .0) (omega (arith, q .capacity .ensures, k .kept-count .ensures, s .pre .1 .1)))
+    omega (arith, n .set-count .kept .0, h .room, p .cell-position .ensures, q .capacity .ensures, s .pre .1 .0 .1, cell-room (q .capacity .result) (s .args .k) (k .kept-count .result) (s .pre .1 .0 .0) (omega (arith, q .capacity .ensures, k .kept-count .ensures, s .pre .1 .1)))
 
 returns : tie.Need-returns
 returns c =
@@ -39,7 +39,7 @@ returns c =
     let s = k .before .before .before .before in
     let a = s .args in
     w .put-words .ensures
-    ∙ cell-kept (a .store .now) (a .k) _ _ _ (k .kept-count .ensures) (q .capacity .ensures) (p .cell-place .ensures) _ (a .words .now) (n .set-count .ensures)
+    ∙ cell-kept (a .store .now) (a .k) _ _ _ (k .kept-count .ensures) (q .capacity .ensures) (p .cell-position .ensures) _ (a .words .now) (n .set-count .ensures)
 
 pub keep-spec : {M : Type 1} → statement M
 keep-spec =
@@ -47,7 +47,7 @@ keep-spec =
     (tie.spec
     (λ c κs. search needs)
     (λ c κs. search needs)
-    cell-place-requires
+    cell-position-requires
     (λ c. search needs)
     set-count-requires
     put-words-requires

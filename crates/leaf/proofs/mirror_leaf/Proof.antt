@@ -3,8 +3,8 @@
 use mathlib.Core.Path.{ap, _∙_}
 use Prim.Native.Nat.{ℕ, _/_, _%_, _*_}
 use native.Mathlib.Omega.{arith}
-use Rattle.leaf.specs.Turns.{turned, axis, swaps}
-use Rattle.leaf.proofs.Turning.{axes-turned}
+use Rattle.leaf.specs.Moves.{moved, axis, swaps}
+use Rattle.leaf.proofs.Moving.{axes-moved}
 use Rattle.leaf.proofs.mirror_leaf.Statement.{statement}
 use Rattle.leaf.proofs.mirror_leaf.Tie as tie
 
@@ -23,8 +23,8 @@ mirror-axis-requires-3 c κs = (omega arith, tt)
 returns : tie.Need-returns
 returns c =
     let a = c .before .before .before .args in
-    c .mirror-axis3 .ensures ∙ ap (λ (n : ℕ). turned (a .mirror / 4 % 2 * 48) n) (c .before .mirror-axis2 .ensures ∙ ap (λ (n : ℕ). turned (a .mirror / 2 % 2 * 12) n) (c .before .before .mirror-axis .ensures))
-    ∙ axes-turned (a .mirror) (a .leaf)
+    c .mirror-axis3 .ensures ∙ ap (λ (n : ℕ). moved (a .mirror / 4 % 2 * 48) n) (c .before .mirror-axis2 .ensures ∙ ap (λ (n : ℕ). moved (a .mirror / 2 % 2 * 12) n) (c .before .before .mirror-axis .ensures))
+    ∙ axes-moved (a .mirror) (a .leaf)
 
 pub mirror-leaf-spec : {M : Type 1} → statement M
 mirror-leaf-spec = tie.close (tie.spec mirror-axis-requires mirror-axis-requires-2 mirror-axis-requires-3 returns)

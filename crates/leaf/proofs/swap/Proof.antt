@@ -5,7 +5,7 @@ use Prim.Native.Nat.{_/_, _^_, _<_}
 use native.Mathlib.Nat.{mod-eq-of-lt}
 use lib.Bits.{bitAnd, bitOr}
 use native.Mathlib.Omega.{arith}
-use Rattle.leaf.proofs.Turning.{step-lt, up-lt, swap-turned}
+use Rattle.leaf.proofs.Moving.{step-lt, up-lt, swap-moved}
 use Rattle.leaf.proofs.swap.Statement.{statement}
 use Rattle.leaf.proofs.swap.Tie as tie
 
@@ -25,7 +25,7 @@ returns : tie.Need-returns
 returns c =
     let a = c .args in
     ap (bitOr (bitAnd (a .leaf / 2 ^ a .step) (a .below))) (mod-eq-of-lt (up-lt (a .leaf) (a .below) (a .step) (leaf-fits c) (below-fits c) (c .pre)))
-    ∙ swap-turned (c .args .leaf) (c .args .below) (c .args .step) (leaf-fits c) (below-fits c) (c .pre)
+    ∙ swap-moved (c .args .leaf) (c .args .below) (c .args .step) (leaf-fits c) (below-fits c) (c .pre)
 
 pub swap-spec : {M : Type 1} → statement M
 swap-spec = tie.close (tie.spec shr-result shl-result returns)

@@ -16,14 +16,14 @@ same-length c =
     let w = c .before .before in
     let s = w .before .before .before in
     let a = s .args in
-    length-set (w .put-number .last .0) 5 (a .depth) ∙ head-long (a .front) (a .total) (a .depth) (a .out .now) (w .put-number .last .0) (s .pre .0) (w .put-number .ensures)
+    length-set (w .put-number .last .0) 5 (a .depth) ∙ head-long (a .version) (a .total) (a .depth) (a .out .now) (w .put-number .last .0) (s .pre .0) (w .put-number .ensures)
 
 returns : tie.Need-returns
 returns c =
     let w = c .before .before in
     let s = w .before .before .before in
     let a = s .args in
-    head-written (a .front) (a .total) (a .depth) (a .out .now) (w .put-number .last .0) (s .pre .0) (w .put-number .ensures)
+    head-written (a .version) (a .total) (a .depth) (a .out .now) (w .put-number .last .0) (s .pre .0) (w .put-number .ensures)
 
 pub write-head-spec : {M : Type 1} → statement M
 write-head-spec =

@@ -8,14 +8,14 @@ use native.Mathlib.Omega.{arith}
 use borrow.Author.Tests.{not-true, not-false}
 use Rattle.paper.specs.Numbers.{sameList}
 use Rattle.paper.specs.Rooms.{Point, point}
-use Rattle.paper.specs.Packed.{packedFront, packedHead, headOk, startsOf}
+use Rattle.paper.specs.Packed.{packedVersion, packedHead, headOk, startsOf}
 use Rattle.paper.specs.Order.{when, firstOf}
 use Rattle.paper.specs.Calls.{openOrder, opensTo}
 use Rattle.laws.proofs.OpenClaim.{opens-ask}
 use Rattle.outline.proofs.HeadTests.{Headed, headed, head-stops, refused-by-6, accepted}
 use Rattle.packed.specs.Header.{Tested}
 use Rattle.packed.proofs.Ways.{tested}
-use Rattle.opened.proofs.Openings.{opens, opens-front, not-open, other-depth, starts-decide, ask-refused}
+use Rattle.opened.proofs.Openings.{opens, opens-version, not-open, other-depth, starts-decide, ask-refused}
 use borrow.Author.Needs.{needs}
 use Rattle.opened.proofs.ask_bytes.Statement.{statement}
 use Rattle.opened.proofs.ask_bytes.Tie as tie
@@ -28,12 +28,12 @@ returns c =
     let s = c .before .before .before in
     let file = s .args .bytes .now in
     let n = c .before .head-number in
-    let stops : firstOf (openOrder file) ≡ n .result = head-stops packedFront packedHead file (when (not (headOk file)) 6 ∷ []) (λ z. c .if1 .taken (n .ensures ∙ z)) ∙ sym (n .ensures) in
+    let stops : firstOf (openOrder file) ≡ n .result = head-stops packedVersion packedHead file (when (not (headOk file)) 6 ∷ []) (λ z. c .if1 .taken (n .ensures ∙ z)) ∙ sym (n .ensures) in
     ask-refused file (s .args .depth) (s .args .starts) (spot s) (not-open file (s .args .depth) (s .args .starts) (λ z. c .if1 .taken (sym stops ∙ z)))
 
 -- the first bytes are good
-known : (c : tie.Else1) → Headed packedFront packedHead (c .before .before .before .args .bytes .now)
-known c = headed packedFront packedHead (c .before .before .before .args .bytes .now) [] (sym (c .before .head-number .ensures) ∙ omega (arith, c .if1 .left))
+known : (c : tie.Else1) → Headed packedVersion packedHead (c .before .before .before .args .bytes .now)
+known c = headed packedVersion packedHead (c .before .before .before .args .bytes .now) [] (sym (c .before .head-number .ensures) ∙ omega (arith, c .if1 .left))
 
 is-tested : (c : tie.Else1) → Tested (c .before .before .before .args .bytes .now)
 is-tested c = tested (c .before .before .before .args .bytes .now) (λ i. omega (arith, c .before .before .shared-slice-known .given i)) (known c)
@@ -48,7 +48,7 @@ returns-3 c =
     let e = c .before .before .before .before .before in
     let s = e .before .before .before in
     let file = s .args .bytes .now in
-    let six : firstOf (openOrder file) ≡ 6 = refused-by-6 packedFront packedHead file (not (headOk file)) (known e) (sym (c .before .lists-bad .ensures .0) ∙ c .if3 .taken) in
+    let six : firstOf (openOrder file) ≡ 6 = refused-by-6 packedVersion packedHead file (not (headOk file)) (known e) (sym (c .before .lists-bad .ensures .0) ∙ c .if3 .taken) in
     ask-refused file (s .args .depth) (s .args .starts) (spot s) (not-open file (s .args .depth) (s .args .starts) (λ z. omega (arith, six, z)))
 
 -- the opening is not refused, and the starts decide
@@ -56,7 +56,7 @@ opening : (c : tie.Else3) → firstOf (openOrder (c .before .before .before .bef
 opening c =
     let e = c .before .before .before .before .before in
     let file = e .before .before .before .args .bytes .now in
-    accepted packedFront packedHead file (not (headOk file)) (known e) (sym (c .before .lists-bad .ensures .0) ∙ c .if3 .left)
+    accepted packedVersion packedHead file (not (headOk file)) (known e) (sym (c .before .lists-bad .ensures .0) ∙ c .if3 .left)
 
 decided : (c : tie.Else3)
     → let s = c .before .before .before .before .before .before .before .before in opensTo (s .args .bytes .now) (s .args .depth) (s .args .starts) ≡ sameList (startsOf (s .args .bytes .now)) (s .args .starts)
@@ -83,7 +83,7 @@ voxel-in-requires c κs =
     let d = c .before .before in
     let u = d .before .before .before .before .before .before .before in
     let file = u .before .args .bytes .now in
-    (opens file (opening d) (λ i. omega (arith, u .shared-slice-known .given i)), (opens-front file (opening d), d .before .lists-bad .ensures .1 (d .if3 .left)))
+    (opens file (opening d) (λ i. omega (arith, u .shared-slice-known .given i)), (opens-version file (opening d), d .before .lists-bad .ensures .1 (d .if3 .left)))
 
 returns-5 : tie.Need-returns-5
 returns-5 c =

@@ -6,15 +6,15 @@ use Prim.Native.Nat.{ℕ}
 use native.Mathlib.Omega.{arith}
 use borrow.Author.Needs.{needs}
 use Rattle.paper.specs.Rooms.{depthOk}
-use Rattle.paper.specs.Outline.{frontOk, lengthOk, fileDepth}
-use Rattle.outline.proofs.Fronts.{length-least}
+use Rattle.paper.specs.Outline.{versionOk, lengthOk, fileDepth}
+use Rattle.outline.proofs.FirstBytes.{length-least}
 use Rattle.outline.proofs.HeadTests.{by-3, by-4, by-5, by-none}
 use Rattle.outline.proofs.head_number.Statement.{statement}
 use Rattle.outline.proofs.head_number.Tie as tie
 
 -- the tests that the file has passed on the way
-front-passed : (c : tie.Else1) → let a = c .before .before .before .args in not (frontOk (a .front) (a .file .now)) ≡ false
-front-passed c = sym (c .before .front-bad .ensures) ∙ c .if1 .left
+version-passed : (c : tie.Else1) → let a = c .before .before .before .args in not (versionOk (a .version) (a .file .now)) ≡ false
+version-passed c = sym (c .before .version-bad .ensures) ∙ c .if1 .left
 
 length-passed : (c : tie.Else2) → let a = c .before .before .before .before .before .args in not (lengthOk (a .head) (a .file .now)) ≡ false
 length-passed c = sym (c .before .length-bad .ensures) ∙ c .if2 .left
@@ -23,13 +23,13 @@ depth-tested : (c : tie.After-depth-bad) → not (depthOk (fileDepth (c .before 
 depth-tested c = ap (λ (D : ℕ). not (depthOk D)) (sym (c .before .depth .ensures)) ∙ sym (c .depth-bad .ensures)
 
 returns : tie.Need-returns
-returns c = let a = c .before .before .before .args in sym (by-3 (a .front) (a .head) (a .file .now) (sym (c .before .front-bad .ensures) ∙ c .if1 .taken))
+returns c = let a = c .before .before .before .args in sym (by-3 (a .version) (a .head) (a .file .now) (sym (c .before .version-bad .ensures) ∙ c .if1 .taken))
 
 returns-2 : tie.Need-returns-2
 returns-2 c =
     let p = c .before .before in
     let a = p .before .before .before .args in
-    sym (by-4 (a .front) (a .head) (a .file .now) (front-passed p) (sym (c .before .length-bad .ensures) ∙ c .if2 .taken))
+    sym (by-4 (a .version) (a .head) (a .file .now) (version-passed p) (sym (c .before .length-bad .ensures) ∙ c .if2 .taken))
 
 depth-requires : tie.Need-depth-requires
 depth-requires c κs =
@@ -41,14 +41,14 @@ returns-3 c =
     let q = c .before .before .before in
     let p = q .before .before in
     let a = p .before .before .before .args in
-    sym (by-5 (a .front) (a .head) (a .file .now) (front-passed p) (length-passed q) (depth-tested (c .before) ∙ c .if3 .taken))
+    sym (by-5 (a .version) (a .head) (a .file .now) (version-passed p) (length-passed q) (depth-tested (c .before) ∙ c .if3 .taken))
 
 returns-4 : tie.Need-returns-4
 returns-4 c =
     let q = c .before .before .before in
     let p = q .before .before in
     let a = p .before .before .before .args in
-    sym (by-none (a .front) (a .head) (a .file .now) (front-passed p) (length-passed q) (depth-tested (c .before) ∙ c .if3 .left))
+    sym (by-none (a .version) (a .head) (a .file .now) (version-passed p) (length-passed q) (depth-tested (c .before) ∙ c .if3 .left))
 
 pub head-number-spec : {M : Type 1} → statement M
 head-number-spec =

@@ -6,7 +6,7 @@ use Prim.Native.Nat.{ℕ}
 use borrow.Author.Needs.{needs}
 use lib.Dec.{eqb}
 use lib.ListN.{length}
-use Rattle.outline.proofs.Fronts.{length-under, length-field}
+use Rattle.outline.proofs.FirstBytes.{length-under, length-field}
 use Rattle.outline.proofs.length_bad.Statement.{statement}
 use Rattle.outline.proofs.length_bad.Tie as tie
 

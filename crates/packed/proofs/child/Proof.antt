@@ -7,9 +7,9 @@ use native.Mathlib.Omega.{arith}
 use lib.Dec.{lit<}
 use lib.ListN.{drop}
 use Rattle.paper.specs.Numbers.{num}
-use Rattle.paper.specs.Packed.{halves, headerAt, linkOf}
+use Rattle.paper.specs.Packed.{halves, headerAt, pointerOf}
 use Rattle.packed.specs.Records.{codeAt, childTo}
-use Rattle.packed.proofs.Records.{Good, record-good, header-room, halves-room, codes-at, code-shift, link-at}
+use Rattle.packed.proofs.Records.{Good, record-good, header-room, halves-room, codes-at, code-shift, pointer-at}
 use borrow.Author.Needs.{needs}
 use Rattle.packed.proofs.child.Statement.{statement}
 use Rattle.packed.proofs.child.Tie as tie
@@ -42,8 +42,8 @@ returns c =
     let h = c .before in
     let a = h .before .before .before .args in (
       c .child-from .ensures .0
-          ∙ ap₂ (λ (k n : ℕ). childTo (linkOf k (num (2 * k) (drop (2 * a .place + 2 * n) (a .list .now))))) (code-is h) (halves-is h)
-          ∙ sym (ap childTo (link-at (a .list .now) (a .place) (a .i) (h .before .before .before .pre .1))),
+          ∙ ap₂ (λ (k n : ℕ). childTo (pointerOf k (num (2 * k) (drop (2 * a .place + 2 * n) (a .list .now))))) (code-is h) (halves-is h)
+          ∙ sym (ap childTo (pointer-at (a .list .now) (a .place) (a .i) (h .before .before .before .pre .1))),
       c .child-from .ensures .1,
     )
 

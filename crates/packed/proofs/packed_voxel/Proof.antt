@@ -6,7 +6,7 @@ use mathlib.Core.List.{[]}
 use native.Mathlib.Omega.{arith}
 use borrow.Author.Tests.{not-true, not-false}
 use Rattle.paper.specs.Rooms.{Point, point}
-use Rattle.paper.specs.Packed.{packedFront, packedHead, headOk}
+use Rattle.paper.specs.Packed.{packedVersion, packedHead, headOk}
 use Rattle.paper.specs.Calls.{packedOutside}
 use Rattle.laws.proofs.Tests.{true-T}
 use Rattle.outline.proofs.HeadTests.{Headed, headed, head-range}
@@ -22,7 +22,7 @@ spot s = point (s .args .x) (s .args .y) (s .args .z)
 file-refusal-requires : tie.Need-file-refusal-requires
 file-refusal-requires c κs =
     let n = c .before .head-number in
-    let r = head-range packedFront packedHead (c .before .before .before .args .file .now) (n .result) (n .ensures) (c .if1 .taken) in
+    let r = head-range packedVersion packedHead (c .before .before .before .args .file .now) (n .result) (n .ensures) (c .if1 .taken) in
     (r .0, omega (arith, r .1))
 
 returns : tie.Need-returns
@@ -33,8 +33,8 @@ returns c =
     bad-bytes (s .args .file .now) (spot s) (c .file-refusal .result) (n .result) (c .file-refusal .ensures) (n .ensures) (e .if1 .taken)
 
 -- each test passed
-known : (c : tie.Else1) → Headed packedFront packedHead (c .before .before .before .args .file .now)
-known c = headed packedFront packedHead (c .before .before .before .args .file .now) [] (sym (c .before .head-number .ensures) ∙ omega (arith, c .if1 .left))
+known : (c : tie.Else1) → Headed packedVersion packedHead (c .before .before .before .args .file .now)
+known c = headed packedVersion packedHead (c .before .before .before .args .file .now) [] (sym (c .before .head-number .ensures) ∙ omega (arith, c .if1 .left))
 
 is-tested : (c : tie.Else1) → Tested (c .before .before .before .args .file .now)
 is-tested c = tested (c .before .before .before .args .file .now) (λ i. omega (arith, c .before .before .shared-slice-known .given i)) (known c)

@@ -7,9 +7,9 @@ use native.Mathlib.Omega.{arith}
 use lib.Dec.{lit<}
 use lib.ListN.{drop}
 use Rattle.paper.specs.Numbers.{num}
-use Rattle.paper.specs.Packed.{halves, headerAt, linkOf}
+use Rattle.paper.specs.Packed.{halves, headerAt, pointerOf}
 use Rattle.packed.specs.Records.{codeAt}
-use Rattle.packed.proofs.Records.{Good, record-good, header-room, halves-room, codes-at, code-shift, link-at}
+use Rattle.packed.proofs.Records.{Good, record-good, header-room, halves-room, codes-at, code-shift, pointer-at}
 use borrow.Author.Needs.{needs}
 use Rattle.packed.proofs.pointer_at.Statement.{statement}
 use Rattle.packed.proofs.pointer_at.Tie as tie
@@ -42,8 +42,8 @@ returns c =
     let h = c .before in
     let a = h .before .before .before .args in (
       c .pointer-from .ensures .0
-          ∙ ap₂ (λ (k n : ℕ). linkOf k (num (2 * k) (drop (2 * a .place + 2 * n) (a .list .now)))) (code-is h) (halves-is h)
-          ∙ sym (link-at (a .list .now) (a .place) (a .i) (h .before .before .before .pre .1)),
+          ∙ ap₂ (λ (k n : ℕ). pointerOf k (num (2 * k) (drop (2 * a .place + 2 * n) (a .list .now)))) (code-is h) (halves-is h)
+          ∙ sym (pointer-at (a .list .now) (a .place) (a .i) (h .before .before .before .pre .1)),
       c .pointer-from .ensures .1,
     )
 

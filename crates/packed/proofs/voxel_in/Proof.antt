@@ -5,7 +5,7 @@ use mathlib.Core.Bool.{false}
 use borrow.Author.Tests.{le-leb}
 use Rattle.paper.specs.Rooms.{Point, point, least, deepest}
 use Rattle.paper.specs.Outline.{fileDepth}
-use Rattle.paper.specs.Packed.{packedFront, packedHead}
+use Rattle.paper.specs.Packed.{packedVersion, packedHead}
 use Rattle.paper.specs.Calls.{packedOutside}
 use Rattle.outline.proofs.HeadTests.{Headed}
 use Rattle.packed.proofs.Ways.{far-out, walked}
@@ -15,10 +15,10 @@ use Rattle.packed.proofs.voxel_in.Tie as tie
 abbrev spot : tie.Start → Point
 spot s = point (s .args .x) (s .args .y) (s .args .z)
 
-known : (s : tie.Start) → Headed packedFront packedHead (s .args .file .now)
+known : (s : tie.Start) → Headed packedVersion packedHead (s .args .file .now)
 known s =
     let D = fileDepth (s .args .file .now) in
-    record { front-ok = s .pre .1 .0 .0; length-ok = s .pre .1 .0 .1; depth-ok = rw (le-leb least D (s .pre .0 .tested .deep), le-leb D deepest (s .pre .0 .tested .flat)) }
+    record { version-ok = s .pre .1 .0 .0; length-ok = s .pre .1 .0 .1; depth-ok = rw (le-leb least D (s .pre .0 .tested .deep), le-leb D deepest (s .pre .0 .tested .flat)) }
 
 returns : tie.Need-returns
 returns c =

@@ -10,12 +10,12 @@ use lib.Bits.{bitXor}
 use lib.ListN.{length, take, drop, getD}
 use Rattle.paper.specs.Rooms.{Point, point, inChild}
 use Rattle.paper.specs.Outline.{edge}
-use Rattle.paper.specs.Packed.{noLink, linksAt, recordOk}
+use Rattle.paper.specs.Packed.{noPointer, pointersAt, recordOk}
 use Rattle.laws.proofs.Eight.{xor8-lt}
 use Rattle.laws.proofs.Tests.{true-T}
 use Rattle.packed.specs.Records.{childIs, childTo, TagLow}
 use Rattle.packed.specs.Walk.{Ending, endingOf, ending, listIn, partsWalk}
-use Rattle.points.specs.Seeing.{seenAt, octant}
+use Rattle.points.specs.Seeing.{seenAt, childNoAt}
 use Rattle.packed.proofs.Steps.{plus, wayAt, way-read, way-zero, way-broken, way-absent, way-wrong, way-on, leaves-end}
 use Rattle.packed.proofs.Lists.{falls, starts-inside, list-part}
 use borrow.Author.Needs.{needs}
@@ -95,15 +95,15 @@ good-list : (c : tie.Else1 Inv-loop μ-loop) → recordOk (L (c .before .before 
 good-list c = ap (λ (i : List ℕ). recordOk i (c .before .before .before .before .loop .place)) (sym (list-is (c .before .before .before))) ∙ good c
 
 child-requires : tie.Need-child-requires Inv-loop μ-loop
-child-requires c κs = let l = c .before .before .before .before .before .loop in (true-T (good (c .before)), xor8-lt (c .octant .result) (l .seen) (c .octant .ensures .1) (l .inv .1))
+child-requires c κs = let l = c .before .before .before .before .before .loop in (true-T (good (c .before)), xor8-lt (c .child-number .result) (l .seen) (c .child-number .ensures .1) (l .inv .1))
 
 -- the child read is the one that the walk takes
 taken : (c : tie.After-child Inv-loop μ-loop) → let s = c .before .before .before .before .before .before .before .before .before in let l = c .before .before .before .before .before .before .loop in
-    childIs (c .child .result) ≡ childTo (getD (linksAt (L s (l .k)) (l .place)) (bitXor (octant (l .k - 1) (spot s)) (l .seen)) noLink)
+    childIs (c .child .result) ≡ childTo (getD (pointersAt (L s (l .k)) (l .place)) (bitXor (childNoAt (l .k - 1) (spot s)) (l .seen)) noPointer)
 taken c =
     let l = c .before .before .before .before .before .before .loop in
     c .child .ensures .0
-    ∙ ap₂ (λ (i : List ℕ) (n : ℕ). childTo (getD (linksAt i (l .place)) (bitXor n (l .seen)) noLink)) (list-is (c .before .before .before .before .before)) (c .before .octant .ensures .0)
+    ∙ ap₂ (λ (i : List ℕ) (n : ℕ). childTo (getD (pointersAt i (l .place)) (bitXor n (l .seen)) noPointer)) (list-is (c .before .before .before .before .before)) (c .before .child-number .ensures .0)
 
 returns-2 : tie.Need-returns-2 Inv-loop μ-loop
 returns-2 c =

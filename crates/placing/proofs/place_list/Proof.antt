@@ -6,7 +6,7 @@ use native.Mathlib.Omega.{arith}
 use lib.ListN.{getD}
 use borrow.Author.Needs.{needs}
 use Rattle.paper.specs.Store.{capacityOf, keptCount, keptOf}
-use Rattle.laws.proofs.Undamaged.{headed, store-header}
+use Rattle.laws.proofs.Undamaged.{fine-header, store-header}
 use Rattle.scratch.specs.Parts.{orders, places, wordIn, withWord, Room, orderIn}
 use Rattle.scratch.proofs.Words.{only-room, words-at}
 use Rattle.placing.proofs.Runs.{Run, run-first, run-next, run-on, run-last}
@@ -69,7 +69,7 @@ is-kept c =
 below : (c : tie.After-ordered Inv-loop μ-loop) → c .ordered .result < C (start c)
 below c =
     let s = start c in
-    omega (arith, is-kept c, headed (s .args .store .now) (store-header (s .args .store .now) (s .pre .0)) .few (s .args .k) (s .pre .1 .0 .list))
+    omega (arith, is-kept c, fine-header (s .args .store .now) (store-header (s .args .store .now) (s .pre .0)) .few (s .args .k) (s .pre .1 .0 .list))
 
 span-of-requires : tie.Need-span-of-requires Inv-loop μ-loop
 span-of-requires c κs = let o = c .before in (start o .pre .0, (room-now (loop o), is-kept o))

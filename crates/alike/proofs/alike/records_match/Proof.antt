@@ -8,17 +8,17 @@ use lib.Bits.{bitXor}
 use lib.ListN.{getD}
 use borrow.Author.Needs.{needs}
 use Rattle.paper.specs.Numbers.{allBelow}
-use Rattle.paper.specs.Packed.{noLink, linksAt}
+use Rattle.paper.specs.Packed.{noPointer, pointersAt}
 use Rattle.laws.proofs.Eight.{xor8-lt}
-use Rattle.alike.specs.Matching.{selfBy, linkMatch, recordsMatch}
-use Rattle.alike.proofs.Linking.{all-down, all-fails}
+use Rattle.alike.specs.Matching.{selfBy, placeMatch, recordsMatch}
+use Rattle.alike.proofs.Pointing.{all-down, all-fails}
 use Rattle.alike.proofs.alike.records_match.Statement.{statement}
 use Rattle.alike.proofs.alike.records_match.Tie as tie
 
 -- the pointers of child i match
 abbrev fit : List ℕ → ℕ → ℕ → List ℕ → ℕ → ℕ → ℕ → Bool
 fit list place other marks unit mirror i =
-    linkMatch (selfBy unit marks) mirror (getD (linksAt list place) i noLink) (getD (linksAt list other) (bitXor i mirror) noLink)
+    placeMatch (selfBy unit marks) mirror (getD (pointersAt list place) i noPointer) (getD (pointersAt list other) (bitXor i mirror) noPointer)
 
 abbrev Inv-loop : tie.InvT-loop
 Inv-loop list place other marks unit mirror i₀ i =
@@ -39,18 +39,18 @@ pointer-at-requires-2 c κs =
     let s = c .before .before .before .before .before in
     (s .pre .0 .1, xor8-lt (c .before .before .loop .i - 1) (s .args .mirror) (omega (arith, c .before .before .loop .inv .0, c .before .loop-test .taken)) (s .pre .1 .1))
 
-link-match-requires : tie.Need-link-match-requires Inv-loop μ-loop
-link-match-requires c κs =
+place-match-requires : tie.Need-place-match-requires Inv-loop μ-loop
+place-match-requires c κs =
     let s = c .before .before .before .before .before .before in
     (s .pre .1 .0, s .pre .1 .1, c .before .pointer-at .ensures .1, c .pointer-at2 .ensures .1)
 
 -- what the call answers of child i - 1
-answer : (c : tie.After-link-match Inv-loop μ-loop)
+answer : (c : tie.After-place-match Inv-loop μ-loop)
     → let a = c .before .before .before .before .before .before .before .args in
-    c .link-match .result ≡ fit (a .list .now) (a .place) (a .other) (a .marks .now) (a .unit) (a .mirror) (c .before .before .before .before .loop .i - 1)
+    c .place-match .result ≡ fit (a .list .now) (a .place) (a .other) (a .marks .now) (a .unit) (a .mirror) (c .before .before .before .before .loop .i - 1)
 answer c =
     let a = c .before .before .before .before .before .before .before .args in
-    c .link-match .ensures ∙ ap₂ (linkMatch (selfBy (a .unit) (a .marks .now)) (a .mirror)) (c .before .before .pointer-at .ensures .0) (c .before .pointer-at2 .ensures .0)
+    c .place-match .ensures ∙ ap₂ (placeMatch (selfBy (a .unit) (a .marks .now)) (a .mirror)) (c .before .before .pointer-at .ensures .0) (c .before .pointer-at2 .ensures .0)
 
 loop-again : tie.Need-loop-again Inv-loop μ-loop
 loop-again c =
@@ -73,4 +73,4 @@ returns-2 c =
 pub records-match-spec : {M : Type 1} → statement M
 records-match-spec =
     tie.close
-    (tie.spec Inv-loop μ-loop loop-holds (λ c. search needs) pointer-at-requires pointer-at-requires-2 link-match-requires (λ c. search needs) loop-again returns returns-2)
+    (tie.spec Inv-loop μ-loop loop-holds (λ c. search needs) pointer-at-requires pointer-at-requires-2 place-match-requires (λ c. search needs) loop-again returns returns-2)

@@ -12,7 +12,7 @@ use Rattle.alike.proofs.records.tag_high.Tie as tie
 returns : tie.Need-returns
 returns c =
     let a = c .before .args in
-    ap (λ (n : ℕ). not (eqb n (a .tag))) (c .low-tag .ensures .0) ∙ high-by-low (a .mask) (a .tag)
+    ap (λ (n : ℕ). not (eqb n (a .tag))) (c .low-tag .ensures .0) ∙ high-by-low (a .symmetry) (a .tag)
 
 pub tag-high-spec : {M : Type 1} → statement M
 tag-high-spec = tie.close (tie.spec (λ c κs. search needs) returns)

@@ -10,36 +10,36 @@ use Rattle.paper.specs.Store.{heights, keptCount}
 use Rattle.paper.specs.Runs.{Bytes}
 use Rattle.laws.proofs.Undamaged.{store-header}
 use Rattle.keeping.specs.Keeping.{holdIn, cutBack}
-use Rattle.merge.specs.declared.record.Taken.{Taken}
-use Rattle.merge.specs.declared.record.Taken.the-variants.{Full}
-use Rattle.merge.specs.Taking.{taking, takeRoot}
+use Rattle.merge.specs.declared.record.RecordAdded.{RecordAdded}
+use Rattle.merge.specs.declared.record.RecordAdded.the-variants.{Full}
+use Rattle.merge.specs.RecordAdding.{recordAdding, addRoot}
 use Rattle.merge.proofs.Scenes.{file-long, taken-outcome, hold-ready, full-outcome, cut-ready}
 use borrow.Author.Needs.{needs}
 use Rattle.merge.proofs.call.take_scene.Statement.{statement}
 use Rattle.merge.proofs.call.take_scene.Tie as tie
 
 -- the root's record was taken, from the words and the bytes that were lent
-abbrev begun : tie.After-take-root → tie.Start
+abbrev begun : tie.After-add-root → tie.Start
 begun r = r .before .before .before .before .before .before .before .before
 
-abbrev ws : tie.After-take-root → List ℕ
+abbrev ws : tie.After-add-root → List ℕ
 ws r = begun r .args .store .now
 
-abbrev file : tie.After-take-root → List ℕ
+abbrev file : tie.After-add-root → List ℕ
 file r = begun r .args .file .now
 
 -- the words after
-abbrev vs : tie.After-take-root → List ℕ
-vs r = r .take-root .last .1 .0
+abbrev vs : tie.After-add-root → List ℕ
+vs r = r .add-root .last .1 .0
 
-words : (r : tie.After-take-root) (i : ℕ) → getD (ws r) i 0 < 2 ^ 32
+words : (r : tie.After-add-root) (i : ℕ) → getD (ws r) i 0 < 2 ^ 32
 words r i = r .before .before .before .before .before .before .slice-known .given i .fits
 
-bytes : (r : tie.After-take-root) → Bytes (file r)
+bytes : (r : tie.After-add-root) → Bytes (file r)
 bytes r i = r .before .before .before .before .before .before .before .shared-slice-known .given i .fits
 
-told-as : (r : tie.After-take-root) (x : Taken) → r .take-root .result ≡ x → takeRoot (file r) (ws r) ≡ taking x (vs r)
-told-as r x e = sym (r .take-root .ensures) ∙ ap (λ (y : Taken). taking y (vs r)) e
+told-as : (r : tie.After-add-root) (x : RecordAdded) → r .add-root .result ≡ x → addRoot (file r) (ws r) ≡ recordAdding x (vs r)
+told-as r x e = sym (r .add-root .ensures) ∙ ap (λ (y : RecordAdded). recordAdding y (vs r)) e
 
 scenes-held-requires : tie.Need-scenes-held-requires
 scenes-held-requires c κs = let s = c .before .before .before in store-header (s .args .store .now) (s .pre .1 .0)
@@ -47,8 +47,8 @@ scenes-held-requires c κs = let s = c .before .before .before in store-header (
 counts-requires : tie.Need-counts-requires
 counts-requires c κs = let s = c .before .before .before .before .before in store-header (s .args .store .now) (s .pre .1 .0)
 
-take-root-requires : tie.Need-take-root-requires
-take-root-requires c κs = let s = c .before .before .before .before .before .before .before in (s .pre .0, store-header (s .args .store .now) (s .pre .1 .0))
+add-root-requires : tie.Need-add-root-requires
+add-root-requires c κs = let s = c .before .before .before .before .before .before .before in (s .pre .0, store-header (s .args .store .now) (s .pre .1 .0))
 
 cut-back-requires : tie.Need-cut-back-requires
 cut-back-requires c κs =
@@ -96,7 +96,7 @@ take-scene-spec =
     (tie.spec
     scenes-held-requires
     counts-requires
-    take-root-requires
+    add-root-requires
     (λ c. search needs)
     cut-back-requires
     (λ c. search needs)

@@ -1,19 +1,19 @@
 -- `record::ending_at` meets its contract: case by case, whatever the words. Assumes nothing.
 use mathlib.Core.Path.{sym, ap}
-use Rattle.merge.specs.declared.keep.Placed.{Placed}
-use Rattle.merge.specs.Seeking.{placing}
-use Rattle.merge.specs.Taking.{endingAt}
+use Rattle.merge.specs.declared.keep.CellAdded.{CellAdded}
+use Rattle.merge.specs.CellAdding.{cellAdding}
+use Rattle.merge.specs.RecordAdding.{endingAt}
 use borrow.Author.Needs.{needs}
 use Rattle.merge.proofs.record.ending_at.Statement.{statement}
 use Rattle.merge.proofs.record.ending_at.Tie as tie
 
 returns : tie.Need-returns
 unfolding endingAt
-returns c = λ ws. sym (ap (λ (x : Placed). endingAt (c .before .before .before .args .next) (placing x ws)) (c .before .place .given .1))
+returns c = λ ws. sym (ap (λ (x : CellAdded). endingAt (c .before .before .before .args .next) (cellAdding x ws)) (c .before .place .given .1))
 
 returns-2 : tie.Need-returns-2
 unfolding endingAt
-returns-2 c = λ ws. sym (ap (λ (x : Placed). endingAt (c .before .before .args .next) (placing x ws)) (c .enum-told .given .1))
+returns-2 c = λ ws. sym (ap (λ (x : CellAdded). endingAt (c .before .before .args .next) (cellAdding x ws)) (c .enum-told .given .1))
 
 pub ending-at-spec : {M : Type 1} → statement M
 ending-at-spec = tie.close

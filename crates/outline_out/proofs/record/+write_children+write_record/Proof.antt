@@ -28,7 +28,7 @@ use Rattle.outline_out.proofs.record.write_record.Kinds as record-kinds
 use Rattle.outline_out.proofs.record.+write_children+write_record.Lts-write_record as record-lts
 use Rattle.leaf.proofs.mirror_leaf.Reads as mirror-leaf-reads
 use Rattle.outline_out.proofs.record.mask.Reads as mask-reads
-use Rattle.outline_out.proofs.record.turned.Reads as turned-reads
+use Rattle.outline_out.proofs.record.mirrored_number.Reads as mirrored-number-reads
 use Rattle.numbers.proofs.write_number.Reads as write-number-reads
 use Rattle.store.proofs.cell_at.Reads as cell-at-reads
 use Rattle.store.proofs.leaf_at.Reads as leaf-at-reads
@@ -58,8 +58,8 @@ record-below t = and 2 record-kinds.ps (falls 2 record-kinds.ps _<_ μ-record t)
 -- what the callees ask and give
 abbrev of-children : ℕ → children-lts.Claims
 of-children t = (
-  turned-reads.Asked,
-  turned-reads.Learnt,
+  mirrored-number-reads.Asked,
+  mirrored-number-reads.Learnt,
   children-below t,
   write-children.Post,
   tag-reads.Asked,
@@ -96,16 +96,16 @@ children-returns t c =
 
 -- the pointer of the child that comes
 abbrev Numbered : ℕ → Type 0
-Numbered t = children-lts.After-turned (of-children t) (children-at t) write-children.Post
+Numbered t = children-lts.After-mirrored-number (of-children t) (children-at t) write-children.Post
 
 abbrev pointed : (t : ℕ) → Numbered t → ℕ
-pointed t c = getD (c .before .before .before .before .args .t3) (c .turned .result) 0
+pointed t c = getD (c .before .before .before .before .args .t3) (c .mirrored-number .result) 0
 
 abbrev coming : (t : ℕ) → Numbered t → ℕ
 coming t c = let a = c .before .before .before .before .args in pointerAt (a .t3) (a .mirror) (8 - a .left)
 
 seen : (t : ℕ) (c : Numbered t) → pointed t c ≡ coming t c
-seen t c = ap (λ (i : ℕ). getD (c .before .before .before .before .args .t3) i 0) (c .turned .ensures .0)
+seen t c = ap (λ (i : ℕ). getD (c .before .before .before .before .args .t3) i 0) (c .mirrored-number .ensures .0)
 
 -- the last children; where the one that comes is none, those after it
 abbrev rest : (t : ℕ) → Numbered t → ℕ → List ℕ
@@ -132,8 +132,8 @@ children-returns-2 t c =
     c .before .before .write-children .ensures ∙ ap (λ (bs : List ℕ). writing bs (a .at) (a .out .now)) (sym (skipped t n (f .if2 .taken)))
 
 -- a child that is there: its record, and those after it
-turned-requires-2 : (t : ℕ) → children-lts.Need-turned-requires-2 (of-children t) (children-at t) write-children.Post
-turned-requires-2 t c κs = (rw (c .tag .ensures) (tag-lt (pointed t (c .before .before))), omega arith)
+mirrored-number-requires-2 : (t : ℕ) → children-lts.Need-mirrored-number-requires-2 (of-children t) (children-at t) write-children.Post
+mirrored-number-requires-2 t c κs = (rw (c .tag .ensures) (tag-lt (pointed t (c .before .before))), omega arith)
 
 abbrev There : ℕ → Type 0
 There t = children-lts.After-cell-number (of-children t) (children-at t) write-children.Post
@@ -142,7 +142,7 @@ abbrev given : (t : ℕ) (c : There t) → children-lts.Args (of-children t) (ch
 given t c = c .before .before .before .before .before .before .before .before .args
 
 abbrev here : (t : ℕ) → There t → List ℕ
-here t c = let a = given t c in recordAt (keptOf (a .store .now)) (a .k) (c .cell-number .result) (c .before .turned2 .result)
+here t c = let a = given t c in recordAt (keptOf (a .store .now)) (a .k) (c .cell-number .result) (c .before .mirrored-number2 .result)
 
 abbrev after : (t : ℕ) → There t → ℕ → List ℕ
 after t c left = rest t (c .before .before .before .before) left
@@ -153,9 +153,9 @@ whole t c =
     let j = c .before in
     let f = j .before .before in
     let n = f .before in
-    let joined : j .turned2 .result ≡ bitXor (tagOf (pointed t n)) (a .mirror) = j .turned2 .ensures .0 ∙ ap (λ (x : ℕ). bitXor x (a .mirror)) (j .before .tag .ensures) in
+    let joined : j .mirrored-number2 .result ≡ bitXor (tagOf (pointed t n)) (a .mirror) = j .mirrored-number2 .ensures .0 ∙ ap (λ (x : ℕ). bitXor x (a .mirror)) (j .before .tag .ensures) in
     children-there (recordAt (keptOf (a .store .now)) (a .k)) (a .t3) (a .mirror) (a .left) (pointed t n) (n .before .if1 .left) (seen t n)
-    (c .cell-number .result) (j .turned2 .result) (f .if2 .left) (c .cell-number .ensures) joined
+    (c .cell-number .result) (j .mirrored-number2 .result) (f .if2 .left) (c .cell-number .ensures) joined
 
 -- there is room for both
 room : (t : ℕ) (c : There t) → given t c .at + (length (here t c) + length (after t c (given t c .left - 1))) ≤ length (given t c .out .now)
@@ -173,9 +173,9 @@ record-requires t c κs =
     let a = b .args in
     let q = b .pre .1 in
     let kept =
-    child-kept (keptCount (a .store .now) (a .k)) (a .t3) (n .turned .result) (r .cell-number .result) (q .1 .0 .3) (n .turned .ensures .1)
+    child-kept (keptCount (a .store .now) (a .k)) (a .t3) (n .mirrored-number .result) (r .cell-number .result) (q .1 .0 .3) (n .mirrored-number .ensures .1)
     (r .cell-number .ensures) (f .if2 .left) in
-    (omega arith, (q .0, ((q .1 .0 .0, kept, r .before .turned2 .ensures .1), omega (arith, room t r))))
+    (omega arith, (q .0, ((q .1 .0 .0, kept, r .before .mirrored-number2 .ensures .1), omega (arith, room t r))))
 
 -- the record is written
 abbrev Written : ℕ → Type 0
@@ -310,7 +310,7 @@ pub +write-children+write-record-spec : {M : Type 1} → statement M
     (λ c. search needs)
     (children-returns-2 t)
     (λ c κs. search needs)
-    (turned-requires-2 t)
+    (mirrored-number-requires-2 t)
     (λ c κs. search needs)
     (record-requires t)
     (λ c. search needs)

@@ -43,7 +43,7 @@ mul-bits c = omega (arith, room (c .before))
 told : (c : tie.After-present Inv-loop μ-loop) → c .present .result ≡ there (c .before .before .before .before) (c .before .before .before .loop .i - 1)
 told c =
     let a = c .before .before .before .before .args in
-    c .present .ensures ∙ ap (λ (j : ℕ). bitFor (not (eqb (getD (a .t1) j 0) 0))) (c .before .turned .ensures .0)
+    c .present .ensures ∙ ap (λ (j : ℕ). bitFor (not (eqb (getD (a .t1) j 0) 0))) (c .before .mirrored-number .ensures .0)
 
 add-bits : tie.Need-add-bits Inv-loop μ-loop
 add-bits c = omega (arith, room (c .before .before), told c, there-lt (c .before .before .before .before) (c .before .before .before .loop .i - 1))

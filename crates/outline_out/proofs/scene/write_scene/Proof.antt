@@ -6,7 +6,7 @@ use Prim.Native.Nat.{ℕ, _+_, _-_, _<_, _≤_}
 use native.Mathlib.Omega.{arith}
 use lib.ListN.{length, length-append}
 use borrow.Author.Needs.{needs}
-use Rattle.paper.specs.Outline.{outlineFront}
+use Rattle.paper.specs.Outline.{outlineVersion}
 use Rattle.paper.specs.Store.{Cell, keptCount, keptOf, sceneDepth, sceneRoot}
 use Rattle.laws.proofs.Undamaged.{store-header}
 use Rattle.laws.proofs.Matching.{tag-lt}
@@ -31,7 +31,7 @@ abbrev file : tie.Start → List ℕ
 file c = fileAt (keptOf (c .args .store .now)) (depth c) (root c)
 
 abbrev head : tie.Start → List ℕ
-head c = headOf outlineFront (length (file c)) (depth c)
+head c = headOf outlineVersion (length (file c)) (depth c)
 
 scene-depth-requires : tie.Need-scene-depth-requires
 scene-depth-requires c κs = let s = c .before .before in (store-header (s .args .store .now) (s .pre .0), scene s .few)
@@ -53,10 +53,10 @@ headed : (c : tie.After-write-head) → reached (c .write-head .result) (c .writ
 headed c =
     let d = c .before .before .before in
     let s = d .before .before .before in
-    c .write-head .ensures ∙ ap₂ (λ (n D : ℕ). writing (headOf outlineFront n D) 0 (s .args .out .now)) (s .pre .1 .1 .0) (d .scene-depth .ensures)
+    c .write-head .ensures ∙ ap₂ (λ (n D : ℕ). writing (headOf outlineVersion n D) 0 (s .args .out .now)) (s .pre .1 .1 .0) (d .scene-depth .ensures)
 
 fits : (c : tie.Start) → 0 + length (head c) ≤ length (c .args .out .now)
-fits c = omega (arith, head-length outlineFront (length (file c)) (depth c), file-least (keptOf (c .args .store .now)) (depth c) (root c), c .pre .1 .1 .0, c .pre .1 .1 .1)
+fits c = omega (arith, head-length outlineVersion (length (file c)) (depth c), file-least (keptOf (c .args .store .now)) (depth c) (root c), c .pre .1 .1 .0, c .pre .1 .1 .1)
 
 returns : tie.Need-returns
 returns c =

@@ -8,7 +8,7 @@ use native.Mathlib.Omega.{arith}
 use lib.ListN.{length, drop}
 use lib.Seq.{length-take-le}
 use borrow.Author.Needs.{needs}
-use Rattle.paper.specs.Packed.{packedFront, packedHead, packedRules}
+use Rattle.paper.specs.Packed.{packedVersion, packedHead, packedRules}
 use Rattle.paper.specs.Answers.{told, outcome}
 use Rattle.paper.specs.Runs.{Bytes}
 use Rattle.laws.proofs.Tests.{true-T}
@@ -25,7 +25,7 @@ returns c = way-short (c .before .before .before .args .file .now) (c .before .b
 file-refusal-requires : tie.Need-file-refusal-requires
 file-refusal-requires c κs =
     let n = c .before .head-number in
-    let r = head-range packedFront packedHead (c .before .before .before .before .before .args .file .now) (n .result) (n .ensures) (c .if2 .taken) in
+    let r = head-range packedVersion packedHead (c .before .before .before .before .before .args .file .now) (n .result) (n .ensures) (c .if2 .taken) in
     (r .0, omega (arith, r .1))
 
 returns-2 : tie.Need-returns-2
@@ -46,8 +46,8 @@ module _ (c : tie.Else2) where
   abbrev scratch : List ℕ
   scratch = start .args .scratch .now
 
-  known : Headed packedFront packedHead file
-  known = headed packedFront packedHead file [] (sym (c .before .head-number .ensures) ∙ omega (arith, c .if2 .left))
+  known : Headed packedVersion packedHead file
+  known = headed packedVersion packedHead file [] (sym (c .before .head-number .ensures) ∙ omega (arith, c .if2 .left))
 
   by : Bytes file
   by i = omega (arith, c .before .before .before .before .shared-slice-known .given i)

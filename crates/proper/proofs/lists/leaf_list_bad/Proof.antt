@@ -5,7 +5,7 @@ use Prim.Native.Nat.{ℕ}
 use lib.ListN.{length, length-replicate}
 use Rattle.paper.specs.Numbers.{allIn}
 use Rattle.paper.specs.Packed.{leafOk}
-use Rattle.alike.specs.Matching.{leavesMatch, leafMask, apartIn, leavesIn}
+use Rattle.alike.specs.Matching.{leavesMatch, leafSymmetry, apartIn, leavesIn}
 use Rattle.proper.specs.Phases.{leavesRules, leafMarks}
 use Rattle.proper.proofs.Marks.{marks-length}
 use Rattle.alike.proofs.Loops.{bad-first, bad-second, good-both}
@@ -44,7 +44,7 @@ same-length-2 : tie.Need-same-length-2
 same-length-2 c =
     let s = c .before .before .before .before .before .before .before .before .before .before .before .before .before in
     let l : List ℕ = s .args .leaves .now in
-    ap length (c .before .before .mark-leaves .ensures) ∙ marks-length (leafMask l) 8 (leavesIn l) _ ∙ ap length (c .before .before .before .before .before .before .before .two-leaves-match .ensures .1)
+    ap length (c .before .before .mark-leaves .ensures) ∙ marks-length (leafSymmetry l) 8 (leavesIn l) _ ∙ ap length (c .before .before .before .before .before .before .before .two-leaves-match .ensures .1)
 
 returns-3 : tie.Need-returns-3
 unfolding leavesRules

@@ -8,8 +8,8 @@ use lib.ListN.{length, set, length-set}
 use borrow.Author.Needs.{needs}
 use Rattle.paper.specs.Numbers.{count}
 use Rattle.paper.specs.Leaf.{mirrorLeaf}
-use Rattle.laws.specs.Masks.{maskFor}
-use Rattle.alike.specs.Matching.{leavesMatch, leafMask}
+use Rattle.laws.specs.Symmetries.{symmetryFor}
+use Rattle.alike.specs.Matching.{leavesMatch, leafSymmetry}
 use Rattle.proper.specs.Places.{marksOn}
 use Rattle.alike.proofs.Along.{count-more, count-none}
 use Rattle.proper.proofs.Along.{marks-next, marks-none}
@@ -22,7 +22,7 @@ left leaves p = count p (length leaves / 8 - p)
 
 abbrev Inv-loop : tie.InvT-loop
 Inv-loop leaves share₀ count place₀ share place =
-    (place ≤ length leaves / 8) × (length share ≡ length share₀) × (marksOn (leafMask leaves) 8 (left leaves 0) share₀ ≡ marksOn (leafMask leaves) 8 (left leaves place) share)
+    (place ≤ length leaves / 8) × (length share ≡ length share₀) × (marksOn (leafSymmetry leaves) 8 (left leaves 0) share₀ ≡ marksOn (leafSymmetry leaves) 8 (left leaves place) share)
 
 abbrev μ-loop : tie.MeasureT-loop
 μ-loop leaves share₀ count place₀ share place = length leaves / 8 - place
@@ -42,15 +42,15 @@ slice-write-share c =
     omega (arith, c .before .before .loop-test .taken, c .before .before .before .loop .inv .1, s .pre .1 .1)
 
 loop-again : tie.Need-loop-again Inv-loop μ-loop
-unfolding leafMask leavesMatch
+unfolding leafSymmetry leavesMatch
 loop-again c =
     let leaves : List ℕ = c .before .before .before .before .before .before .args .leaves .now in
     let l = c .before .before .before .loop in
-    let e : c .leaf-mask .result ≡ leafMask leaves (l .place) = c .leaf-mask .ensures ∙ ap (λ (n : ℕ). maskFor (λ t. eqb n (mirrorLeaf t n))) (c .before .leaf .ensures) in (
+    let e : c .leaf-symmetry .result ≡ leafSymmetry leaves (l .place) = c .leaf-symmetry .ensures ∙ ap (λ (n : ℕ). symmetryFor (λ t. eqb n (mirrorLeaf t n))) (c .before .leaf .ensures) in (
       omega arith,
-      length-set (l .share) (8 * l .place) (c .leaf-mask .result) ∙ l .inv .1,
-      l .inv .2 ∙ marks-next (leafMask leaves) 8 (l .place) (left leaves (l .place)) (left leaves (l .place + 1)) (l .share) (count-more (length leaves / 8) (l .place) (c .before .before .loop-test .taken))
-          ∙ ap (λ (n : ℕ). marksOn (leafMask leaves) 8 (left leaves (l .place + 1)) (set (l .share) (8 * l .place) n)) (sym e),
+      length-set (l .share) (8 * l .place) (c .leaf-symmetry .result) ∙ l .inv .1,
+      l .inv .2 ∙ marks-next (leafSymmetry leaves) 8 (l .place) (left leaves (l .place)) (left leaves (l .place + 1)) (l .share) (count-more (length leaves / 8) (l .place) (c .before .before .loop-test .taken))
+          ∙ ap (λ (n : ℕ). marksOn (leafSymmetry leaves) 8 (left leaves (l .place + 1)) (set (l .share) (8 * l .place) n)) (sym e),
     )
 
 same-length : tie.Need-same-length Inv-loop μ-loop
@@ -62,8 +62,8 @@ returns c =
     let share : List ℕ = c .before .before .before .before .args .share .now in
     let l = c .before .loop in
     let z : length leaves / 8 - 0 ≡ length leaves / 8 = omega arith in
-    sym (ap (λ (n : ℕ). marksOn (leafMask leaves) 8 (count 0 n) share) (sym z) ∙ l .inv .2
-    ∙ marks-none (leafMask leaves) 8 (left leaves (l .place)) (l .share) (count-none (length leaves / 8) (l .place) (c .loop-test .left)))
+    sym (ap (λ (n : ℕ). marksOn (leafSymmetry leaves) 8 (count 0 n) share) (sym z) ∙ l .inv .2
+    ∙ marks-none (leafSymmetry leaves) 8 (left leaves (l .place)) (l .share) (count-none (length leaves / 8) (l .place) (c .loop-test .left)))
 
 pub mark-leaves-spec : {M : Type 1} → statement M
 mark-leaves-spec =

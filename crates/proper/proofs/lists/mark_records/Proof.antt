@@ -11,21 +11,21 @@ use borrow.Author.Needs.{needs}
 use Rattle.paper.specs.Numbers.{allIn}
 use Rattle.paper.specs.Packed.{headerAt, recordOk}
 use Rattle.laws.proofs.PackedLists.{halves-one}
-use Rattle.alike.specs.Matching.{recordMask, placesIn}
+use Rattle.alike.specs.Matching.{recordSymmetry, placesIn}
 use Rattle.proper.specs.Places.{marksOn}
 use Rattle.alike.proofs.Along.{restFrom, widthAt, rest-all, rest-none, rest-head, rest-tail, part-all, record-inside}
 use Rattle.proper.proofs.Along.{marks-more, marks-none}
 use Rattle.proper.proofs.lists.mark_records.Statement.{statement}
 use Rattle.proper.proofs.lists.mark_records.Tie as tie
 
--- the mask of a record, by the marks that the shares had
-abbrev maskBy : List ℕ → List ℕ → ℕ → ℕ → ℕ
-maskBy list shares unit = recordMask unit (drop (length list) shares) list
+-- the symmetry of a record, by the marks that the shares had
+abbrev symmetryBy : List ℕ → List ℕ → ℕ → ℕ → ℕ
+symmetryBy list shares unit = recordSymmetry unit (drop (length list) shares) list
 
 abbrev Inv-loop : tie.InvT-loop
 Inv-loop list shares₀ unit own place₀ shares place =
     (2 * place ≤ length list) × (length shares ≡ length shares₀) × (drop (length list) shares ≡ drop (length list) shares₀) × T (allIn (recordOk list) (restFrom list place))
-    × (marksOn (maskBy list shares₀ unit) 2 (placesIn list) shares₀ ≡ marksOn (maskBy list shares₀ unit) 2 (restFrom list place) shares)
+    × (marksOn (symmetryBy list shares₀ unit) 2 (placesIn list) shares₀ ≡ marksOn (symmetryBy list shares₀ unit) 2 (restFrom list place) shares)
 
 abbrev μ-loop : tie.MeasureT-loop
 μ-loop list shares₀ unit own place₀ shares place = length list - 2 * place
@@ -39,7 +39,7 @@ loop-holds c =
       refl,
       refl,
       subst (λ (r : List ℕ). T (allIn (recordOk list) r)) (sym all) (s .pre .0),
-      ap (λ (r : List ℕ). marksOn (maskBy list (s .args .shares .now) (s .args .unit)) 2 r (s .args .shares .now)) (sym all),
+      ap (λ (r : List ℕ). marksOn (symmetryBy list (s .args .shares .now) (s .args .unit)) 2 r (s .args .shares .now)) (sym all),
     )
 
 -- the record at `place` is whole
@@ -48,8 +48,8 @@ whole c =
     let s = c .before .before .before .before in
     rest-head (s .args .list .now) (s .pre .1 .0 .0) (c .before .loop .place) (c .loop-test .taken) (recordOk (s .args .list .now)) (c .before .loop .inv .3)
 
-record-mask-requires : tie.Need-record-mask-requires Inv-loop μ-loop
-record-mask-requires c κs = (whole (c .before .before), c .before .before .before .before .before .before .pre .1 .1 .1)
+record-symmetry-requires : tie.Need-record-symmetry-requires Inv-loop μ-loop
+record-symmetry-requires c κs = (whole (c .before .before), c .before .before .before .before .before .before .pre .1 .1 .1)
 
 slice-write-shares : tie.Need-slice-write-shares Inv-loop μ-loop
 slice-write-shares c =
@@ -83,12 +83,12 @@ loop-again c =
     let l = c .before .before .before .before .before .loop in
     let even = s .pre .1 .0 .0 in
     let test = c .before .before .before .before .loop-test .taken in
-    let f : ℕ → ℕ = maskBy list (s .args .shares .now) unit in
+    let f : ℕ → ℕ = symmetryBy list (s .args .shares .now) unit in
     let w : widthAt list (l .place) ≡ c .width .result = sym (c .width .ensures .0) in
-    let e : c .before .record-mask .result ≡ f (l .place) = c .before .record-mask .ensures ∙ ap (λ (m : List ℕ). recordMask unit m list (l .place)) (part-all (l .shares) (length list) ∙ l .inv .2) in (
+    let e : c .before .record-symmetry .result ≡ f (l .place) = c .before .record-symmetry .ensures ∙ ap (λ (m : List ℕ). recordSymmetry unit m list (l .place)) (part-all (l .shares) (length list) ∙ l .inv .2) in (
       inside c,
-      length-set (l .shares) (2 * l .place) (c .before .record-mask .result) ∙ l .inv .1,
-      drop-set-lt (length list) (l .shares) (2 * l .place) (c .before .record-mask .result) test ∙ l .inv .2,
+      length-set (l .shares) (2 * l .place) (c .before .record-symmetry .result) ∙ l .inv .1,
+      drop-set-lt (length list) (l .shares) (2 * l .place) (c .before .record-symmetry .result) test ∙ l .inv .2,
       subst (λ (n : ℕ). T (allIn (recordOk list) (restFrom list (l .place + n)))) w (rest-tail list even (l .place) test (recordOk list) (l .inv .3)),
       l .inv .4 ∙ marks-more list even (l .place) test f (l .shares)
           ∙ ap₂ (λ (n m : ℕ). marksOn f 2 (restFrom list (l .place + n)) (set (l .shares) (2 * l .place) m)) w (sym e),
@@ -102,7 +102,7 @@ returns c =
     let s = c .before .before .before .before in
     let list : List ℕ = s .args .list .now in
     let l = c .before .loop in
-    sym (l .inv .4 ∙ marks-none (maskBy list (s .args .shares .now) (s .args .unit)) 2 (restFrom list (l .place)) (l .shares) (rest-none list (l .place) (c .loop-test .left)))
+    sym (l .inv .4 ∙ marks-none (symmetryBy list (s .args .shares .now) (s .args .unit)) 2 (restFrom list (l .place)) (l .shares) (rest-none list (l .place) (c .loop-test .left)))
 
 pub mark-records-spec : {M : Type 1} → statement M
 mark-records-spec =
@@ -111,4 +111,4 @@ mark-records-spec =
     (λ c. omega (arith, c .before .before .before .before .pre .1 .1 .0, c .before .loop .inv .1))
     (λ c. omega (arith, c .before .before .before .before .before .pre .1 .1 .0, c .before .before .loop .inv .1))
     (λ c. omega (arith, c .before .before .loop .inv .1))
-    record-mask-requires (λ c. search needs) (λ c. search needs) slice-write-shares width-requires add-place loop-less loop-again same-length returns)
+    record-symmetry-requires (λ c. search needs) (λ c. search needs) slice-write-shares width-requires add-place loop-less loop-again same-length returns)

@@ -7,11 +7,11 @@ use borrow.Author.Tests.{not-true, not-false}
 use lib.ListN.{length}
 use borrow.Author.Needs.{needs}
 use Rattle.paper.specs.Numbers.{allIn}
-use Rattle.paper.specs.Packed.{linksAt, recordOk, headerAt}
+use Rattle.paper.specs.Packed.{pointersAt, recordOk, headerAt}
 use Rattle.laws.proofs.Tests.{true-T}
 use Rattle.laws.proofs.PackedLists.{halves-one}
-use Rattle.alike.specs.Matching.{linkRules, recordRules, placesIn}
-use Rattle.alike.proofs.Along.{restFrom, rest-all, rest-none, rest-passes, rest-fails, allIn-none, record-inside, rules-whole, rules-links}
+use Rattle.alike.specs.Matching.{pointerRules, recordRules, placesIn}
+use Rattle.alike.proofs.Along.{restFrom, rest-all, rest-none, rest-passes, rest-fails, allIn-none, record-inside, rules-whole, rules-pointers}
 use Rattle.proper.proofs.lists.records_bad.Statement.{statement}
 use Rattle.proper.proofs.lists.records_bad.Tie as tie
 
@@ -36,8 +36,8 @@ returns c =
     sym (ap not (l .inv .1 ∙ rest-fails (a .list .now) (s .pre .0 .0) (l .place) (c .before .before .loop-test .taken) (recordRules (a .unit) (a .marks .now) (a .list .now))
     (rules-whole (a .unit) (a .marks .now) (a .list .now) (l .place) e)))
 
-links-bad-requires : tie.Need-links-bad-requires Inv-loop μ-loop
-links-bad-requires c κs =
+pointers-bad-requires : tie.Need-pointers-bad-requires Inv-loop μ-loop
+pointers-bad-requires c κs =
     let s = c .before .before .before .before .before .before in
     (true-T (not-false (recordOk (s .args .list .now) (c .before .before .before .loop .place)) (sym (c .before .record-bad .ensures) ∙ c .if1 .left)), s .pre .1)
 
@@ -47,9 +47,9 @@ returns-2 c =
     let a = s .args in
     let l = c .before .before .before .before .before .loop in
     let w : recordOk (a .list .now) (l .place) ≡ true = not-false (recordOk (a .list .now) (l .place)) (sym (c .before .before .before .record-bad .ensures) ∙ c .before .before .if1 .left) in
-    let e : allIn (linkRules (a .unit) (a .marks .now)) (linksAt (a .list .now) (l .place)) ≡ false = not-true _ (sym (c .before .links-bad .ensures) ∙ c .if2 .taken) in
+    let e : allIn (pointerRules (a .unit) (a .marks .now)) (pointersAt (a .list .now) (l .place)) ≡ false = not-true _ (sym (c .before .pointers-bad .ensures) ∙ c .if2 .taken) in
     sym (ap not (l .inv .1 ∙ rest-fails (a .list .now) (s .pre .0 .0) (l .place) (c .before .before .before .before .loop-test .taken) (recordRules (a .unit) (a .marks .now) (a .list .now))
-    (rules-links (a .unit) (a .marks .now) (a .list .now) (l .place) w ∙ e)))
+    (rules-pointers (a .unit) (a .marks .now) (a .list .now) (l .place) w ∙ e)))
 
 width-requires : tie.Need-width-requires Inv-loop μ-loop
 width-requires c κs =
@@ -85,10 +85,10 @@ loop-again c =
     let l = c .before .before .before .before .before .before .loop in
     let R : ℕ → Bool = recordRules (a .unit) (a .marks .now) (a .list .now) in
     let w : recordOk (a .list .now) (l .place) ≡ true = not-false (recordOk (a .list .now) (l .place)) (sym (c .before .before .before .before .record-bad .ensures) ∙ c .before .before .before .if1 .left) in
-    let e : allIn (linkRules (a .unit) (a .marks .now)) (linksAt (a .list .now) (l .place)) ≡ true = not-false _ (sym (c .before .before .links-bad .ensures) ∙ c .before .if2 .left) in (
+    let e : allIn (pointerRules (a .unit) (a .marks .now)) (pointersAt (a .list .now) (l .place)) ≡ true = not-false _ (sym (c .before .before .pointers-bad .ensures) ∙ c .before .if2 .left) in (
       inside c,
       l .inv .1 ∙ rest-passes (a .list .now) (s .pre .0 .0) (l .place) (c .before .before .before .before .before .loop-test .taken) R
-          (rules-links (a .unit) (a .marks .now) (a .list .now) (l .place) w ∙ e) ∙ ap (λ (n : ℕ). allIn R (restFrom (a .list .now) (l .place + n))) (sym (c .width .ensures .0)),
+          (rules-pointers (a .unit) (a .marks .now) (a .list .now) (l .place) w ∙ e) ∙ ap (λ (n : ℕ). allIn R (restFrom (a .list .now) (l .place + n))) (sym (c .width .ensures .0)),
     )
 
 returns-3 : tie.Need-returns-3 Inv-loop μ-loop
@@ -100,4 +100,4 @@ returns-3 c =
 pub records-bad-spec : {M : Type 1} → statement M
 records-bad-spec =
     tie.close
-    (tie.spec Inv-loop μ-loop loop-holds (λ c. search needs) (λ c. search needs) (λ c κs. search needs) returns links-bad-requires returns-2 width-requires add-place loop-less loop-again returns-3)
+    (tie.spec Inv-loop μ-loop loop-holds (λ c. search needs) (λ c. search needs) (λ c κs. search needs) returns pointers-bad-requires returns-2 width-requires add-place loop-less loop-again returns-3)

@@ -6,7 +6,7 @@ use native.Mathlib.Omega.{arith}
 use borrow.Author.Needs.{needs}
 use Rattle.paper.specs.Store.{keptOf, cellsAt}
 use Rattle.laws.proofs.Kept.{kept-length}
-use Rattle.laws.specs.Masks.{maskMatch}
+use Rattle.laws.specs.Symmetries.{symmetryMatch}
 use Rattle.store.proofs.HeaderFacts.{header}
 use Rattle.seek.proofs.FindFirst.{First}
 use Rattle.seek.proofs.FindBest.{IsBest, best-start, best-more, best-found}
@@ -15,15 +15,15 @@ use Rattle.seek.proofs.find.find_cell.Statement.{statement}
 use Rattle.seek.proofs.find.find_cell.Tie as tie
 
 abbrev Inv-loop : tie.InvT-loop
-Inv-loop store k cell masks count best₀ t₀ best t = (t ≤ 8) × IsBest (cellPasses store k cell masks) count t best
+Inv-loop store k cell symmetries count best₀ t₀ best t = (t ≤ 8) × IsBest (cellPasses store k cell symmetries) count t best
 
 abbrev μ-loop : tie.MeasureT-loop
-μ-loop store k cell masks count best₀ t₀ best t = 8 - t
+μ-loop store k cell symmetries count best₀ t₀ best t = 8 - t
 
 loop-holds : tie.Need-loop-holds Inv-loop μ-loop
 loop-holds c =
     let a = c .before .before .args in
-    (omega arith, best-start (cellPasses (a .store .now) (a .k) (a .cell) (a .masks)) (c .kept-count .result))
+    (omega arith, best-start (cellPasses (a .store .now) (a .k) (a .cell) (a .symmetries)) (c .kept-count .result))
 
 first-cell-requires : tie.Need-first-cell-requires Inv-loop μ-loop
 first-cell-requires c κs =
@@ -35,18 +35,18 @@ first-cell-requires c κs =
 scanned : (c : tie.After-first-cell Inv-loop μ-loop) →
     let l = c .before .before .before in
     let a = l .before .before .before .args in
-    First (λ q. cellPasses (a .store .now) (a .k) (a .cell) (a .masks) q (l .loop .t)) (l .loop .best .number) (c .first-cell .result)
+    First (λ q. cellPasses (a .store .now) (a .k) (a .cell) (a .symmetries) q (l .loop .t)) (l .loop .best .number) (c .first-cell .result)
 scanned c =
     let l = c .before .before .before in
     let a = l .before .before .before .args in
-    cell-first (a .store .now) (a .k) (a .cell) (a .masks) (l .loop .t) (l .loop .best .number) (c .before .before .loop-test .taken)
+    cell-first (a .store .now) (a .k) (a .cell) (a .symmetries) (l .loop .t) (l .loop .best .number) (c .before .before .loop-test .taken)
     (c .before .mirrored .ensures) (c .first-cell .ensures)
 
 loop-again : tie.Need-loop-again Inv-loop μ-loop
 loop-again c =
     let l = c .before .before .before .before in
     let a = l .before .before .before .args in
-    let p = cellPasses (a .store .now) (a .k) (a .cell) (a .masks) in
+    let p = cellPasses (a .store .now) (a .k) (a .cell) (a .symmetries) in
     let n = l .before .kept-count .result in
     let v = l .loop in (
       omega arith,
@@ -67,7 +67,7 @@ returns c =
     let s = l .before .before .before in
     let a = s .args in
     c .found .ensures
-    ∙ best-found (maskMatch (a .masks) (a .cell)) (cellsAt (keptOf (a .store .now)) (a .k)) (l .before .kept-count .result) (l .loop .t) (l .loop .best)
+    ∙ best-found (symmetryMatch (a .symmetries) (a .cell)) (cellsAt (keptOf (a .store .now)) (a .k)) (l .before .kept-count .result) (l .loop .t) (l .loop .best)
     (l .before .kept-count .ensures ∙ sym (kept-length (a .store .now) (a .k) (s .pre .1 .1))) (omega arith) (l .loop .inv .1)
 
 pub find-cell-spec : {M : Type 1} → statement M

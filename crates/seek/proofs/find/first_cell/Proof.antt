@@ -7,23 +7,23 @@ use Prim.Native.Nat.{ℕ, _-_, _≤_}
 use native.Mathlib.Omega.{arith}
 use borrow.Author.Needs.{needs}
 use Rattle.paper.specs.Store.{Cell, keptOf, cellAt}
-use Rattle.laws.specs.Masks.{maskMatch}
-use Rattle.seek.specs.Sought.{masksUnder, firstBelow}
+use Rattle.laws.specs.Symmetries.{symmetryMatch}
+use Rattle.seek.specs.Sought.{symmetriesUnder, firstBelow}
 use Rattle.seek.proofs.FindFirst.{from, first-start, first-stop, first-still, first-over}
 use Rattle.seek.proofs.find.first_cell.Statement.{statement}
 use Rattle.seek.proofs.find.first_cell.Tie as tie
 
 abbrev isAt : List ℕ → ℕ → Cell → List ℕ → ℕ → ℕ → Bool
-isAt ws k image masks mirror n = maskMatch (masksUnder mirror masks) image (cellAt (keptOf ws) k n) 0
+isAt ws k image symmetries mirror n = symmetryMatch (symmetriesUnder mirror symmetries) image (cellAt (keptOf ws) k n) 0
 
 abbrev Inv-loop : tie.InvT-loop
-Inv-loop store k image masks mirror end n₀ n = (n ≤ end) × (firstBelow end (isAt store k image masks mirror) ≡ from end (isAt store k image masks mirror) n)
+Inv-loop store k image symmetries mirror end n₀ n = (n ≤ end) × (firstBelow end (isAt store k image symmetries mirror) ≡ from end (isAt store k image symmetries mirror) n)
 
 abbrev μ-loop : tie.MeasureT-loop
-μ-loop store k image masks mirror end n₀ n = end - n
+μ-loop store k image symmetries mirror end n₀ n = end - n
 
 abbrev passes : tie.Start Inv-loop μ-loop → ℕ → Bool
-passes s = isAt (s .args .store .now) (s .args .k) (s .args .image) (s .args .masks) (s .args .mirror)
+passes s = isAt (s .args .store .now) (s .args .k) (s .args .image) (s .args .symmetries) (s .args .mirror)
 
 loop-holds : tie.Need-loop-holds Inv-loop μ-loop
 loop-holds c = (omega arith, first-start (c .before .args .end) (passes (c .before)))
@@ -35,7 +35,7 @@ cell-at-requires c κs = (c .before .before .before .pre .0, (c .before .before 
 tested : (c : tie.After-same-cell Inv-loop μ-loop) → passes (c .before .before .before .before .before) (c .before .before .before .loop .n) ≡ c .same-cell .result
 tested c =
     let a = c .before .before .before .before .before .args in
-    sym (c .same-cell .ensures ∙ ap (λ (b : Cell). maskMatch (masksUnder (a .mirror) (a .masks)) (a .image) b 0) (c .before .cell-at .ensures))
+    sym (c .same-cell .ensures ∙ ap (λ (b : Cell). symmetryMatch (symmetriesUnder (a .mirror) (a .symmetries)) (a .image) b 0) (c .before .cell-at .ensures))
 
 returns : tie.Need-returns Inv-loop μ-loop
 returns c =

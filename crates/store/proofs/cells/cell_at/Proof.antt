@@ -3,13 +3,13 @@
 use mathlib.Core.Path.{_∙_}
 use native.Mathlib.Omega.{arith}
 use Rattle.store.proofs.HeaderFacts.{header}
-use Rattle.store.proofs.Places.{cells-fit, cell-words}
+use Rattle.store.proofs.Positions.{cells-fit, cell-words}
 use borrow.Author.Needs.{needs}
 use Rattle.store.proofs.cells.cell_at.Statement.{statement}
 use Rattle.store.proofs.cells.cell_at.Tie as tie
 
-cell-place-requires : tie.Need-cell-place-requires
-cell-place-requires c κs =
+cell-position-requires : tie.Need-cell-position-requires
+cell-position-requires c κs =
     let s = c .before .before in
     let h = header _ (s .pre .0) in
     (omega (arith, h .most), (s .pre .1 .0 .1, omega (arith, h .counts (s .args .k) (s .pre .1 .0 .1))))
@@ -25,13 +25,13 @@ returns : tie.Need-returns
 returns c =
     let s = c .before .before .before .before in
     c .eight .ensures
-    ∙ cell-words (s .args .store .now) (s .args .n) _ _ (c .before .before .capacity .ensures) (s .args .k) (s .pre .1 .0 .0) (s .pre .1 .0 .1) (s .pre .1 .1) (c .before .cell-place .ensures)
+    ∙ cell-words (s .args .store .now) (s .args .n) _ _ (c .before .before .capacity .ensures) (s .args .k) (s .pre .1 .0 .0) (s .pre .1 .0 .1) (s .pre .1 .1) (c .before .cell-position .ensures)
 
 pub cell-at-spec : {M : Type 1} → statement M
 cell-at-spec =
     tie.close
     (tie.spec
     (λ c κs. search needs)
-    cell-place-requires
+    cell-position-requires
     eight-requires
     returns)

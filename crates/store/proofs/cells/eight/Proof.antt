@@ -1,6 +1,6 @@
 -- `store::cells::eight` meets its contract: eight words, one after the other, are the list's part.
 -- By what a list has from a place on. Assumes nothing.
-use Rattle.store.proofs.Places.{eight-words}
+use Rattle.store.proofs.Positions.{eight-words}
 use borrow.Author.Needs.{needs}
 use Rattle.store.proofs.cells.eight.Statement.{statement}
 use Rattle.store.proofs.cells.eight.Tie as tie

@@ -6,19 +6,19 @@ use lib.Dec.{lit<}
 use lib.ListN.{length}
 use native.Mathlib.Omega.{arith}
 use Rattle.store.proofs.HeaderFacts.{header}
-use Rattle.store.proofs.Places.{leaf-words}
+use Rattle.store.proofs.Positions.{leaf-words}
 use borrow.Author.Needs.{needs}
 use Rattle.store.proofs.cells.leaf_at.Statement.{statement}
 use Rattle.store.proofs.cells.leaf_at.Tie as tie
 
-room : (c : tie.After-cell-place) → c .cell-place .result + 2 ≤ length (c .before .before .before .args .store .now)
+room : (c : tie.After-cell-position) → c .cell-position .result + 2 ≤ length (c .before .before .before .args .store .now)
 room c =
     let s = c .before .before .before in
     let h = header _ (s .pre .0) in
     omega (arith, h .room, h .counts 0 (lit< tt))
 
-cell-place-requires : tie.Need-cell-place-requires
-cell-place-requires c κs =
+cell-position-requires : tie.Need-cell-position-requires
+cell-position-requires c κs =
     let h = header _ (c .before .before .pre .0) in
     (omega (arith, h .most), (lit< tt, omega (arith, h .counts 0 (lit< tt))))
 
@@ -32,14 +32,14 @@ returns : tie.Need-returns
 returns c =
     let s = c .before .before .before .before .before .before .before in
     ap₂ (λ (a b : ℕ). a * 2 ^ 32 + b) (c .before .before .wider .ensures .0) (c .wider2 .ensures .0)
-    ∙ leaf-words (s .args .store .now) (s .args .n) _ _ (c .before .before .before .before .before .capacity .ensures) (s .pre .1) (c .before .before .before .before .cell-place .ensures)
+    ∙ leaf-words (s .args .store .now) (s .args .n) _ _ (c .before .before .before .before .before .capacity .ensures) (s .pre .1) (c .before .before .before .before .cell-position .ensures)
 
 pub leaf-at-spec : {M : Type 1} → statement M
 leaf-at-spec =
     tie.close
     (tie.spec
     (λ c κs. search needs)
-    cell-place-requires
+    cell-position-requires
     (λ c. search needs)
     shared-slice-read-wider
     (λ c κs. search needs)

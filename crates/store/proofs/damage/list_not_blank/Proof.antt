@@ -4,13 +4,13 @@ use mathlib.Core.Path.{ap, _∙_}
 use mathlib.Core.Bool.{not}
 use native.Mathlib.Omega.{arith}
 use Rattle.store.proofs.HeaderFacts.{header}
-use Rattle.store.proofs.Places.{leaves-fit, cells-fit, leaves-spare, cells-spare}
+use Rattle.store.proofs.Positions.{leaves-fit, cells-fit, leaves-spare, cells-spare}
 use borrow.Author.Needs.{needs}
 use Rattle.store.proofs.damage.list_not_blank.Statement.{statement}
 use Rattle.store.proofs.damage.list_not_blank.Tie as tie
 
-cell-place-requires : tie.Need-cell-place-requires
-cell-place-requires c κs =
+cell-position-requires : tie.Need-cell-position-requires
+cell-position-requires c κs =
     let s = c .before .before .before in
     let h = header _ (s .pre .0) in
     (omega (arith, h .most), (s .pre .1, omega (arith, h .counts (s .args .k) (s .pre .1))))
@@ -29,7 +29,7 @@ returns : tie.Need-returns
 returns c =
     let s = c .before .before .before .before .before .before in
     c .not-blank .ensures
-    ∙ ap not (leaves-spare (s .args .store .now) _ _ _ (c .before .before .before .before .capacity .ensures) (s .args .k) (c .before .if1 .taken) (c .before .before .before .kept-count .ensures) (c .before .before .cell-place .ensures))
+    ∙ ap not (leaves-spare (s .args .store .now) _ _ _ (c .before .before .before .before .capacity .ensures) (s .args .k) (c .before .if1 .taken) (c .before .before .before .kept-count .ensures) (c .before .before .cell-position .ensures))
 
 not-blank-requires-2 : tie.Need-not-blank-requires-2
 not-blank-requires-2 c κs =
@@ -42,7 +42,7 @@ returns-2 : tie.Need-returns-2
 returns-2 c =
     let s = c .before .before .before .before .before .before in
     c .not-blank2 .ensures
-    ∙ ap not (cells-spare (s .args .store .now) _ _ _ (c .before .before .before .before .capacity .ensures) (s .args .k) (c .before .if1 .left) (c .before .before .before .kept-count .ensures) (c .before .before .cell-place .ensures))
+    ∙ ap not (cells-spare (s .args .store .now) _ _ _ (c .before .before .before .before .capacity .ensures) (s .args .k) (c .before .if1 .left) (c .before .before .before .kept-count .ensures) (c .before .before .cell-position .ensures))
 
 pub list-not-blank-spec : {M : Type 1} → statement M
 list-not-blank-spec =
@@ -50,7 +50,7 @@ list-not-blank-spec =
     (tie.spec
     (λ c κs. search needs)
     (λ c κs. search needs)
-    cell-place-requires
+    cell-position-requires
     sub-spare
     (λ c. search needs)
     (λ c. search needs)

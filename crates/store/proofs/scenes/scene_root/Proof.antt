@@ -13,7 +13,7 @@ shared-slice-read-result : tie.Need-shared-slice-read-result
 shared-slice-read-result c = omega (arith, header-front _ (c .before .before .before .pre .0))
 
 returns : tie.Need-returns
-returns c = ap (λ (i : ℕ). getD (c .before .before .before .args .store .now) (i + 1) 0) (c .before .scene-place .ensures)
+returns c = ap (λ (i : ℕ). getD (c .before .before .before .args .store .now) (i + 1) 0) (c .before .scene-position .ensures)
 
 pub scene-root-spec : {M : Type 1} → statement M
 scene-root-spec =

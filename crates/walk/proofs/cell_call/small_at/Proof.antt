@@ -35,8 +35,8 @@ leaf-at-requires c κs =
     let a = c .before .before .before .before in
     (a .pre .0, subst (λ (n : ℕ). c .before .end .given .0 .0 < n) (kept-length (now (a .args .store)) 0 (lit< tt)) (at-kept (c .before) .0))
 
-leaf-full-requires : tie.Need-leaf-full-requires
-leaf-full-requires c κs = search needs
+leaf-non-empty-requires : tie.Need-leaf-non-empty-requires
+leaf-non-empty-requires c κs = search needs
 
 returns : tie.Need-returns
 returns c =
@@ -53,7 +53,7 @@ returns-3 c =
     let a = c .before .before .before .before .before .before .before .args in
     let e = c .before .before .before .before .end in
     let room : ℕ → Bool = λ l. nonEmpty (2 ^ a .height) (λ u. leafVoxel l (seenAt 0 (e .given .0 .1 .0) (point (a .x + u .x) (a .y + u .y) (a .z + u .z)))) in
-    ap (λ (b : Bool). toldBy (bitFor b)) (sym (sym (c .before .leaf-full .ensures ∙ ap room (c .before .before .leaf-at .ensures)) ∙ c .if1 .taken))
+    ap (λ (b : Bool). toldBy (bitFor b)) (sym (sym (c .before .leaf-non-empty .ensures ∙ ap room (c .before .before .leaf-at .ensures)) ∙ c .if1 .taken))
     ∙ ap (λ (r : Ended). toldBy (smallAt (keptOf (now (a .store))) (a .height) (point (a .x) (a .y) (a .z)) r)) (sym (e .given .1))
 
 returns-4 : tie.Need-returns-4
@@ -61,7 +61,7 @@ returns-4 c =
     let a = c .before .before .before .before .before .before .before .args in
     let e = c .before .before .before .before .end in
     let room : ℕ → Bool = λ l. nonEmpty (2 ^ a .height) (λ u. leafVoxel l (seenAt 0 (e .given .0 .1 .0) (point (a .x + u .x) (a .y + u .y) (a .z + u .z)))) in
-    ap (λ (b : Bool). toldBy (bitFor b)) (sym (sym (c .before .leaf-full .ensures ∙ ap room (c .before .before .leaf-at .ensures)) ∙ c .if1 .left))
+    ap (λ (b : Bool). toldBy (bitFor b)) (sym (sym (c .before .leaf-non-empty .ensures ∙ ap room (c .before .before .leaf-at .ensures)) ∙ c .if1 .left))
     ∙ ap (λ (r : Ended). toldBy (smallAt (keptOf (now (a .store))) (a .height) (point (a .x) (a .y) (a .z)) r)) (sym (e .given .1))
 
 pub small-at-spec : {M : Type 1} → statement M
@@ -72,7 +72,7 @@ small-at-spec =
     enum-told-2
     enum-known-end
     leaf-at-requires
-    leaf-full-requires
+    leaf-non-empty-requires
     returns
     returns-2
     returns-3

@@ -38,16 +38,16 @@ bad-is c =
     let ws = c .before .before .before .before .before .before .args .store .now in
     c .any-bad .ensures ∙ ap₂ anyBad (c .before .kept-count .ensures ∙ sym (kept-length ws (l .list - 1) (omega (arith, l .inv .0)))) (c .before .before .cell-at .ensures)
 
-taken-is : (c : tie.After-octant Inv-loop μ-loop) → (let l = c .before .before .before .before .before .before .loop in
+taken-is : (c : tie.After-child-number Inv-loop μ-loop) → (let l = c .before .before .before .before .before .before .loop in
     let a = c .before .before .before .before .before .before .before .before .args in
-    getD (c .before .before .before .before .cell-at .result) (bitXor (c .octant .result) (l .seen)) 0
+    getD (c .before .before .before .before .cell-at .result) (bitXor (c .child-number .result) (l .seen)) 0
     ≡ takenFrom (l .list - 1) (cellAt (keptOf (a .store .now)) (l .list) (l .at)) (l .seen) (point (a .x) (a .y) (a .z)))
 taken-is c =
     let l = c .before .before .before .before .before .before .loop in
-    ap₂ (λ (l : List ℕ) (i : ℕ). getD l i 0) (c .before .before .before .before .cell-at .ensures) (ap (λ (o : ℕ). bitXor o (l .seen)) (c .octant .ensures .0))
+    ap₂ (λ (l : List ℕ) (i : ℕ). getD l i 0) (c .before .before .before .before .cell-at .ensures) (ap (λ (o : ℕ). bitXor o (l .seen)) (c .child-number .ensures .0))
 
-low : (c : tie.After-octant Inv-loop μ-loop) → bitXor (c .octant .result) (c .before .before .before .before .before .before .loop .seen) < 8
-low c = let l = c .before .before .before .before .before .before .loop in xor8-lt (c .octant .result) (l .seen) (c .octant .ensures .1) (l .inv .2)
+low : (c : tie.After-child-number Inv-loop μ-loop) → bitXor (c .child-number .result) (c .before .before .before .before .before .before .loop .seen) < 8
+low c = let l = c .before .before .before .before .before .before .loop in xor8-lt (c .child-number .result) (l .seen) (c .child-number .ensures .1) (l .inv .2)
 
 returns : tie.Need-returns Inv-loop μ-loop
 returns c =
