@@ -73,6 +73,7 @@ pub mod Alone
 pub mod CellWalk
 pub mod RoomAnswers
 pub mod RunClaims
+pub mod WalkClaim
 -- packed files
 pub mod OpenClaim
 pub mod PackedLists

@@ -118,6 +118,29 @@ pub question-accepted : (ws : List ℕ) (n : ℕ) (outside walk : Bool) → T (h
 unfolding firstOf
 question-accepted ws n outside walk h s o out w = rw (T-true {b = headerOk ws} h, s, T-true {b = sceneOk ws n} o, out, w)
 
+-- refused by none: the tests passed
+pub record QuestionPassed (ws : List ℕ) (n : ℕ) (outside walk : Bool) : Type 0 where
+  pub header : T (headerOk ws)
+  pub held : noScene ws n ≡ false
+  pub scene : T (sceneOk ws n)
+  pub within : outside ≡ false
+  pub walked : walk ≡ false
+
+five-pass : (h e s o w : Bool) → firstOf (when (not h) 2 ∷ when e 9 ∷ when (not s) 2 ∷ when o 10 ∷ when w 2 ∷ []) ≡ 0
+    → T h × (e ≡ false) × T s × (o ≡ false) × (w ≡ false)
+unfolding firstOf
+five-pass false e s o w q = absurd (suc-ne-zero 1 q)
+five-pass true true s o w q = absurd (suc-ne-zero 8 q)
+five-pass true false false o w q = absurd (suc-ne-zero 1 q)
+five-pass true false true true w q = absurd (suc-ne-zero 9 q)
+five-pass true false true false true q = absurd (suc-ne-zero 1 q)
+five-pass true false true false false q = (tt, refl, tt, refl, refl)
+
+pub question-passed : (ws : List ℕ) (n : ℕ) (outside walk : Bool) → firstOf (questionOrder ws n outside walk) ≡ 0 → QuestionPassed ws n outside walk
+question-passed ws n outside walk q =
+    let p = five-pass (headerOk ws) (noScene ws n) (sceneOk ws n) outside walk q in
+    record { header = p .0; held = p .1; scene = p .2; within = p .3; walked = p .4 }
+
 -- never 2, if no scene held has bad words or a bad walk
 four-never-2 : (b s o w : Bool) → (b ≡ false → T s × (w ≡ false)) → firstOf (when b 9 ∷ when (not s) 2 ∷ when o 10 ∷ when w 2 ∷ []) ≡ 2 → ⊥
 unfolding firstOf

@@ -1,4 +1,4 @@
--- The claims C1 to C11, document 01's demands, as types. This file states all and proves none; docs/READING.md says where each is proved.
+-- The claims C1 to C12, document 01's demands, as types. This file states all and proves none; docs/READING.md says where each is proved.
 -- A claim that speaks of a call speaks of its outcome function (Calls, Detail); the promise of the call ties the code to that function.
 use mathlib.Core.Bool.{true, false, cond}
 use mathlib.Core.List.{List, [], _∷_}
@@ -16,14 +16,14 @@ use Rattle.paper.specs.Numbers.{allIn, bitFor, isIn}
 use Rattle.paper.specs.Rooms.{Point, Room, deepest, depthOk, Inside, cellOf, childRoom, mirror, mirrored, Same, Image, NonEmpty, boxCount, nonEmpty}
 use Rattle.paper.specs.Outline.{edge, IsOutline, outlineOf, fileDepth, fileRoom}
 use Rattle.paper.specs.Store.{Cell, leafNo, tagOf, cellNo, anyBad, capacityOf, isHeld, keptOf, cellsAt, cellAt}
-use Rattle.paper.specs.Meaning.{cellVoxel}
+use Rattle.paper.specs.Meaning.{cellVoxel, rootRoom}
 use Rattle.paper.specs.Match.{matches}
 use Rattle.paper.specs.Packed.{rootTag, isEmpty, topOf, graphOf, proper, packedRoom, packedPath, startsOf}
 use Rattle.paper.specs.Pack.{layout, emptyFile, packedMost}
 use Rattle.paper.specs.Answers.{Outcome, told, outcome}
 use Rattle.paper.specs.Order.{firstOf}
 use Rattle.paper.specs.Detail.{factorOk, distanceOk, reaches, doubled}
-use Rattle.paper.specs.Calls.{over, cleared, nextScene, scenesFull, outlineOrder, addOutcome, voxelOutcome, cellOutcome, boxOutcome, keptOutcome, outlineOutcome, scratchFor, packBytes, packOutcome, checkOutcome, packedVoxelOutcome, openOutcome, askOutcome}
+use Rattle.paper.specs.Calls.{over, cleared, nextScene, scenesFull, outlineOrder, ofScene, addOutcome, voxelOutcome, cellOutcome, boxOutcome, keptOutcome, outlineOutcome, scratchFor, packBytes, packOutcome, checkOutcome, packedVoxelOutcome, openOutcome, askOutcome}
 use Rattle.paper.specs.Runs.{Call, Bytes, Given, outcomeOf, wordsAfter, besides, Scene, sceneOf, holding, alone, State, Reached, Occurs, Outnumbered, Number, keptRoom, usedBy}
 use Rattle.paper.specs.Samples.{samples, holds}
 
@@ -262,3 +262,9 @@ pub record C11 : Type 0 where
   -- check's after 0 and 6, else as it was
   pub check-scratch : (file scratch : List ℕ)
       → getD (checkOutcome file scratch .lent) 0 [] ≡ cond (isIn (checkOutcome file scratch .number) (0 ∷ 6 ∷ [])) (cleared (length file) scratch) scratch
+
+-- ---- C12, what a walk tells, on any words
+
+pub record C12 : Type 0 where
+  -- a voxel that a store answers is the one that its cells mean, whoever wrote them
+  pub means : (ws : List ℕ) (n : ℕ) (v : Point) → voxelOutcome ws n v .number ≡ 0 → voxelOutcome ws n v ≡ outcome (told 0 (bitFor (ofScene rootRoom ws n v) ∷ [])) []
