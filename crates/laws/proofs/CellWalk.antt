@@ -31,9 +31,9 @@ use Rattle.laws.proofs.OutlineCells.{some-nonEmpty, nonEmpty-same, no-v
 -- q is none or names a kept cell of list j, and r is what it means, mirrored
 pub record Ends (K : List (List Cell)) (j : ℕ) (r : Room) (q : ℕ) : Type 0 where
   pub okq : OkPointer (length (cellsAt K j)) q
-  pub turn : ℕ
-  pub is-turn : turn < 8
-  pub is : Same (edge j) r (mirrored turn (edge j) (pointerVoxel (cellVoxel K j) (cellsAt K j) (edge j) q))
+  pub under : ℕ
+  pub is-mirror : under < 8
+  pub is : Same (edge j) r (mirrored under (edge j) (pointerVoxel (cellVoxel K j) (cellsAt K j) (edge j) q))
 
 module _ (K : List (List Cell)) (ok : OkCells K) (j : ℕ) where
   -- what a pointer of list k means
@@ -53,8 +53,8 @@ module _ (K : List (List Cell)) (ok : OkCells K) (j : ℕ) where
   leads-here : Leads 0 j
   leads-here p okp c u lc lu = rw (pointerTo-here j p (pointAt (edge j) c u)) (record {
     okq = okp;
-    turn = 0;
-    is-turn = lit< tt;
+    under = 0;
+    is-mirror = lit< tt;
     is = λ v l. cell-whole (suc (suc j)) (roomAt j p) c lc v;
   })
 
@@ -70,8 +70,8 @@ module _ (K : List (List Cell)) (ok : OkCells K) (j : ℕ) where
   ends-none : (k p : ℕ) (c v : Point) → p ≡ 0 → j < suc k → Ends K j (cellOf (roomAt (suc k) p) (suc (suc j)) c) (pointerTo K j (suc k) p v)
   ends-none k p c v e h = rw (pointerTo-none k p v h e) (record {
     okq = inl refl;
-    turn = 0;
-    is-turn = lit< tt;
+    under = 0;
+    is-mirror = lit< tt;
     is = λ w l. pointer-none (cellVoxel K (suc k)) (cellsAt K (suc k)) (edge (suc k)) p e _ ∙ sym (pointer-none (cellVoxel K j) (cellsAt K j) (edge j) 0 refl w);
   })
 
@@ -110,14 +110,14 @@ module _ (K : List (List Cell)) (ok : OkCells K) (j : ℕ) where
     in-cell = mirror-inside (tagOf p) (edge j) u lu
 
     -- a voxel of the cell at c, mirrored, is one of the cell at c′
-    turned : (v : Point) → Inside (edge j) v → mirror (tagOf p) (edge (suc k)) (pointAt (edge j) c v) ≡ pointAt (edge j) c′ (mirror (tagOf p) (edge j) v)
-    turned v l =
+    mirrored-at : (v : Point) → Inside (edge j) v → mirror (tagOf p) (edge (suc k)) (pointAt (edge j) c v) ≡ pointAt (edge j) c′ (mirror (tagOf p) (edge j) v)
+    mirrored-at v l =
         ap (λ (E : ℕ). mirror (tagOf p) E (pointAt (edge j) c v)) here-edge ∙ mirror-pointAt (tagOf p) (edge j) (2 ^ suc d) c v lc l
 
     next : pointerTo K j (suc k) p (pointAt (edge j) c u) ≡ pointerTo K j k (getD a i 0) (pointAt (edge j) c″ u′)
     next =
         pointerTo-some k p (pointAt (edge j) c u) (omega arith) (names-ne h)
-        ∙ ap (λ (w : Point). pointerTo K j k (taken k a w) (inChild (edge k) w)) (turned u lu)
+        ∙ ap (λ (w : Point). pointerTo K j k (taken k a w) (inChild (edge k) w)) (mirrored-at u lu)
         ∙ ap (λ (S : ℕ). pointerTo K j k (getD a (childNo S (pointAt (edge j) c′ u′)) 0) (inChild S (pointAt (edge j) c′ u′))) below-edge
         ∙ ap₂ (λ (n : ℕ) (w : Point). pointerTo K j k (getD a n 0) w) (childNo-pointAt (edge j) (2 ^ d) c′ u′ (pow-pos d) in-cell) (inChild-pointAt (edge j) (2 ^ d) c′ u′ (pow-pos d) in-cell)
 
@@ -127,7 +127,7 @@ module _ (K : List (List Cell)) (ok : OkCells K) (j : ℕ) where
         let lw : Inside (edge j) w = mirror-inside (tagOf p) (edge j) v l in
         let R : Room = cellVoxel K (suc k) a in
         pointer-at (cellVoxel K (suc k)) (cellsAt K (suc k)) (edge (suc k)) p (names-ne h) (pointAt (edge j) c v)
-        ∙ ap R (turned v l)
+        ∙ ap R (mirrored-at v l)
         ∙ cell-down (suc (suc j)) d (edge k) R c′ below-edge in-halves w
         ∙ same-cell (suc (suc j)) d (edge k) (childRoom (edge k) i R) (roomAt k (getD a i 0)) c″ below-edge (cell-child K k a i (childNo-lt (2 ^ d) c′ in-halves))
         (inChild-inside (2 ^ d) c′ in-halves) w lw
@@ -138,10 +138,10 @@ module _ (K : List (List Cell)) (ok : OkCells K) (j : ℕ) where
         ih (getD a i 0) (ok (suc k) (cellNo p) (names-lt h) i (childNo-lt (2 ^ d) c′ in-halves)) c″ u′ (inChild-inside (2 ^ d) c′ in-halves) in-cell in
         rw next (record {
           okq = r .okq;
-          turn = bitXor (tagOf p) (r .turn);
-          is-turn = xor8-lt (tagOf p) (r .turn) (tag-lt p) (r .is-turn);
-          is = mirrored-trans (tagOf p) (r .turn) (edge j) (cellOf (roomAt (suc k) p) (suc (suc j)) c) (cellOf (roomAt k (getD a i 0)) (suc (suc j)) c″)
-              (roomAt j (pointerTo K j k (getD a i 0) (pointAt (edge j) c″ u′))) (tag-lt p) (r .is-turn) cell-next (r .is);
+          under = bitXor (tagOf p) (r .under);
+          is-mirror = xor8-lt (tagOf p) (r .under) (tag-lt p) (r .is-mirror);
+          is = mirrored-trans (tagOf p) (r .under) (edge j) (cellOf (roomAt (suc k) p) (suc (suc j)) c) (cellOf (roomAt k (getD a i 0)) (suc (suc j)) c″)
+              (roomAt j (pointerTo K j k (getD a i 0) (pointAt (edge j) c″ u′))) (tag-lt p) (r .is-mirror) cell-next (r .is);
         })
 
   leads-step : (d k : ℕ) → k ≡ j + d → Leads d k → Leads (suc d) (suc k)
@@ -160,10 +160,10 @@ ends-nonEmpty K I j r q s = go (s .okq)
     go : OkPointer (length (cellsAt K j)) q → not (eqb q 0) ≡ nonEmpty (edge j) r
     go (inl e) =
         ap not (eq-eqb q 0 e) ∙ sym (no-voxel-empty (edge j))
-        ∙ sym (nonEmpty-same (edge j) r (λ v. false) (λ v l. s .is v l ∙ pointer-none (cellVoxel K j) (cellsAt K j) (edge j) q e (mirror (s .turn) (edge j) v)))
+        ∙ sym (nonEmpty-same (edge j) r (λ v. false) (λ v l. s .is v l ∙ pointer-none (cellVoxel K j) (cellsAt K j) (edge j) q e (mirror (s .under) (edge j) v)))
     go (inr h) =
         let w : NonEmpty (edge j) (pointerVoxel (cellVoxel K j) (cellsAt K j) (edge j) q) = pointer-solid (cellVoxel K j) (cellsAt K j) (edge j) (I j .solid) q h in
-        let v : Point = mirror (s .turn) (edge j) (w .0) in
-        let l : Inside (edge j) v = mirror-inside (s .turn) (edge j) (w .0) (w .1) in
+        let v : Point = mirror (s .under) (edge j) (w .0) in
+        let l : Inside (edge j) v = mirror-inside (s .under) (edge j) (w .0) (w .1) in
         ap not (ne-eqb q 0 (names-ne h))
-        ∙ sym (some-nonEmpty (edge j) r (v, l, s .is v l ∙ ap (pointerVoxel (cellVoxel K j) (cellsAt K j) (edge j) q) (mirror-twice (s .turn) (edge j) (w .0) (w .1)) ∙ w .2))
+        ∙ sym (some-nonEmpty (edge j) r (v, l, s .is v l ∙ ap (pointerVoxel (cellVoxel K j) (cellsAt K j) (edge j) q) (mirror-twice (s .under) (edge j) (w .0) (w .1)) ∙ w .2))

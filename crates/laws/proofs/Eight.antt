@@ -60,8 +60,8 @@ xor8-around = eight2 (λ t u. bitXor (bitXor t u) t) (λ t u. u) tt
 pub xor8-swap : (p q t : ℕ) → p < 8 → q < 8 → t < 8 → bitXor (bitXor p q) t ≡ bitXor (bitXor p t) q
 xor8-swap = eight3 (λ p q t. bitXor (bitXor p q) t) (λ p q t. bitXor (bitXor p t) q) tt
 
-pub xor8-turn : (p q t : ℕ) → p < 8 → q < 8 → t < 8 → bitXor (bitXor q t) p ≡ bitXor (bitXor p q) t
-xor8-turn = eight3 (λ p q t. bitXor (bitXor q t) p) (λ p q t. bitXor (bitXor p q) t) tt
+pub xor8-between : (p q t : ℕ) → p < 8 → q < 8 → t < 8 → bitXor (bitXor q t) p ≡ bitXor (bitXor p q) t
+xor8-between = eight3 (λ p q t. bitXor (bitXor q t) p) (λ p q t. bitXor (bitXor p q) t) tt
 
 pub xor8-cancel : (p q t : ℕ) → p < 8 → q < 8 → t < 8 → bitXor (bitXor (bitXor p q) t) p ≡ bitXor q t
 xor8-cancel = eight3 (λ p q t. bitXor (bitXor (bitXor p q) t) p) (λ p q t. bitXor q t) tt

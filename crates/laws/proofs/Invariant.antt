@@ -18,10 +18,10 @@ use Rattle.paper.specs.Outline.{edge}
 use Rattle.paper.specs.Store.{Cell, leafNo, cellsAt, cellAt, tagOf, lowOf, cellNo, badPointer}
 use Rattle.paper.specs.Meaning.{pointerVoxel, cellVoxel}
 use Rattle.paper.specs.Match.{matches}
-use Rattle.laws.proofs.Eight.{xor8-lt, xor8-turn}
+use Rattle.laws.proofs.Eight.{xor8-lt, xor8-between}
 use Rattle.laws.proofs.Mirrors.{mirror-inside, mirror-twice, mirror-mirror, fromChild, childNo-fromChild, inChild-fromChild, fromChild-inside, child-mirrored}
 use Rattle.laws.proofs.Leaves.{leaf-ext, mirrorLeaf-lt, mirrorLeaf-voxels}
-use Rattle.laws.proofs.Matching.{tag-lt, turn-lt, PointersMatch, selfAt, rule-cell, LeafFits, match-sound}
+use Rattle.laws.proofs.Matching.{tag-lt, between-lt, PointersMatch, selfAt, rule-cell, LeafFits, match-sound}
 
 -- ---- pointers to kept cells
 
@@ -144,7 +144,7 @@ module _ (of : Cell → Room) (cs : List Cell) (S : ℕ) where
         absurd (false≢true (sym (pointer-none q eq (mirror t S (s .0))) ∙ sym (h (s .0) (s .1)) ∙ s .2))
     pointer-complete t p q ht (inr np) (inr nq) h =
         let w : ℕ = bitXor (bitXor (tagOf p) (tagOf q)) t in
-        let hw : w < 8 = turn-lt t p q ht in
+        let hw : w < 8 = between-lt t p q ht in
         let a : Room = of (getD cs (cellNo p) []) in
         let b : Room = of (getD cs (cellNo q) []) in
         let e : Same S a (mirrored w S b) =
@@ -155,13 +155,13 @@ module _ (of : Cell → Room) (cs : List Cell) (S : ℕ) where
         ∙ pointer-at q (names-ne nq) (mirror t S (mirror (tagOf p) S v))
         ∙ ap b (mirror-mirror (tagOf q) t S (mirror (tagOf p) S v) (tag-lt q) ht (mirror-inside (tagOf p) S v l))
         ∙ ap b (mirror-mirror (bitXor (tagOf q) t) (tagOf p) S v (xor8-lt (tagOf q) t (tag-lt q) ht) (tag-lt p) l)
-        ∙ ap (λ (n : ℕ). b (mirror n S v)) (xor8-turn (tagOf p) (tagOf q) t (tag-lt p) (tag-lt q) ht) in
+        ∙ ap (λ (n : ℕ). b (mirror n S v)) (xor8-between (tagOf p) (tagOf q) t (tag-lt p) (tag-lt q) ht) in
         let en : cellNo p ≡ cellNo q = apart (cellNo p) (cellNo q) w (names-lt np) (names-lt nq) hw e in
         inr (record {
           left = names-ne np;
           right = names-ne nq;
           cell = en;
-          turn = complete (cellNo p) w (names-lt np) hw (λ v l. e v l ∙ ap (λ (n : ℕ). of (getD cs n []) (mirror w S v)) (sym en));
+          between = complete (cellNo p) w (names-lt np) hw (λ v l. e v l ∙ ap (λ (n : ℕ). of (getD cs n []) (mirror w S v)) (sym en));
         })
 
 -- ---- cells with the mirrored voxels match

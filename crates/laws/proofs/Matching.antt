@@ -33,13 +33,13 @@ pub record Joined (self : ℕ → ℕ → Bool) (t p q : ℕ) : Type 0 where
   pub left : p ≡ 0 → ⊥
   pub right : q ≡ 0 → ⊥
   pub cell : cellNo p ≡ cellNo q
-  pub turn : T (self (cellNo p) (bitXor (bitXor (tagOf p) (tagOf q)) t))
+  pub between : T (self (cellNo p) (bitXor (bitXor (tagOf p) (tagOf q)) t))
 
 abbrev pub PointersMatch : (ℕ → ℕ → Bool) → ℕ → ℕ → ℕ → Type 0
 PointersMatch self t p q = ((p ≡ 0) × (q ≡ 0)) ⊎ Joined self t p q
 
-pub turn-lt : (t p q : ℕ) → t < 8 → bitXor (bitXor (tagOf p) (tagOf q)) t < 8
-turn-lt t p q ht = xor8-lt (bitXor (tagOf p) (tagOf q)) t (xor8-lt (tagOf p) (tagOf q) (tag-lt p) (tag-lt q)) ht
+pub between-lt : (t p q : ℕ) → t < 8 → bitXor (bitXor (tagOf p) (tagOf q)) t < 8
+between-lt t p q ht = xor8-lt (bitXor (tagOf p) (tagOf q)) t (xor8-lt (tagOf p) (tagOf q) (tag-lt p) (tag-lt q)) ht
 
 -- the test is that rule
 pub pointer-rule : (self : ℕ → ℕ → Bool) (t p q : ℕ) → T (pointerMatch self t p q) → PointersMatch self t p q
@@ -53,18 +53,18 @@ pointer-rule self t p q m = go (eqb p 0) refl (eqb q 0) refl (eqb (cellNo p) (ce
     go false ep true eq d ed s = absurd s
     go false ep false eq false ed s = absurd s
     go false ep false eq true ed s =
-        inr (record { left = eqb-false p 0 ep; right = eqb-false q 0 eq; cell = eqb-true (cellNo p) (cellNo q) ed; turn = s })
+        inr (record { left = eqb-false p 0 ep; right = eqb-false q 0 eq; cell = eqb-true (cellNo p) (cellNo q) ed; between = s })
 
 pub rule-pointer : (self : ℕ → ℕ → Bool) (t p q : ℕ) → PointersMatch self t p q → T (pointerMatch self t p q)
 unfolding pointerMatch
 rule-pointer self t p q (inl (ep, eq)) = rw (eq-eqb p 0 ep, eq-eqb q 0 eq) tt
-rule-pointer self t p q (inr j) = rw (ne-eqb p 0 (j .left), ne-eqb q 0 (j .right), eq-eqb (cellNo p) (cellNo q) (j .cell)) (j .turn)
+rule-pointer self t p q (inr j) = rw (ne-eqb p 0 (j .left), ne-eqb q 0 (j .right), eq-eqb (cellNo p) (cellNo q) (j .cell)) (j .between)
 
 module _ (self : ℕ → ℕ → Bool) where
   pointer-self : (p : ℕ) → T (self (cellNo p) 0) → Dec (p ≡ 0) → PointersMatch self 0 p p
   pointer-self p s (yes e) = inl (e, e)
   pointer-self p s (no ne) =
-      inr (record { left = ne; right = ne; cell = refl; turn = subst (λ (n : ℕ). T (self (cellNo p) n)) (sym (xor-zero-r (bitXor (tagOf p) (tagOf p)) ∙ xor-self (tagOf p))) s })
+      inr (record { left = ne; right = ne; cell = refl; between = subst (λ (n : ℕ). T (self (cellNo p) n)) (sym (xor-zero-r (bitXor (tagOf p) (tagOf p)) ∙ xor-self (tagOf p))) s })
 
   pointer-sym : (t p q : ℕ) → PointersMatch self t p q → PointersMatch self t q p
   pointer-sym t p q (inl (ep, eq)) = inl (eq, ep)
@@ -72,7 +72,7 @@ module _ (self : ℕ → ℕ → Bool) where
     left = j .right;
     right = j .left;
     cell = sym (j .cell);
-    turn = subst (λ (n : ℕ). T (self n (bitXor (bitXor (tagOf q) (tagOf p)) t))) (j .cell) (subst (λ (n : ℕ). T (self (cellNo p) (bitXor n t))) (xor-comm (tagOf p) (tagOf q)) (j .turn));
+    between = subst (λ (n : ℕ). T (self n (bitXor (bitXor (tagOf q) (tagOf p)) t))) (j .cell) (subst (λ (n : ℕ). T (self (cellNo p) (bitXor n t))) (xor-comm (tagOf p) (tagOf q)) (j .between));
   })
 
   pointer-trans : ((n s t : ℕ) → s < 8 → t < 8 → T (self n s) → T (self n t) → T (self n (bitXor s t))) → (s t p q r : ℕ) → s < 8 → t < 8
@@ -84,9 +84,9 @@ module _ (self : ℕ → ℕ → Bool) where
     left = i .left;
     right = j .right;
     cell = i .cell ∙ j .cell;
-    turn = subst (λ (n : ℕ). T (self (cellNo p) n)) (xor8-chain (tagOf p) (tagOf q) (tagOf r) s t (tag-lt p) (tag-lt q) (tag-lt r) hs ht)
-        (closed (cellNo p) _ _ (turn-lt s p q hs) (turn-lt t q r ht) (i .turn)
-        (subst (λ (n : ℕ). T (self n (bitXor (bitXor (tagOf q) (tagOf r)) t))) (sym (i .cell)) (j .turn)));
+    between = subst (λ (n : ℕ). T (self (cellNo p) n)) (xor8-chain (tagOf p) (tagOf q) (tagOf r) s t (tag-lt p) (tag-lt q) (tag-lt r) hs ht)
+        (closed (cellNo p) _ _ (between-lt s p q hs) (between-lt t q r ht) (i .between)
+        (subst (λ (n : ℕ). T (self n (bitXor (bitXor (tagOf q) (tagOf r)) t))) (sym (i .cell)) (j .between)));
   })
 
 -- ---- two cells
@@ -177,8 +177,8 @@ module _ (of : Cell → Room) (cs : List Cell) (S : ℕ) (self : ℕ → ℕ →
   joined-voxels t p q ht j u l =
       let w : ℕ = bitXor (bitXor (tagOf p) (tagOf q)) t in
       let B : Room = of (getD cs (cellNo p) []) in
-      sound (cellNo p) w (turn-lt t p q ht) (j .turn) (mirror (tagOf p) S u) (mirror-inside (tagOf p) S u l)
-      ∙ ap B (mirror-mirror w (tagOf p) S u (turn-lt t p q ht) (tag-lt p) l)
+      sound (cellNo p) w (between-lt t p q ht) (j .between) (mirror (tagOf p) S u) (mirror-inside (tagOf p) S u l)
+      ∙ ap B (mirror-mirror w (tagOf p) S u (between-lt t p q ht) (tag-lt p) l)
       ∙ ap (λ (n : ℕ). B (mirror n S u)) (xor8-cancel (tagOf p) (tagOf q) t (tag-lt p) (tag-lt q) ht)
       ∙ ap B (sym (mirror-mirror (tagOf q) t S u (tag-lt q) ht l))
       ∙ ap (λ (n : ℕ). of (getD cs n []) (mirror (tagOf q) S (mirror t S u))) (j .cell)

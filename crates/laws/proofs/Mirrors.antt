@@ -147,8 +147,8 @@ mirrored-trans s t S a b c hs ht e f v l =
     e v l ∙ f (mirror s S v) (mirror-inside s S v l) ∙ ap c (mirror-mirror t s S v ht hs l) ∙ ap (λ (n : ℕ). c (mirror n S v)) (xor-comm t s)
 
 -- a mirrored by t is b mirrored by u: then a is b mirrored by both
-pub mirrored-turn : (t u S : ℕ) (a b : Room) → t < 8 → u < 8 → Same S (mirrored t S a) (mirrored u S b) → Same S a (mirrored (bitXor u t) S b)
-mirrored-turn t u S a b ht hu e v l =
+pub mirrored-between : (t u S : ℕ) (a b : Room) → t < 8 → u < 8 → Same S (mirrored t S a) (mirrored u S b) → Same S a (mirrored (bitXor u t) S b)
+mirrored-between t u S a b ht hu e v l =
     ap a (sym (mirror-twice t S v l)) ∙ e (mirror t S v) (mirror-inside t S v l) ∙ ap b (mirror-mirror u t S v hu ht l)
 
 pub image-sym : (S : ℕ) (a b : Room) → Image S a b → Image S b a

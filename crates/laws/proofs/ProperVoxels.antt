@@ -26,7 +26,7 @@ use Rattle.laws.proofs.Tests.{true-T, and-left, and-right, and5, all-at
 use Rattle.laws.proofs.Lists.{allIn-at, allIn-in, At, isIn-at, map-at, length-tabulate}
 use Rattle.laws.proofs.Bytes.{bytes-drop}
 use Rattle.laws.proofs.Eight.{xor8-lt}
-use Rattle.laws.proofs.Mirrors.{fromChild, fromChild-inside, mirrored-sym, mirrored-turn}
+use Rattle.laws.proofs.Mirrors.{fromChild, fromChild-inside, mirrored-sym, mirrored-between}
 use Rattle.laws.proofs.Leaves.{leaf-solid}
 use Rattle.laws.proofs.Outlines.{depth-two}
 use Rattle.laws.proofs.Matching.{tag-lt}
@@ -361,7 +361,7 @@ module _ (file : List ℕ) (by : Bytes file) (e : proper file ≡ true) (some : 
       let S : ℕ = 2 ^ fileDepth file in
       let hu8 : u < 8 = omega (arith, root-tag) in
       let e : Same S (mirrored t S r) (mirrored u S r) = λ v l. sym (ap (λ (b : Bool). cond b false (r (mirror t S v))) some) ∙ a v l in
-      let f : Alike g k c c (bitXor u t) = mirrored-turn t u (edge k) r r root-tag hu8 (subst (λ (d : ℕ). Same (2 ^ d) (mirrored t (2 ^ d) r) (mirrored u (2 ^ d) r)) (sym (depth-two (fileDepth file) (passes .deep))) e) in
+      let f : Alike g k c c (bitXor u t) = mirrored-between t u (edge k) r r root-tag hu8 (subst (λ (d : ℕ). Same (2 ^ d) (mirrored t (2 ^ d) r) (mirrored u (2 ^ d) r)) (sym (depth-two (fileDepth file) (passes .deep))) e) in
       let o : OkCell g k c = proper-inv k .ok 0 top-there in
       never-both (matches g k c c (bitXor u t)) (match-complete g k (λ j b. proper-inv j) c c (bitXor u t) (xor8-lt u t hu8 root-tag) o o f) (low-said g k t 0 (proper-graph .root) u hu)
 
@@ -371,6 +371,6 @@ module _ (file : List ℕ) (by : Bytes file) (e : proper file ≡ true) (some : 
     apart = λ k q r l m i. omega (arith, proper-inv k .apart q r (i .0) m (omega arith) (i .1) (i .2));
     tags = λ k n i u hn hi ne hu e.
         let p : ℕ = pointerAt file k n i in
-        proper-inv (suc k) .shape n hn .1 i hi u hu (mirrored-turn (tagOf p) u (edge k) (recordRoom file k (cellNo p)) (recordRoom file k (cellNo p)) (tag-lt p) (omega (arith, tag-lt p)) e);
+        proper-inv (suc k) .shape n hn .1 i hi u hu (mirrored-between (tagOf p) u (edge k) (recordRoom file k (cellNo p)) (recordRoom file k (cellNo p)) (tag-lt p) (omega (arith, tag-lt p)) e);
     root = root-low;
   }

@@ -20,7 +20,7 @@ use Rattle.paper.specs.Meaning.{pointerVoxel, cellVoxel, rootRoom}
 use Rattle.paper.specs.Pack.{layout, reachable, listFor, sceneGraph, packedFile}
 use Rattle.paper.specs.Calls.{packBytes}
 use Rattle.paper.specs.Runs.{Scene, Held}
-use Rattle.laws.proofs.Mirrors.{mirrored-turn}
+use Rattle.laws.proofs.Mirrors.{mirrored-between}
 use Rattle.laws.proofs.Eight.{xor8-lt}
 use Rattle.laws.proofs.Matching.{tag-lt}
 use Rattle.laws.proofs.Invariant.{Names, OkPointer, names-lt, names-ne, Alike, LowTag, pointer-none, pointer-at, pointer-solid}
@@ -54,20 +54,20 @@ module _ (K : List (List Cell)) (invs : Invs K) (k : ℕ) where
   named-same : (p q : ℕ) → Names (length (cellsAt K k)) p → Names (length (cellsAt K k)) q → LowTag K k p → LowTag K k q → Same (edge k) (of p) (of q) → SameNamed p q
   named-same p q hp hq lp lq s = record { left = names-ne hp; right = names-ne hq; cell = cells; tag = tags (decLt (tagOf p) (tagOf q)) (decLt (tagOf q) (tagOf p)) }
     where
-      turn : Alike K k (cellAt K k (cellNo p)) (cellAt K k (cellNo q)) (bitXor (tagOf q) (tagOf p))
-      turn =
-          mirrored-turn (tagOf p) (tagOf q) (edge k) (seen p) (seen q) (tag-lt p) (tag-lt q)
+      between : Alike K k (cellAt K k (cellNo p)) (cellAt K k (cellNo q)) (bitXor (tagOf q) (tagOf p))
+      between =
+          mirrored-between (tagOf p) (tagOf q) (edge k) (seen p) (seen q) (tag-lt p) (tag-lt q)
           (λ v l. sym (pointer-at (cellVoxel K k) (cellsAt K k) (edge k) p (names-ne hp) v) ∙ s v l ∙ pointer-at (cellVoxel K k) (cellsAt K k) (edge k) q (names-ne hq) v)
 
       cells : cellNo p ≡ cellNo q
-      cells = invs k .apart (cellNo p) (cellNo q) (bitXor (tagOf q) (tagOf p)) (names-lt hp) (names-lt hq) (xor8-lt (tagOf q) (tagOf p) (tag-lt q) (tag-lt p)) turn
+      cells = invs k .apart (cellNo p) (cellNo q) (bitXor (tagOf q) (tagOf p)) (names-lt hp) (names-lt hq) (xor8-lt (tagOf q) (tagOf p) (tag-lt q) (tag-lt p)) between
 
       tags : Dec (tagOf p < tagOf q) → Dec (tagOf q < tagOf p) → tagOf p ≡ tagOf q
       tags (yes l) d =
           absurd (lq (tagOf p) l (subst (Alike K k (cellAt K k (cellNo q)) (cellAt K k (cellNo q))) (xor-comm (tagOf q) (tagOf p))
-          (subst (λ (n : ℕ). Alike K k (cellAt K k n) (cellAt K k (cellNo q)) (bitXor (tagOf q) (tagOf p))) cells turn)))
+          (subst (λ (n : ℕ). Alike K k (cellAt K k n) (cellAt K k (cellNo q)) (bitXor (tagOf q) (tagOf p))) cells between)))
       tags (no n) (yes l) =
-          absurd (lp (tagOf q) l (subst (λ (n : ℕ). Alike K k (cellAt K k (cellNo p)) (cellAt K k n) (bitXor (tagOf q) (tagOf p))) (sym cells) turn))
+          absurd (lp (tagOf q) l (subst (λ (n : ℕ). Alike K k (cellAt K k (cellNo p)) (cellAt K k n) (bitXor (tagOf q) (tagOf p))) (sym cells) between))
       tags (no n) (no m) = omega arith
 
   root-same : (p q : ℕ) → OkPointer (length (cellsAt K k)) p → OkPointer (length (cellsAt K k)) q → LowTag K k p → LowTag K k q → Same (edge k) (of p) (of q) → SameRoot p q

@@ -15,7 +15,7 @@ use Rattle.paper.specs.Match.{pointerMatch, cellMatch, matches}
 use Rattle.laws.specs.Symmetries.{symmetryFor, symmetryMatch, marked, symmetryOf, ChildSymmetries}
 use Rattle.laws.proofs.Tests.{all-same, T-true}
 use Rattle.laws.proofs.Bits.{tests-bit, tests-lt, tests-ext}
-use Rattle.laws.proofs.Matching.{turn-lt, selfAt, LeafFits, match-self, self-same}
+use Rattle.laws.proofs.Matching.{between-lt, selfAt, LeafFits, match-self, self-same}
 
 -- ---- the symmetry of tests, and of a cell
 
@@ -52,7 +52,7 @@ pointer-agree f g t p q ht e = go (eqb p 0) refl
         → cond b (eqb q 0) (cond (eqb q 0) false (cond (eqb (cellNo p) (cellNo q)) (f (cellNo p) (bitXor (bitXor (tagOf p) (tagOf q)) t)) false))
         ≡ cond b (eqb q 0) (cond (eqb q 0) false (cond (eqb (cellNo p) (cellNo q)) (g (cellNo p) (bitXor (bitXor (tagOf p) (tagOf q)) t)) false))
     go true h = refl
-    go false h = rw (e (eqb-false p 0 h) (bitXor (bitXor (tagOf p) (tagOf q)) t) (turn-lt t p q ht))
+    go false h = rw (e (eqb-false p 0 h) (bitXor (bitXor (tagOf p) (tagOf q)) t) (between-lt t p q ht))
 
 pub symmetry-match : (K : List (List Cell)) (k : ℕ) (a b : Cell) (ms : List ℕ) (t : ℕ) → t < 8 → ChildSymmetries K k a ms → symmetryMatch ms a b t ≡ matches K (suc k) a b t
 unfolding symmetryMatch matches cellMatch

@@ -298,9 +298,9 @@ placed-same R h (suc k) (suc d) p t c u w e lc lu lw q =
     λ x lx.
     let at : ℕ → Point → Walk = λ n y. unless (R .ok (suc k) p) (after here (onward (suc (suc k)) (λ t′ r. walkIn R k r t′ y) (R .child k p n))) in
     let lm : Inside H (mirror t H x) = mirror-inside t H x lx in
-    let turned : mirror t (edge (suc k)) (pointAt H c x) ≡ pointAt H c′ (mirror t H x) =
+    let mirrored-at : mirror t (edge (suc k)) (pointAt H c x) ≡ pointAt H c′ (mirror t H x) =
     ap (λ (E : ℕ). mirror t E (pointAt H c x)) here-edge ∙ mirror-pointAt t H (2 ^ suc d) c x lc lx in
-    ap (λ (y : Point). at (childNo (edge k) y) (inChild (edge k) y)) turned
+    ap (λ (y : Point). at (childNo (edge k) y) (inChild (edge k) y)) mirrored-at
     ∙ ap (λ (S : ℕ). at (childNo S (pointAt H c′ (mirror t H x))) (inChild S (pointAt H c′ (mirror t H x)))) below-edge
     ∙ ap₂ at (childNo-pointAt H (2 ^ d) c′ (mirror t H x) (pow-pos d) lm) (inChild-pointAt H (2 ^ d) c′ (mirror t H x) (pow-pos d) lm) in
     let same : (t′ r : ℕ) → on u t′ r .end ≡ absent h → on w t′ r ≡ on u t′ r =

@@ -1,4 +1,4 @@
--- A number of two bytes at a place, high byte first, from its bytes; and comparisons turned round.
+-- A number of two bytes at a place, high byte first, from its bytes; and comparisons the other way round.
 -- By taking the bytes off the list one at a time. Assumes nothing.
 use mathlib.Core.Path.{_≡_, refl}
 use mathlib.Core.Bool.{Bool, true, false}

@@ -36,11 +36,11 @@ pub fn same_cell(image: [u32; 8], symmetries: [u8; 8], mirror: u32, other: [u32;
     requires { ⌜ mirror < 8 ⌝ }
     ensures { λ r. ⌜ r ≡ symmetryMatch (symmetriesUnder mirror symmetries) image other 0 ⌝ }
 {
-    let turn = mirror as usize;
+    let by = mirror as usize;
     let mut i = CHILDREN as usize;
     while i != 0 {
         i -= 1;
-        if pointers_differ(image[i], other[i], symmetries[i ^ turn]) {
+        if pointers_differ(image[i], other[i], symmetries[i ^ by]) {
             return false;
         }
     }

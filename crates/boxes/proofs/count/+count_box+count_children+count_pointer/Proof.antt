@@ -91,8 +91,8 @@ abbrev μ-loop : count-children-lts.MeasureT-loop
 μ-loop store k mirror low high left found cell side i₀ sum₀ i sum = i
 
 -- the child's number under the mirror, and the child's edge
-turned : (t : ℕ) (c : count-children-lts.In-loop (count-children-known t) (count-children-at t) count-children.Post Inv-loop μ-loop) → bitXor (c .before .loop .i - 1) (c .before .before .before .before .args .mirror) < 8
-turned t c = xor8-lt (c .before .loop .i - 1) (c .before .before .before .before .args .mirror) (omega (arith, c .before .loop .inv .0, c .loop-test .taken)) (c .before .before .before .before .pre .1 .1 .0 .1)
+child-mirrored : (t : ℕ) (c : count-children-lts.In-loop (count-children-known t) (count-children-at t) count-children.Post Inv-loop μ-loop) → bitXor (c .before .loop .i - 1) (c .before .before .before .before .args .mirror) < 8
+child-mirrored t c = xor8-lt (c .before .loop .i - 1) (c .before .before .before .before .args .mirror) (omega (arith, c .before .loop .inv .0, c .loop-test .taken)) (c .before .before .before .before .pre .1 .1 .0 .1)
 
 side-lt : (t : ℕ) (c : count-children-lts.After-edge (count-children-known t) (count-children-at t) count-children.Post Inv-loop μ-loop) → c .edge .result < 2 ^ 31
 side-lt t c = omega (arith, c .edge .ensures, edge-lt (c .before .before .args .k) (c .before .before .pre .1 .1 .0 .0))
@@ -242,9 +242,9 @@ pub +count-box+count-children+count-pointer-spec : {M : Type 1} → statement M
     (λ c κs. search needs)
     (count-children-loop-holds t)
     (λ c. search needs)
-    (λ c. omega (arith, turned t c))
-    (λ c. omega (arith, turned t c))
-    (λ c. turned t c)
+    (λ c. omega (arith, child-mirrored t c))
+    (λ c. omega (arith, child-mirrored t c))
+    (λ c. child-mirrored t c)
     (λ c κs. (omega (arith, c .before .loop .inv .0, c .loop-test .taken), side-lt t (c .before .before)))
     (λ c κs. (omega (arith, c .before .before .loop .inv .0, c .before .loop-test .taken), side-lt t (c .before .before .before)))
     (count-children-count-pointer-requires t)

@@ -18,11 +18,11 @@ use Rattle.seek.proofs.symmetries.same_cell.Statement.{statement}
 use Rattle.seek.proofs.symmetries.same_cell.Tie as tie
 
 abbrev Inv-loop : tie.InvT-loop
-Inv-loop mirror image symmetries other turn i₀ i =
+Inv-loop mirror image symmetries other by i₀ i =
     (i ≤ 8) × (symmetryMatch (symmetriesUnder mirror symmetries) image other 0 ≡ allBelow i (pairAt (symmetriesUnder mirror symmetries) image other))
 
 abbrev μ-loop : tie.MeasureT-loop
-μ-loop mirror image symmetries other turn i₀ i = i
+μ-loop mirror image symmetries other by i₀ i = i
 
 loop-holds : tie.Need-loop-holds Inv-loop μ-loop
 loop-holds c = (omega arith, match-pairs (symmetriesUnder (c .args .mirror) (c .args .t2)) (c .args .t1) (c .args .t4))
