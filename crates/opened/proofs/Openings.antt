@@ -60,6 +60,15 @@ same-gathered a b k A ha hb g =
     regroup false true z = refl
     regroup false false z = refl
 
+-- the first number, and those after it
+pub same-head : (x y : ℕ) (a b : List ℕ) → not (sameList (x ∷ a) (y ∷ b)) ≡ (not (eqb x y) || not (sameList a b))
+unfolding sameList
+same-head x y a b = go (eqb x y)
+  where
+    go : (t : Bool) → not (cond t (sameList a b) false) ≡ (not t || not (sameList a b))
+    go true = refl
+    go false = refl
+
 pub same-end : (a b : List ℕ) (k : ℕ) → length a ≤ k → length b ≤ k → sameList (drop k a) (drop k b) ≡ true
 unfolding sameList
 same-end a b k ha hb = rw (drop-of-length-le a {i = k} ha, drop-of-length-le b {i = k} hb) refl
@@ -161,22 +170,9 @@ module _ (file : List ℕ) where
         go true e = absurd (n (opens-number file starts D e))
         go false e = refl
 
-    opens-same : firstOf (openOrder file) ≡ 0 → opensTo file D starts ≡ sameList (fileDepth file ∷ startsOf file) (D ∷ starts)
+    pub opens-same : firstOf (openOrder file) ≡ 0 → opensTo file D starts ≡ sameList (fileDepth file ∷ startsOf file) (D ∷ starts)
     unfolding opensTo
     opens-same e = ap (λ (o : Outcome). eqb (o .number) 0 && sameList (o .values) (D ∷ starts)) (accepted-is e)
-
-    pub other-depth : (fileDepth file ≡ D → ⊥) → opensTo file D starts ≡ false
-    unfolding sameList
-    other-depth n = go (opensTo file D starts) refl
-      where
-        go : (b : Bool) → opensTo file D starts ≡ b → b ≡ false
-        go true e =
-            sym e ∙ opens-same (opens-number file starts D e) ∙ ap (λ (b : Bool). cond b (sameList (startsOf file) starts) false) (ne-eqb (fileDepth file) D n)
-        go false e = refl
-
-    pub starts-decide : firstOf (openOrder file) ≡ 0 → fileDepth file ≡ D → opensTo file D starts ≡ sameList (startsOf file) starts
-    unfolding sameList
-    starts-decide e d = opens-same e ∙ ap (λ (b : Bool). cond b (sameList (startsOf file) starts) false) (eq-eqb (fileDepth file) D d)
 
   -- 'A question on an opened scene: 6 (its bytes don't open to its numbers)'
   pub ask-refused : (D : ℕ) (starts : List ℕ) (v : Point) → opensTo file D starts ≡ false → outcome (found (Refused BrokenRules)) [] ≡ askOutcome file D starts v
