@@ -5,6 +5,7 @@ use mathlib.Core.Bool.{Bool, true, false, not, cond, _&&_, _||_}
 use mathlib.Core.List.{List, [], _∷_, map}
 use Prim.Native.Nat.{ℕ, _+_, _<_, _≤_}
 use native.Mathlib.Numerals.{add-one}
+use native.Mathlib.Omega.{arith}
 use borrow.Author.Tests.{eq-eqb, ne-eqb, eqb-true, eqb-false, not-false}
 use lib.Dec.{T, eqb, eqb→eq, leb}
 use lib.ListN.{length, drop, getD, replicate, length-replicate, drop-of-length-le}
@@ -23,7 +24,7 @@ use Rattle.paper.specs.declared.Found.the-variants.{Refused}
 use Rattle.laws.proofs.Tests.{true-T, and-left}
 use Rattle.laws.proofs.Lists.{length-tabulate}
 use Rattle.laws.proofs.Refusals.{settled-accepted, settled-refused, settled-number}
-use Rattle.outline.proofs.HeadTests.{Headed, headed, none-broken}
+use Rattle.outline.proofs.HeadTests.{Headed, headed, none-broken, refused-by-6, accepted}
 use Rattle.packed.specs.Header.{Opens}
 use Rattle.packed.proofs.Ways.{tested}
 use Rattle.opened.specs.declared.Header.{Header}
@@ -60,9 +61,23 @@ same-gathered a b k A ha hb g =
     regroup false true z = refl
     regroup false false z = refl
 
+-- the first number, and those after it
+pub same-head : (x y : ℕ) (a b : List ℕ) → not (sameList (x ∷ a) (y ∷ b)) ≡ (not (eqb x y) || not (sameList a b))
+unfolding sameList
+same-head x y a b = go (eqb x y)
+  where
+    go : (t : Bool) → not (cond t (sameList a b) false) ≡ (not t || not (sameList a b))
+    go true = refl
+    go false = refl
+
 pub same-end : (a b : List ℕ) (k : ℕ) → length a ≤ k → length b ≤ k → sameList (drop k a) (drop k b) ≡ true
 unfolding sameList
 same-end a b k ha hb = rw (drop-of-length-le a {i = k} ha, drop-of-length-le b {i = k} hb) refl
+
+-- one of two tests fails
+pub one-fails : (p q : Bool) {a b : Bool} → a ≡ not p → b ≡ not q → (a || b) ≡ not (p && q)
+one-fails true q e f = ap₂ (λ (x y : Bool). x || y) e f
+one-fails false q {b = b} e f = ap (λ (x : Bool). x || b) e
 
 -- ---- an opening that is refused by none
 
@@ -165,18 +180,15 @@ module _ (file : List ℕ) where
     unfolding opensTo
     opens-same e = ap (λ (o : Outcome). eqb (o .number) 0 && sameList (o .values) (D ∷ starts)) (accepted-is e)
 
-    pub other-depth : (fileDepth file ≡ D → ⊥) → opensTo file D starts ≡ false
-    unfolding sameList
-    other-depth n = go (opensTo file D starts) refl
+    -- the first bytes are good: byte 6, the sizes and the numbers decide
+    pub opens-by : Headed packedVersion packedHead file → opensTo file D starts ≡ (headOk file && sameList (fileDepth file ∷ startsOf file) (D ∷ starts))
+    opens-by first = go (headOk file) refl
       where
-        go : (b : Bool) → opensTo file D starts ≡ b → b ≡ false
-        go true e =
-            sym e ∙ opens-same (opens-number file starts D e) ∙ ap (λ (b : Bool). cond b (sameList (startsOf file) starts) false) (ne-eqb (fileDepth file) D n)
-        go false e = refl
-
-    pub starts-decide : firstOf (openOrder file) ≡ 0 → fileDepth file ≡ D → opensTo file D starts ≡ sameList (startsOf file) starts
-    unfolding sameList
-    starts-decide e d = opens-same e ∙ ap (λ (b : Bool). cond b (sameList (startsOf file) starts) false) (eq-eqb (fileDepth file) D d)
+        go : (b : Bool) → headOk file ≡ b → opensTo file D starts ≡ (b && sameList (fileDepth file ∷ startsOf file) (D ∷ starts))
+        go true e = opens-same (accepted packedVersion packedHead file (not (headOk file)) first (ap not e))
+        go false e =
+            let six : firstOf (openOrder file) ≡ 6 = refused-by-6 packedVersion packedHead file (not (headOk file)) first (ap not e) in
+            not-open (λ z. omega (arith, six, z))
 
   -- 'A question on an opened scene: 6 (its bytes don't open to its numbers)'
   pub ask-refused : (D : ℕ) (starts : List ℕ) (v : Point) → opensTo file D starts ≡ false → outcome (found (Refused BrokenRules)) [] ≡ askOutcome file D starts v

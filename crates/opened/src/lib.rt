@@ -1,15 +1,20 @@
 // Opened packed scenes: a scene's bytes beside the numbers of its header, for many questions. The work is done by functions
 // over plain slices and numbers; `open` and `ask`, over the structs that hold a slice, are straight lines above them.
 ghost use mathlib.Core.Path.{_≡_};
-ghost use mathlib.Core.Bool.{not};
-ghost use mathlib.Core.List.{[]};
+ghost use mathlib.Core.Bool.{not, _&&_};
+ghost use mathlib.Core.List.{[], _∷_};
 ghost use Rattle.paper.specs.Numbers.{sameList};
 ghost use Rattle.paper.specs.Rooms.{point};
+ghost use Rattle.paper.specs.Outline.{fileDepth};
+ghost use Rattle.paper.specs.Packed.{emptyMark, rootTag, headOk, startsOf};
 ghost use Rattle.paper.specs.Order.{firstOf};
 ghost use Rattle.paper.specs.Answers.{outcome, found};
 ghost use Rattle.paper.specs.Calls.{openOrder, openOutcome};
 ghost use Rattle.paper.specs.Promises.{OpenPromise, AskPromise};
+ghost use Rattle.packed.specs.Header.{Tested};
 ghost use Rattle.opened.specs.Opens.{toldBy, openTold, partOf, askedOf};
+use limits::EMPTY_MARK;
+use limits::MIRROR_POSITION;
 use limits::PACKED_HEAD;
 use limits::PACKED_VERSION;
 use outline::depth;
@@ -26,6 +31,12 @@ use paper::Refusal;
 // What an opening reads: the refusal's number or 0, the depth, and where each list starts; zeros where it is refused.
 pub struct Header {
     pub number: u32,
+    pub depth: u32,
+    pub starts: [u32; 15],
+}
+
+// The numbers that bytes open to, side by side: all sixteen are compared at once.
+pub struct Numbers {
     pub depth: u32,
     pub starts: [u32; 15],
 }
@@ -76,38 +87,62 @@ pub fn part<'a>(file: &'a [u8], number: u32) -> &'a [u8]
     &file[..0]
 }
 
-// Whether two lists of starts differ.
-fn differ(a: [u32; 15], b: [u32; 15]) -> bool
-    ensures { λ r. ⌜ r ≡ not (sameList a b) ⌝ }
+// Whether numbers are others than a file's own.
+fn differ(own: Numbers, depth: u32, starts: [u32; 15]) -> bool
+    ensures { λ r. ⌜ r ≡ not (sameList (own .depth ∷ own .starts) (depth ∷ starts)) ⌝ }
 {
-    let mut found = false;
+    let mut found = own.depth != depth;
     let mut k = 0usize;
     while k < 15 {
-        found = found | (a[k] != b[k]);
+        found = found | (own.starts[k] != starts[k]);
         k += 1;
     }
     found
 }
 
+// The same for a file whose scene is empty, with the test of its length: its starts are zeros.
+fn empty_differs(file: &[u8], depth: u32, starts: [u32; 15]) -> bool
+    requires { ⌜ Tested (now file) ⌝ }
+    requires { ⌜ rootTag (now file) ≡ emptyMark ⌝ }
+    ensures { λ r. ⌜ r ≡ not (headOk (now (file .entry)) && sameList (fileDepth (now (file .entry)) ∷ startsOf (now (file .entry))) (depth ∷ starts)) ⌝ }
+{
+    let own = Numbers {
+        depth: outline::depth(file),
+        starts: [0; 15],
+    };
+    head_bad(file) | differ(own, depth, starts)
+}
+
 // A question on bytes held beside numbers: 6 where they don't open to them, then as packed voxel. The sizes are read once, for
-// the test and the walk.
+// the test and the walk. Bytes too short for a head are refused first: the head's own tests of their length fall away. An empty
+// scene is compared apart: a comparison that both kinds of scene come to takes more instructions.
 pub fn ask_bytes(bytes: &[u8], depth: u32, starts: [u32; 15], x: u32, y: u32, z: u32) -> Found
     ensures { λ r. ⌜ AskPromise (now (bytes .entry)) depth starts (point x y z) r ⌝ }
 {
+    if bytes.len() < PACKED_HEAD {
+        return Found::Refused(Refusal::BrokenRules);
+    }
     if head_number(bytes, PACKED_VERSION, PACKED_HEAD) != 0 {
         return Found::Refused(Refusal::BrokenRules);
     }
-    if outline::depth(bytes) != depth {
-        return Found::Refused(Refusal::BrokenRules);
+    let mut own = Numbers {
+        depth: 0,
+        starts: [0; 15],
+    };
+    if bytes[MIRROR_POSITION] == EMPTY_MARK {
+        if empty_differs(bytes, depth, starts) {
+            return Found::Refused(Refusal::BrokenRules);
+        }
+    } else {
+        own.depth = outline::depth(bytes);
+        if lists_bad(bytes, &mut own.starts) {
+            return Found::Refused(Refusal::BrokenRules);
+        }
+        if differ(own, depth, starts) {
+            return Found::Refused(Refusal::BrokenRules);
+        }
     }
-    let mut begins = [0u32; 15];
-    if lists_bad(bytes, &mut begins) {
-        return Found::Refused(Refusal::BrokenRules);
-    }
-    if differ(begins, starts) {
-        return Found::Refused(Refusal::BrokenRules);
-    }
-    voxel_in(bytes, begins, x, y, z)
+    voxel_in(bytes, own.starts, x, y, z)
 }
 
 // ---- over the structs that hold a slice
