@@ -40,8 +40,10 @@ int main(void)
     must(rooms_add(store, ROOMS_STORE_WORDS(CAPACITY), outline, sizeof outline, &scene));
     printf("scene %" PRIu32 "\n", scene);
 
-    must(rooms_voxel(store, ROOMS_STORE_WORDS(CAPACITY), scene, 7, 0, 0, &solid));
+    must(rooms_voxel(store, ROOMS_STORE_WORDS(CAPACITY), scene, 7, 0, 0, &solid, &height));
     printf("voxel 7 0 0: %s\n", solid ? "solid" : "empty");
+    must(rooms_voxel(store, ROOMS_STORE_WORDS(CAPACITY), scene, 0, 5, 0, &solid, &height));
+    printf("voxel 0 5 0: %s, height %" PRIu32 "\n", solid ? "solid" : "empty", height);
     must(rooms_cell(store, ROOMS_STORE_WORDS(CAPACITY), scene, 2, 0, 1, 0, &solid));
     printf("cell of height 2 at 0 1 0: %s\n", solid ? "non-empty" : "empty");
     must(rooms_box(store, ROOMS_STORE_WORDS(CAPACITY), scene, 0, 0, 0, 8, 8, 8, &count));
@@ -60,12 +62,12 @@ int main(void)
     must(rooms_check(packed, length, check_scratch, sizeof check_scratch, &depth));
     printf("check: proper, depth %" PRIu32 "\n", depth);
     must(rooms_open(packed, length, numbers, ROOMS_OPENED_NUMBERS));
-    must(rooms_ask(packed, length, numbers, ROOMS_OPENED_NUMBERS, 4, 0, 0, &solid, &records));
+    must(rooms_ask(packed, length, numbers, ROOMS_OPENED_NUMBERS, 4, 0, 0, &solid, &records, &height));
     printf("packed voxel 4 0 0: %s, records %" PRIu32 "\n", solid ? "solid" : "empty", records);
     must(rooms_detail(depth, ROOMS_WIDEST_EDGE, 7.5, 0.0, &height));
     printf("widest edge 7.5: height %" PRIu32 "\n", height);
 
     printf("voxel 8 0 0: refused by %" PRIu32 "\n",
-           rooms_voxel(store, ROOMS_STORE_WORDS(CAPACITY), scene, 8, 0, 0, &solid));
+           rooms_voxel(store, ROOMS_STORE_WORDS(CAPACITY), scene, 8, 0, 0, &solid, &height));
     return 0;
 }

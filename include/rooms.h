@@ -116,11 +116,13 @@ uint32_t rooms_new(uint32_t *store, size_t store_words, uint32_t capacity);
 uint32_t rooms_add(uint32_t *store, size_t store_words, const uint8_t *file, size_t file_bytes, uint32_t *scene);
 
 /*
- * Voxel (x, y, z) of a scene: *solid is 1 for solid, 0 for empty.
+ * Voxel (x, y, z) of a scene: *solid is 1 for solid, 0 for empty. *height is the height of the empty cell that holds the
+ * voxel: the absent child that ended the walk, or the whole room, D, in an empty scene; it is 0 inside a leaf and for a solid
+ * voxel. On any store every voxel of that cell has the same answer, so all of it may be stepped over at once.
  * Refusals, in order: 2 (the store's header), 9, 2 (the scene's two words), 10, 2 (a bad pointer in a cell entered).
  */
 uint32_t rooms_voxel(const uint32_t *store, size_t store_words, uint32_t scene, uint32_t x, uint32_t y, uint32_t z,
-                     uint32_t *solid);
+                     uint32_t *solid, uint32_t *height);
 
 /*
  * Cell (x, y, z) among those of a height, 0 to D: *full is 1 for non-empty, 0 for empty. On a store of these calls that
@@ -178,13 +180,14 @@ uint32_t rooms_check(const uint8_t *file, size_t file_bytes, uint8_t *scratch, s
 
 /*
  * Voxel (x, y, z) of a packed file: *solid is 1 for solid, 0 for empty; *records is how many records that took, the top one
- * and a leaf among them, none in an empty scene. Tested are the head, the sizes and what lies on the path.
+ * and a leaf among them, none in an empty scene; *height is as for rooms_voxel, and on any file every voxel of that cell has
+ * the same answer, *records too. Tested are the head, the sizes and what lies on the path.
  * On a proper file no point inside is refused. On one that is not proper it answers where its path shows no fault: a file of
  * depth 2 with two leaves is answered from the first.
  * Refusals, in order: 3, 4, 5, 10, 6.
  */
 uint32_t rooms_packed_voxel(const uint8_t *file, size_t file_bytes, uint32_t x, uint32_t y, uint32_t z, uint32_t *solid,
-                            uint32_t *records);
+                            uint32_t *records, uint32_t *height);
 
 /*
  * Opening a packed file for many questions. Accepted, it writes ROOMS_OPENED_NUMBERS words: numbers[0] is the depth, and
@@ -198,7 +201,7 @@ uint32_t rooms_open(const uint8_t *file, size_t file_bytes, uint32_t *numbers, s
  * Refusals, in order: 6 (fewer than 16 numbers, or the file doesn't open to them), then as rooms_packed_voxel: 10, 6.
  */
 uint32_t rooms_ask(const uint8_t *file, size_t file_bytes, const uint32_t *numbers, size_t numbers_words, uint32_t x,
-                   uint32_t y, uint32_t z, uint32_t *solid, uint32_t *records);
+                   uint32_t y, uint32_t z, uint32_t *solid, uint32_t *records, uint32_t *height);
 
 /* ---- detail ---- */
 

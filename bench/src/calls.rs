@@ -5,7 +5,8 @@ use crate::boxes::Region;
 extern "C" {
     fn rooms_new(store: *mut u32, words: usize, capacity: u32) -> u32;
     fn rooms_add(store: *mut u32, words: usize, file: *const u8, bytes: usize, scene: *mut u32) -> u32;
-    fn rooms_voxel(store: *const u32, words: usize, scene: u32, x: u32, y: u32, z: u32, solid: *mut u32) -> u32;
+    fn rooms_voxel(store: *const u32, words: usize, scene: u32, x: u32, y: u32, z: u32,
+        solid: *mut u32, height: *mut u32) -> u32;
     fn rooms_cell(store: *const u32, words: usize, scene: u32, height: u32, x: u32, y: u32, z: u32, full: *mut u32) -> u32;
     fn rooms_box(store: *const u32, words: usize, scene: u32, lowx: u32, lowy: u32, lowz: u32,
         highx: u32, highy: u32, highz: u32, count: *mut u64) -> u32;
@@ -14,10 +15,11 @@ extern "C" {
     fn rooms_pack(store: *const u32, words: usize, scene: u32, scratch: *mut u32, lent: usize,
         out: *mut u8, room: usize, length: *mut u32) -> u32;
     fn rooms_check(file: *const u8, bytes: usize, scratch: *mut u8, lent: usize, depth: *mut u32) -> u32;
-    fn rooms_packed_voxel(file: *const u8, bytes: usize, x: u32, y: u32, z: u32, solid: *mut u32, records: *mut u32) -> u32;
+    fn rooms_packed_voxel(file: *const u8, bytes: usize, x: u32, y: u32, z: u32,
+        solid: *mut u32, records: *mut u32, height: *mut u32) -> u32;
     fn rooms_open(file: *const u8, bytes: usize, numbers: *mut u32, room: usize) -> u32;
     fn rooms_ask(file: *const u8, bytes: usize, numbers: *const u32, held: usize, x: u32, y: u32, z: u32,
-        solid: *mut u32, records: *mut u32) -> u32;
+        solid: *mut u32, records: *mut u32, height: *mut u32) -> u32;
 }
 
 /// An answer, or the refusal's number.
@@ -55,11 +57,13 @@ pub fn add(store: &mut [u32], file: &[u8]) -> Answer<u32> {
     answer(number, scene)
 }
 
+/// Whether a voxel is solid, and the height of the empty cell that holds it.
 #[inline]
-pub fn voxel(store: &[u32], scene: u32, x: u32, y: u32, z: u32) -> Answer<bool> {
-    let mut solid = 0;
-    let number = unsafe { rooms_voxel(store.as_ptr(), store.len(), scene, x, y, z, &mut solid) };
-    answer(number, solid == 1)
+pub fn voxel(store: &[u32], scene: u32, x: u32, y: u32, z: u32) -> Answer<(bool, u32)> {
+    let (mut solid, mut height) = (0, 0);
+    let (from, words) = (store.as_ptr(), store.len());
+    let number = unsafe { rooms_voxel(from, words, scene, x, y, z, &mut solid, &mut height) };
+    answer(number, (solid == 1, height))
 }
 
 #[inline]
@@ -123,14 +127,24 @@ pub fn check(file: &[u8], scratch: &mut [u8]) -> Answer<u32> {
     answer(number, depth)
 }
 
-/// Whether a voxel of a packed scene is solid, and the records read.
+/// Whether a voxel of a packed scene is solid, the records read, and the height of the empty cell that holds it.
 #[inline]
-pub fn packed_voxel(file: &[u8], x: u32, y: u32, z: u32) -> Answer<(bool, u32)> {
-    let (mut solid, mut records) = (0, 0);
+pub fn packed_voxel(file: &[u8], x: u32, y: u32, z: u32) -> Answer<(bool, u32, u32)> {
+    let (mut solid, mut records, mut height) = (0, 0, 0);
     let bytes = file.len();
-    let number =
-        unsafe { rooms_packed_voxel(file.as_ptr(), bytes, x, y, z, &mut solid, &mut records) };
-    answer(number, (solid == 1, records))
+    let number = unsafe {
+        rooms_packed_voxel(
+            file.as_ptr(),
+            bytes,
+            x,
+            y,
+            z,
+            &mut solid,
+            &mut records,
+            &mut height,
+        )
+    };
+    answer(number, (solid == 1, records, height))
 }
 
 /// The numbers that an opened scene holds beside its bytes: its depth and where each list starts.
@@ -150,8 +164,8 @@ pub fn open(file: &[u8]) -> Answer<Numbers> {
 }
 
 #[inline]
-pub fn ask(file: &[u8], numbers: &Numbers, x: u32, y: u32, z: u32) -> Answer<(bool, u32)> {
-    let (mut solid, mut records) = (0, 0);
+pub fn ask(file: &[u8], numbers: &Numbers, x: u32, y: u32, z: u32) -> Answer<(bool, u32, u32)> {
+    let (mut solid, mut records, mut height) = (0, 0, 0);
     let (from, held) = (numbers.as_ptr(), numbers.len());
     let bytes = file.len();
     let number = unsafe {
@@ -165,7 +179,8 @@ pub fn ask(file: &[u8], numbers: &Numbers, x: u32, y: u32, z: u32) -> Answer<(bo
             z,
             &mut solid,
             &mut records,
+            &mut height,
         )
     };
-    answer(number, (solid == 1, records))
+    answer(number, (solid == 1, records, height))
 }

@@ -49,9 +49,9 @@ impl Octree {
         all
     }
 
-    /// Whether a voxel is solid, with the number of non-empty cells on the way.
+    /// Whether a voxel is solid, with the number of non-empty cells on the way and the height of the empty cell that holds it.
     #[inline(never)]
-    pub fn voxel(&self, x: u32, y: u32, z: u32) -> Option<(bool, u32)> {
+    pub fn voxel(&self, x: u32, y: u32, z: u32) -> Option<(bool, u32, u32)> {
         if (x | y | z) >> self.depth != 0 {
             return None;
         }
@@ -59,10 +59,10 @@ impl Octree {
         let mut at = &self.root;
         loop {
             match at {
-                Cell::Empty => return Some((false, self.depth - h)),
+                Cell::Empty => return Some((false, self.depth - h, h)),
                 Cell::Leaf(leaf) => {
                     let bit = x & 3 | (y & 3) << 2 | (z & 3) << 4;
-                    return Some((leaf >> bit & 1 == 1, self.depth - 1));
+                    return Some((leaf >> bit & 1 == 1, self.depth - 1, 0));
                 }
                 Cell::Inner(children) => {
                     h -= 1;

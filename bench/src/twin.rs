@@ -21,9 +21,15 @@ fn header_bad(store: &[u32]) -> bool {
         || store[17..32].iter().any(|&word| word != 0)
 }
 
-/// Whether a voxel of a scene is solid; none where it is refused.
+/// Whether a voxel of a scene is solid, and the height of the empty cell that holds it; none where it is refused.
 #[inline(never)]
-pub fn voxel<const TESTS: bool>(store: &[u32], scene: u32, x: u32, y: u32, z: u32) -> Option<bool> {
+pub fn voxel<const TESTS: bool>(
+    store: &[u32],
+    scene: u32,
+    x: u32,
+    y: u32,
+    z: u32,
+) -> Option<(bool, u32)> {
     if TESTS && header_bad(store) || store[1] <= scene {
         return None;
     }
@@ -51,12 +57,12 @@ pub fn voxel<const TESTS: bool>(store: &[u32], scene: u32, x: u32, y: u32, z: u3
         p = cell[(i ^ mirror) as usize & 7];
     }
     if p == 0 {
-        return Some(false);
+        return Some((false, h));
     }
     mirror ^= p >> 29;
     let at = 160 + 2 * ((p & 0x1FFF_FFFF) as usize - 1);
     let leaf = u64::from(store[at]) << 32 | u64::from(store[at + 1]);
     let flip = |c: u32, bit: u32| c & 3 ^ 3 * (mirror >> bit & 1);
     let bit = flip(x, 0) | flip(y, 1) << 2 | flip(z, 2) << 4;
-    Some(leaf >> bit & 1 == 1)
+    Some((leaf >> bit & 1 == 1, 0))
 }

@@ -243,44 +243,45 @@ impl Subject<'_> {
             ..
         } = self;
         for &[x, y, z] in points {
-            let (solid, read) = octree.voxel(x, y, z).unwrap();
-            assert_eq!(calls::voxel(store, 0, x, y, z), Ok(solid));
-            assert_eq!(calls::packed_voxel(packed, x, y, z), Ok((solid, read)));
-            assert_eq!(calls::ask(packed, numbers, x, y, z), Ok((solid, read)));
+            let (solid, read, height) = octree.voxel(x, y, z).unwrap();
+            let (voxel, found) = ((solid, height), (solid, read, height));
+            assert_eq!(calls::voxel(store, 0, x, y, z), Ok(voxel));
+            assert_eq!(calls::packed_voxel(packed, x, y, z), Ok(found));
+            assert_eq!(calls::ask(packed, numbers, x, y, z), Ok(found));
             assert_eq!(graph.voxel(x, y, z), Some(solid));
             assert_eq!(bitmap.voxel(x, y, z), Some(solid));
-            assert_eq!(twin::voxel::<true>(store, 0, x, y, z), Some(solid));
-            assert_eq!(twin::voxel::<false>(store, 0, x, y, z), Some(solid));
+            assert_eq!(twin::voxel::<true>(store, 0, x, y, z), Some(voxel));
+            assert_eq!(twin::voxel::<false>(store, 0, x, y, z), Some(voxel));
         }
         let ask = |item: &str, who: &str, ask: &dyn Fn(Point) -> u64| {
             self.asked(&format!("{item}, {where_}"), who, points, ask)
         };
         ask("voxel", "store", &|[x, y, z]| {
-            calls::voxel(store, 0, x, y, z).map_or(2, u64::from)
+            calls::voxel(store, 0, x, y, z).map_or(2, |(s, _)| u64::from(s))
         });
         ask("voxel", "graph", &|[x, y, z]| {
             graph.voxel(x, y, z).map_or(2, u64::from)
         });
         ask("voxel", "octree", &|[x, y, z]| {
-            octree.voxel(x, y, z).map_or(2, |(s, _)| u64::from(s))
+            octree.voxel(x, y, z).map_or(2, |(s, ..)| u64::from(s))
         });
         ask("voxel", "bitmap", &|[x, y, z]| {
             bitmap.voxel(x, y, z).map_or(2, u64::from)
         });
         ask("voxel", "no such scene", &|[x, y, z]| {
-            calls::voxel(store, 64, x, y, z).map_or(2, u64::from)
+            calls::voxel(store, 64, x, y, z).map_or(2, |(s, _)| u64::from(s))
         });
         ask("voxel", "twin", &|[x, y, z]| {
-            twin::voxel::<true>(store, 0, x, y, z).map_or(2, u64::from)
+            twin::voxel::<true>(store, 0, x, y, z).map_or(2, |(s, _)| u64::from(s))
         });
         ask("voxel", "twin without tests", &|[x, y, z]| {
-            twin::voxel::<false>(store, 0, x, y, z).map_or(2, u64::from)
+            twin::voxel::<false>(store, 0, x, y, z).map_or(2, |(s, _)| u64::from(s))
         });
         ask("packed voxel", "store", &|[x, y, z]| {
-            calls::packed_voxel(packed, x, y, z).map_or(2, |(s, _)| u64::from(s))
+            calls::packed_voxel(packed, x, y, z).map_or(2, |(s, ..)| u64::from(s))
         });
         ask("opened question", "store", &|[x, y, z]| {
-            calls::ask(packed, numbers, x, y, z).map_or(2, |(s, _)| u64::from(s))
+            calls::ask(packed, numbers, x, y, z).map_or(2, |(s, ..)| u64::from(s))
         });
     }
 

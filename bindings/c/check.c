@@ -23,16 +23,16 @@
 
 uint32_t rooms_new(uint32_t *, size_t, uint32_t);
 uint32_t rooms_add(uint32_t *, size_t, const uint8_t *, size_t, uint32_t *);
-uint32_t rooms_voxel(const uint32_t *, size_t, uint32_t, uint32_t, uint32_t, uint32_t, uint32_t *);
+uint32_t rooms_voxel(const uint32_t *, size_t, uint32_t, uint32_t, uint32_t, uint32_t, uint32_t *, uint32_t *);
 uint32_t rooms_cell(const uint32_t *, size_t, uint32_t, uint32_t, uint32_t, uint32_t, uint32_t, uint32_t *);
 uint32_t rooms_box(const uint32_t *, size_t, uint32_t, uint32_t, uint32_t, uint32_t, uint32_t, uint32_t, uint32_t, uint64_t *);
 uint32_t rooms_kept(const uint32_t *, size_t, uint32_t, uint32_t *);
 uint32_t rooms_outline(const uint32_t *, size_t, uint32_t, uint8_t *, size_t, uint32_t *);
 uint32_t rooms_pack(const uint32_t *, size_t, uint32_t, uint32_t *, size_t, uint8_t *, size_t, uint32_t *);
 uint32_t rooms_check(const uint8_t *, size_t, uint8_t *, size_t, uint32_t *);
-uint32_t rooms_packed_voxel(const uint8_t *, size_t, uint32_t, uint32_t, uint32_t, uint32_t *, uint32_t *);
+uint32_t rooms_packed_voxel(const uint8_t *, size_t, uint32_t, uint32_t, uint32_t, uint32_t *, uint32_t *, uint32_t *);
 uint32_t rooms_open(const uint8_t *, size_t, uint32_t *, size_t);
-uint32_t rooms_ask(const uint8_t *, size_t, const uint32_t *, size_t, uint32_t, uint32_t, uint32_t, uint32_t *, uint32_t *);
+uint32_t rooms_ask(const uint8_t *, size_t, const uint32_t *, size_t, uint32_t, uint32_t, uint32_t, uint32_t *, uint32_t *, uint32_t *);
 uint32_t rooms_detail(uint32_t, uint32_t, double, double, uint32_t *);
 
 /* ---- arguments and the memory they point to ---- */
@@ -55,7 +55,7 @@ struct argument {
 #define SIZE 1200
 
 struct memory {
-    uint32_t words[3][SIZE];
+    uint32_t words[4][SIZE];
     uint8_t bytes[2][SIZE];
     uint64_t wide[2];
 };
@@ -105,7 +105,7 @@ static uint32_t call_add(const struct argument *a)
 
 static uint32_t call_voxel(const struct argument *a)
 {
-    return rooms_voxel(a[0].words, a[1].whole, U32(2), U32(3), U32(4), U32(5), a[6].words);
+    return rooms_voxel(a[0].words, a[1].whole, U32(2), U32(3), U32(4), U32(5), a[6].words, a[7].words);
 }
 
 static uint32_t call_cell(const struct argument *a)
@@ -140,7 +140,7 @@ static uint32_t call_check(const struct argument *a)
 
 static uint32_t call_packed_voxel(const struct argument *a)
 {
-    return rooms_packed_voxel(a[0].bytes, a[1].whole, U32(2), U32(3), U32(4), a[5].words, a[6].words);
+    return rooms_packed_voxel(a[0].bytes, a[1].whole, U32(2), U32(3), U32(4), a[5].words, a[6].words, a[7].words);
 }
 
 static uint32_t call_open(const struct argument *a)
@@ -150,7 +150,7 @@ static uint32_t call_open(const struct argument *a)
 
 static uint32_t call_ask(const struct argument *a)
 {
-    return rooms_ask(a[0].bytes, a[1].whole, a[2].words, a[3].whole, U32(4), U32(5), U32(6), a[7].words, a[8].words);
+    return rooms_ask(a[0].bytes, a[1].whole, a[2].words, a[3].whole, U32(4), U32(5), U32(6), a[7].words, a[8].words, a[9].words);
 }
 
 static uint32_t call_detail(const struct argument *a)
@@ -206,7 +206,7 @@ static void begin(const char *name, uint32_t (*make)(const struct argument *))
     called = name;
     call = make;
     for (size_t i = 0; i < SIZE; i++) {
-        for (size_t k = 0; k < 3; k++) {
+        for (size_t k = 0; k < 4; k++) {
             before.words[k][i] = (uint32_t)(2654435761u * i + 12345 + k);
         }
         for (size_t k = 0; k < 2; k++) {
@@ -277,6 +277,12 @@ static void accepted(const char *what)
     judge(holds, what, got, ROOMS_OK);
 }
 
+/* What an out parameter of one word must hold. */
+static uint32_t *value_of(const struct argument *out)
+{
+    return after.words[(out->words - lent.words[0]) / SIZE];
+}
+
 /* `after` of a refusal: out parameters are zero, all else is as before. */
 static void refusing(void)
 {
@@ -285,7 +291,7 @@ static void refusing(void)
         if (given[i].kind == WIDE) {
             after.wide[0] = 0;
         } else {
-            after.words[(given[i].words - lent.words[0]) / SIZE][0] = 0;
+            *value_of(&given[i]) = 0;
         }
     }
 }
@@ -525,12 +531,37 @@ static void try_add(void)
     refused_so(ROOMS_CELLS_FULL);
 }
 
+/* The voxel asked for is empty: the height of the empty cell that holds it, and how many records that took, where the call says so. */
+static void empty(uint32_t height, uint32_t records, const char *what)
+{
+    refusing(); /* all values are zero, but these two */
+    *value_of(&given[place_of("height")]) = height;
+    if (place_of("records") < count) {
+        *value_of(&given[place_of("records")]) = records;
+    }
+    accepted(what);
+}
+
+/* Voxels of the room of one voxel that differ from it in x alone: 13 = 01101, and 12 = 01100, 11 = 01011, 5 = 00101, 20 = 10100. */
+static void empty_around(void)
+{
+    change(whole("x", 12));
+    empty(0, 4, "the voxel beside it, in its leaf");
+    change(whole("x", 11));
+    empty(2, 3, "another leaf, in its cell of height 3");
+    change(whole("x", 5));
+    empty(3, 2, "another cell of height 3, in its cell of height 4");
+    change(whole("x", 20));
+    empty(4, 1, "another cell of height 4");
+}
+
 static void try_voxel(void)
 {
     begin("rooms_voxel", call_voxel);
     put_store(single, sizeof single);
-    give(1, 7, words("store", 0), whole("store_words", STORE), whole("scene", 1), whole("x", 13), whole("y", 18), whole("z", 23), words("solid", 1));
+    give(2, 8, words("store", 0), whole("store_words", STORE), whole("scene", 1), whole("x", 13), whole("y", 18), whole("z", 23), words("solid", 1), words("height", 2));
     after.words[1][0] = 1; /* solid, and no other point is; no scene has a higher number */
+    after.words[2][0] = 0; /* the height of a solid voxel */
     accepted("the one voxel");
     orders();
     refused_store();
@@ -539,10 +570,12 @@ static void try_voxel(void)
     refused(whole("z", 32), ROOMS_OUTSIDE);
     refused_word(34, 17, ROOMS_DAMAGED_STORE); /* the scene's depth */
     refused_word(35, 2, ROOMS_DAMAGED_STORE);  /* its root, a cell that is not kept */
-    change(whole("z", 22));
-    memcpy(&after, &before, sizeof after);
-    after.words[1][0] = 0;
-    accepted("the voxel beside it is empty");
+    empty_around();
+    change(whole("scene", 0));
+    change(whole("x", 3));
+    change(whole("y", 2));
+    change(whole("z", 1));
+    empty(2, 0, "the empty scene, of depth 2");
 }
 
 static void try_cell(void)
@@ -675,9 +708,10 @@ static void try_packed_voxel(void)
 {
     begin("rooms_packed_voxel", call_packed_voxel);
     put_file(single_packed, sizeof single_packed);
-    give(2, 7, bytes("file", 0), whole("file_bytes", sizeof single_packed), whole("x", 13), whole("y", 18), whole("z", 23), words("solid", 0), words("records", 1));
+    give(3, 8, bytes("file", 0), whole("file_bytes", sizeof single_packed), whole("x", 13), whole("y", 18), whole("z", 23), words("solid", 0), words("records", 1), words("height", 2));
     after.words[0][0] = 1; /* solid */
     after.words[1][0] = 4; /* records of heights 5, 4 and 3, and the leaf */
+    after.words[2][0] = 0; /* the height of a solid voxel */
     accepted("the one voxel");
     orders();
     refused_front();
@@ -685,11 +719,13 @@ static void try_packed_voxel(void)
     refused(whole("y", 32), ROOMS_OUTSIDE);
     refused(whole("z", 32), ROOMS_OUTSIDE);
     refused_byte(23, 0, ROOMS_BROKEN_RULES, 0); /* a zero header */
-    change(whole("x", 20));
-    memcpy(&after, &before, sizeof after);
-    after.words[0][0] = 0;
-    after.words[1][0] = 1;
-    accepted("a point in another half than the voxel's: the root's record alone");
+    empty_around();
+    put_file(nothing_packed, sizeof nothing_packed);
+    change(whole("file_bytes", sizeof nothing_packed));
+    change(whole("x", 3));
+    change(whole("y", 2));
+    change(whole("z", 1));
+    empty(2, 0, "an empty scene of depth 2");
 }
 
 static const uint32_t single_numbers[ROOMS_OPENED_NUMBERS] = {5, 35, 31, 27, 23};
@@ -715,9 +751,10 @@ static void try_ask(void)
     begin("rooms_ask", call_ask);
     put_file(single_packed, sizeof single_packed);
     memcpy(before.words[0], single_numbers, sizeof single_numbers);
-    give(2, 9, bytes("file", 0), whole("file_bytes", sizeof single_packed), words("numbers", 0), whole("numbers_words", ROOMS_OPENED_NUMBERS + 1), whole("x", 13), whole("y", 18), whole("z", 23), words("solid", 1), words("records", 2));
+    give(3, 10, bytes("file", 0), whole("file_bytes", sizeof single_packed), words("numbers", 0), whole("numbers_words", ROOMS_OPENED_NUMBERS + 1), whole("x", 13), whole("y", 18), whole("z", 23), words("solid", 1), words("records", 2), words("height", 3));
     after.words[1][0] = 1;
     after.words[2][0] = 4;
+    after.words[3][0] = 0;
     accepted("the one voxel");
     orders();
     refused(whole("numbers_words", ROOMS_OPENED_NUMBERS - 1), ROOMS_BROKEN_RULES);
@@ -728,6 +765,7 @@ static void try_ask(void)
     refused(whole("x", 32), ROOMS_OUTSIDE);
     refused(whole("y", 32), ROOMS_OUTSIDE);
     refused(whole("z", 32), ROOMS_OUTSIDE);
+    empty_around();
 }
 
 static void try_detail(void)

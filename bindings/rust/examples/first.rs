@@ -22,8 +22,10 @@ fn main() -> Result<(), Refusal> {
     let scene = rooms::add(&mut store, &OUTLINE)?;
     println!("scene {scene}");
 
-    let solid = rooms::voxel(&store, scene, 7, 0, 0)?;
-    println!("voxel 7 0 0: {}", if solid { "solid" } else { "empty" });
+    let voxel = rooms::voxel(&store, scene, 7, 0, 0)?;
+    println!("voxel 7 0 0: {}", if voxel.solid { "solid" } else { "empty" });
+    let voxel = rooms::voxel(&store, scene, 0, 5, 0)?;
+    println!("voxel 0 5 0: {}, height {}", if voxel.solid { "solid" } else { "empty" }, voxel.height);
     let full = rooms::cell(&store, scene, 2, 0, 1, 0)?;
     println!("cell of height 2 at 0 1 0: {}", if full { "non-empty" } else { "empty" });
     println!("solid in the whole room: {}", rooms::box_count(&store, scene, [0, 0, 0], [8, 8, 8])?);

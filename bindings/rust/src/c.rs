@@ -8,7 +8,16 @@ pub mod declared {
     extern "C" {
         pub fn rooms_new(store: *mut u32, store_words: usize, capacity: u32) -> u32;
         pub fn rooms_add(store: *mut u32, store_words: usize, file: *const u8, file_bytes: usize, scene: *mut u32) -> u32;
-        pub fn rooms_voxel(store: *const u32, store_words: usize, scene: u32, x: u32, y: u32, z: u32, solid: *mut u32) -> u32;
+        pub fn rooms_voxel(
+            store: *const u32,
+            store_words: usize,
+            scene: u32,
+            x: u32,
+            y: u32,
+            z: u32,
+            solid: *mut u32,
+            height: *mut u32,
+        ) -> u32;
         pub fn rooms_cell(store: *const u32, store_words: usize, scene: u32, height: u32, x: u32, y: u32, z: u32, full: *mut u32) -> u32;
         pub fn rooms_box(
             store: *const u32,
@@ -35,7 +44,16 @@ pub mod declared {
             length: *mut u32,
         ) -> u32;
         pub fn rooms_check(file: *const u8, file_bytes: usize, scratch: *mut u8, scratch_bytes: usize, depth: *mut u32) -> u32;
-        pub fn rooms_packed_voxel(file: *const u8, file_bytes: usize, x: u32, y: u32, z: u32, solid: *mut u32, records: *mut u32) -> u32;
+        pub fn rooms_packed_voxel(
+            file: *const u8,
+            file_bytes: usize,
+            x: u32,
+            y: u32,
+            z: u32,
+            solid: *mut u32,
+            records: *mut u32,
+            height: *mut u32,
+        ) -> u32;
         pub fn rooms_open(file: *const u8, file_bytes: usize, numbers: *mut u32, numbers_words: usize) -> u32;
         pub fn rooms_ask(
             file: *const u8,
@@ -47,6 +65,7 @@ pub mod declared {
             z: u32,
             solid: *mut u32,
             records: *mut u32,
+            height: *mut u32,
         ) -> u32;
         pub fn rooms_detail(depth: u32, kind: u32, a: f64, b: f64, height: *mut u32) -> u32;
     }
@@ -60,8 +79,8 @@ pub fn rooms_add(store: &mut [u32], file: &[u8], scene: &mut u32) -> u32 {
     unsafe { declared::rooms_add(store.as_mut_ptr(), store.len(), file.as_ptr(), file.len(), scene) }
 }
 
-pub fn rooms_voxel(store: &[u32], scene: u32, x: u32, y: u32, z: u32, solid: &mut u32) -> u32 {
-    unsafe { declared::rooms_voxel(store.as_ptr(), store.len(), scene, x, y, z, solid) }
+pub fn rooms_voxel(store: &[u32], scene: u32, x: u32, y: u32, z: u32, solid: &mut u32, height: &mut u32) -> u32 {
+    unsafe { declared::rooms_voxel(store.as_ptr(), store.len(), scene, x, y, z, solid, height) }
 }
 
 pub fn rooms_cell(store: &[u32], scene: u32, height: u32, x: u32, y: u32, z: u32, full: &mut u32) -> u32 {
@@ -90,16 +109,17 @@ pub fn rooms_check(file: &[u8], scratch: &mut [u8], depth: &mut u32) -> u32 {
     unsafe { declared::rooms_check(file.as_ptr(), file.len(), scratch.as_mut_ptr(), scratch.len(), depth) }
 }
 
-pub fn rooms_packed_voxel(file: &[u8], x: u32, y: u32, z: u32, solid: &mut u32, records: &mut u32) -> u32 {
-    unsafe { declared::rooms_packed_voxel(file.as_ptr(), file.len(), x, y, z, solid, records) }
+pub fn rooms_packed_voxel(file: &[u8], x: u32, y: u32, z: u32, solid: &mut u32, records: &mut u32, height: &mut u32) -> u32 {
+    unsafe { declared::rooms_packed_voxel(file.as_ptr(), file.len(), x, y, z, solid, records, height) }
 }
 
 pub fn rooms_open(file: &[u8], numbers: &mut [u32]) -> u32 {
     unsafe { declared::rooms_open(file.as_ptr(), file.len(), numbers.as_mut_ptr(), numbers.len()) }
 }
 
-pub fn rooms_ask(file: &[u8], numbers: &[u32], x: u32, y: u32, z: u32, solid: &mut u32, records: &mut u32) -> u32 {
-    unsafe { declared::rooms_ask(file.as_ptr(), file.len(), numbers.as_ptr(), numbers.len(), x, y, z, solid, records) }
+#[allow(clippy::too_many_arguments)]
+pub fn rooms_ask(file: &[u8], numbers: &[u32], x: u32, y: u32, z: u32, solid: &mut u32, records: &mut u32, height: &mut u32) -> u32 {
+    unsafe { declared::rooms_ask(file.as_ptr(), file.len(), numbers.as_ptr(), numbers.len(), x, y, z, solid, records, height) }
 }
 
 pub fn rooms_detail(depth: u32, kind: u32, a: f64, b: f64, height: &mut u32) -> u32 {

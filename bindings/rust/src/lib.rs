@@ -8,7 +8,7 @@
 //! let mut store = [0; rooms::store_words(32)];
 //! rooms::new_store(&mut store, 32)?;
 //! let scene = rooms::add(&mut store, &[0x11, 0, 0, 0, 14, 2, 0, 0, 0, 0, 0, 0, 0, 1])?;
-//! assert!(rooms::voxel(&store, scene, 0, 0, 0)?);
+//! assert!(rooms::voxel(&store, scene, 0, 0, 0)?.solid);
 //! assert_eq!(rooms::voxel(&store, scene, 4, 0, 0), Err(rooms::Refusal::Outside));
 //! # Ok::<(), rooms::Refusal>(())
 //! ```
@@ -57,13 +57,22 @@ pub fn add(store: &mut [u32], file: &[u8]) -> Result<u32, Refusal> {
     accepted(number, scene)
 }
 
-/// Whether a voxel is solid.
+/// A voxel.
+#[derive(Clone, Copy, Debug, PartialEq, Eq)]
+pub struct Voxel {
+    pub solid: bool,
+    /// The height of the empty cell that holds it: the absent child that ended the walk, or the whole room in an empty scene; 0 inside a
+    /// leaf and for a solid voxel. Every voxel of that cell has the same answer, so all of it may be stepped over at once.
+    pub height: u32,
+}
+
+/// Whether a voxel is solid, and where it is empty how high an empty cell holds it.
 /// Refusals, in order: `DamagedStore` (header), `NoScene`, `DamagedStore` (the scene's two words), `Outside`, `DamagedStore` (a
 /// bad pointer in a cell entered).
-pub fn voxel(store: &[u32], scene: u32, x: u32, y: u32, z: u32) -> Result<bool, Refusal> {
-    let mut solid = 0;
-    let number = c::rooms_voxel(store, scene, x, y, z, &mut solid);
-    accepted(number, solid == 1)
+pub fn voxel(store: &[u32], scene: u32, x: u32, y: u32, z: u32) -> Result<Voxel, Refusal> {
+    let (mut solid, mut height) = (0, 0);
+    let number = c::rooms_voxel(store, scene, x, y, z, &mut solid, &mut height);
+    accepted(number, Voxel { solid: solid == 1, height })
 }
 
 /// Whether a cell of a height, 0 to D, is non-empty; x, y and z are counted in cells of that height. Refusals: as for a voxel.
@@ -118,19 +127,22 @@ pub fn check(file: &[u8], scratch: &mut [u8]) -> Result<u32, Refusal> {
     accepted(number, depth)
 }
 
-/// A voxel of packed bytes, with how many records that took, the top one and a leaf among them.
+/// A voxel of packed bytes.
 #[derive(Clone, Copy, Debug, PartialEq, Eq)]
 pub struct Found {
     pub solid: bool,
+    /// How many records that took, the top one and a leaf among them.
     pub records: u32,
+    /// As in `Voxel`.
+    pub height: u32,
 }
 
 /// A voxel of a packed file. On a proper file no point inside is refused.
 /// Refusals, in order: `BadVersion`, `BadLength`, `BadDepth`, `Outside`, `BrokenRules`.
 pub fn packed_voxel(file: &[u8], x: u32, y: u32, z: u32) -> Result<Found, Refusal> {
-    let (mut solid, mut records) = (0, 0);
-    let number = c::rooms_packed_voxel(file, x, y, z, &mut solid, &mut records);
-    accepted(number, Found { solid: solid == 1, records })
+    let (mut solid, mut records, mut height) = (0, 0, 0);
+    let number = c::rooms_packed_voxel(file, x, y, z, &mut solid, &mut records, &mut height);
+    accepted(number, Found { solid: solid == 1, records, height })
 }
 
 /// A packed file opened for many questions: its bytes beside the numbers of its header.
@@ -164,9 +176,9 @@ impl Opened<'_> {
 
     /// A voxel. Refusals, in order: `Outside`, `BrokenRules` (on its path).
     pub fn voxel(&self, x: u32, y: u32, z: u32) -> Result<Found, Refusal> {
-        let (mut solid, mut records) = (0, 0);
-        let number = c::rooms_ask(self.bytes, &self.numbers, x, y, z, &mut solid, &mut records);
-        accepted(number, Found { solid: solid == 1, records })
+        let (mut solid, mut records, mut height) = (0, 0, 0);
+        let number = c::rooms_ask(self.bytes, &self.numbers, x, y, z, &mut solid, &mut records, &mut height);
+        accepted(number, Found { solid: solid == 1, records, height })
     }
 }
 

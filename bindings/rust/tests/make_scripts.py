@@ -1,8 +1,8 @@
 #!/usr/bin/env python3
 """Makes seven scripts of calls in crates/replay_scripts/data: questions, adding, packing, far, opening, changes and rules.
 
-The other scripts there came with document 01. What all of them must print is what tests/scripts.rs finds over the twin; with
-ROOMS_PRINTED=FILE that test writes it there. The commands are those of crates/script.
+The other scripts there came with document 01. What all of them must print is what the twin prints: tests/twin/play.rs. The commands
+are those of docs/replay.md.
 """
 
 import os

@@ -59,24 +59,24 @@ box-within S low high e =
 -- ---- told past the scene's tests
 
 -- a tally told
-same : (w : Bool) (x : ℕ) → tallyTold (cond w Damaged (Solid x)) ≡ pastEntry false w x
+same : (w : Bool) (x : ℕ) → tallyTold (cond w Damaged (Solid x)) ≡ pastEntry false w (x ∷ [])
 same true x = refl
 same false x = refl
 
 module _ (ws : List ℕ) (n : ℕ) (low high : Point) where
   pub told-outside : boxOutside ws n low high ≡ true → told 10 (0 ∷ []) ≡ boxTold ws n low high
-  told-outside e = past-outside (boxOutside ws n low high) (boxDamaged ws n low high) (ofScene boxSolid ws n low high) (true-T e)
+  told-outside e = past-outside (boxOutside ws n low high) (boxDamaged ws n low high) (ofScene boxSolid ws n low high ∷ []) (true-T e)
 
   pub told-tally : boxOutside ws n low high ≡ false → tallyTold (sceneBox ws n low high) ≡ boxTold ws n low high
   unfolding sceneBox
-  told-tally e = same (boxDamaged ws n low high) (ofScene boxSolid ws n low high) ∙ past-inside (boxOutside ws n low high) (boxDamaged ws n low high) (ofScene boxSolid ws n low high) (true-T (ap not e))
+  told-tally e = same (boxDamaged ws n low high) (ofScene boxSolid ws n low high) ∙ past-inside (boxOutside ws n low high) (boxDamaged ws n low high) (ofScene boxSolid ws n low high ∷ []) (true-T (ap not e))
 
   -- ---- the whole outcome
 
   pub box-settled : {D p : ℕ} → Entered ws n D p → outcome (boxTold ws n low high) [] ≡ boxOutcome ws n low high
   unfolding boxOutcome
-  box-settled e = past-settled e (boxOutside ws n low high) (boxDamaged ws n low high) (ofScene boxSolid ws n low high)
+  box-settled e = past-settled e (boxOutside ws n low high) (boxDamaged ws n low high) (ofScene boxSolid ws n low high ∷ [])
 
-  pub box-refused : (r : Refusal) → Says ws n (Refused r) → refusedBy (numberOf r) ≡ boxOutcome ws n low high
+  pub box-refused : (r : Refusal) → Says ws n (Refused r) → refusedBy (numberOf r) (0 ∷ []) ≡ boxOutcome ws n low high
   unfolding boxOutcome
-  box-refused r s = s (boxOutside ws n low high) (boxDamaged ws n low high) (ofScene boxSolid ws n low high)
+  box-refused r s = s (boxOutside ws n low high) (boxDamaged ws n low high) (ofScene boxSolid ws n low high ∷ [])

@@ -135,4 +135,4 @@ tallyTold Damaged = told 2 (0 ∷ [])
 
 -- a box question past the scene's tests
 abbrev pub boxTold : List ℕ → ℕ → Point → Point → Told
-boxTold ws n low high = pastEntry (boxOutside ws n low high) (boxDamaged ws n low high) (ofScene boxSolid ws n low high)
+boxTold ws n low high = pastEntry (boxOutside ws n low high) (boxDamaged ws n low high) (ofScene boxSolid ws n low high ∷ [])

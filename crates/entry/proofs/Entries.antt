@@ -2,7 +2,7 @@
 -- that of a scene whose words are good, and what is told past the tests settles the question. By cases on the tests. Assumes nothing.
 use mathlib.Core.Path.{_≡_, refl, sym, ap, ap₂, _∙_, subst, subst⁻¹}
 use mathlib.Core.Bool.{Bool, true, false, not, cond}
-use mathlib.Core.List.{List, [], _∷_}
+use mathlib.Core.List.{List, [], map}
 use Prim.Native.Nat.{ℕ, _-_, _≤_}
 use lib.Dec.{T, leb, leb→le}
 use Rattle.paper.specs.Rooms.{depthOk, least, deepest}
@@ -53,12 +53,12 @@ pub record Entered (ws : List ℕ) (n D p : ℕ) : Type 0 where
 -- what an entry says
 abbrev pub Says : List ℕ → ℕ → Entry → Type 0
 Says ws n (Root D p) = Entered ws n D p
-Says ws n (Refused r) = (out walk : Bool) (x : ℕ) → refusedBy (numberOf r) ≡ asked (not (headerOk ws)) (noScene ws n) (not (sceneOk ws n)) out walk x
+Says ws n (Refused r) = (out walk : Bool) (xs : List ℕ) → refusedBy (numberOf r) xs ≡ asked (not (headerOk ws)) (noScene ws n) (not (sceneOk ws n)) out walk xs
 
 says-by : (ws : List ℕ) (n : ℕ) (a b c : Bool) → headerOk ws ≡ a → noScene ws n ≡ b → sceneOk ws n ≡ c → Says ws n (by ws n a b c)
-says-by ws n false b c e f g = λ out walk x. by-header ws n out walk x (true-T (ap not e))
-says-by ws n true true c e f g = λ out walk x. by-scene ws n out walk x (true-T e) (true-T f)
-says-by ws n true false false e f g = λ out walk x. by-words ws n out walk x (true-T e) (there-held ws n f) (true-T (ap not g))
+says-by ws n false b c e f g = λ out walk xs. by-header ws n out walk xs (true-T (ap not e))
+says-by ws n true true c e f g = λ out walk xs. by-scene ws n out walk xs (true-T e) (true-T f)
+says-by ws n true false false e f g = λ out walk xs. by-words ws n out walk xs (true-T e) (there-held ws n f) (true-T (ap not g))
 says-by ws n true false true e f g = record { header = true-T e; held = there-held ws n f; words = true-T g; depth = refl; root = refl }
 
 pub entry-says : (ws : List ℕ) (n : ℕ) (e : Entry) → e ≡ entryOf ws n → Says ws n e
@@ -66,18 +66,18 @@ unfolding entryOf
 entry-says ws n e q = subst (Says ws n) (sym q) (says-by ws n (headerOk ws) (noScene ws n) (sceneOk ws n) refl refl refl)
 
 -- past the tests: outside, inside, and the whole outcome
-module _ (out walk : Bool) (x : ℕ) where
-  pub past-outside : T out → told 10 (0 ∷ []) ≡ pastEntry out walk x
-  past-outside t = ap (λ (b : Bool). pastEntry b walk x) (sym (T-true {b = out} t))
+module _ (out walk : Bool) (xs : List ℕ) where
+  pub past-outside : T out → told 10 (map (λ x. 0) xs) ≡ pastEntry out walk xs
+  past-outside t = ap (λ (b : Bool). pastEntry b walk xs) (sym (T-true {b = out} t))
 
-  pub past-inside : T (not out) → pastEntry false walk x ≡ pastEntry out walk x
-  past-inside t = ap (λ (b : Bool). pastEntry b walk x) (sym (not-false out t))
+  pub past-inside : T (not out) → pastEntry false walk xs ≡ pastEntry out walk xs
+  past-inside t = ap (λ (b : Bool). pastEntry b walk xs) (sym (not-false out t))
 
-pub past-settled : {ws : List ℕ} {n D p : ℕ} → Entered ws n D p → (out walk : Bool) (x : ℕ)
-    → outcome (pastEntry out walk x) [] ≡ asked (not (headerOk ws)) (noScene ws n) (not (sceneOk ws n)) out walk x
-past-settled {ws} {n} e true walk x = by-out ws n true walk x (e .header) (e .held) (e .words) tt
-past-settled {ws} {n} e false true x = by-walk ws n false true x (e .header) (e .held) (e .words) tt
-past-settled {ws} {n} e false false x = by-walk ws n false false x (e .header) (e .held) (e .words) tt
+pub past-settled : {ws : List ℕ} {n D p : ℕ} → Entered ws n D p → (out walk : Bool) (xs : List ℕ)
+    → outcome (pastEntry out walk xs) [] ≡ asked (not (headerOk ws)) (noScene ws n) (not (sceneOk ws n)) out walk xs
+past-settled {ws} {n} e true walk xs = by-out ws n true walk xs (e .header) (e .held) (e .words) tt
+past-settled {ws} {n} e false true xs = by-walk ws n false true xs (e .header) (e .held) (e .words) tt
+past-settled {ws} {n} e false false xs = by-walk ws n false false xs (e .header) (e .held) (e .words) tt
 
 -- of a scene that can be asked: its depth is in range, its root pointer not bad
 pub entered-depth : {ws : List ℕ} {n D p : ℕ} → Entered ws n D p → T (depthOk D)

@@ -19,25 +19,25 @@ twice false t = t
 pub held-fits : (ws : List ℕ) (n : ℕ) → T (headerOk ws) → T (isHeld ws n) → n < mostScenes
 held-fits ws n h l = held-placed ws n (fine-header ws h .held) l
 
-module _ (ws : List ℕ) (n : ℕ) (out walk : Bool) (x : ℕ) where
+module _ (ws : List ℕ) (n : ℕ) (out walk : Bool) (xs : List ℕ) where
   abbrev question : Outcome
-  question = asked (not (headerOk ws)) (noScene ws n) (not (sceneOk ws n)) out walk x
+  question = asked (not (headerOk ws)) (noScene ws n) (not (sceneOk ws n)) out walk xs
 
-  pub by-header : T (not (headerOk ws)) → refusedBy 2 ≡ question
-  by-header h = sym (asked-header (not (headerOk ws)) (noScene ws n) (not (sceneOk ws n)) out walk x h)
+  pub by-header : T (not (headerOk ws)) → refusedBy 2 xs ≡ question
+  by-header h = sym (asked-header (not (headerOk ws)) (noScene ws n) (not (sceneOk ws n)) out walk xs h)
 
-  pub by-scene : T (headerOk ws) → T (noScene ws n) → refusedBy 9 ≡ question
-  by-scene h l = sym (asked-scene (not (headerOk ws)) (noScene ws n) (not (sceneOk ws n)) out walk x (twice (headerOk ws) h) l)
+  pub by-scene : T (headerOk ws) → T (noScene ws n) → refusedBy 9 xs ≡ question
+  by-scene h l = sym (asked-scene (not (headerOk ws)) (noScene ws n) (not (sceneOk ws n)) out walk xs (twice (headerOk ws) h) l)
 
   module _ (h : T (headerOk ws)) (l : T (isHeld ws n)) where
     held : T (not (noScene ws n))
     held = twice (isHeld ws n) l
 
-    pub by-words : T (not (sceneOk ws n)) → refusedBy 2 ≡ question
-    by-words s = sym (asked-words (not (headerOk ws)) (noScene ws n) (not (sceneOk ws n)) out walk x (twice (headerOk ws) h) held s)
+    pub by-words : T (not (sceneOk ws n)) → refusedBy 2 xs ≡ question
+    by-words s = sym (asked-words (not (headerOk ws)) (noScene ws n) (not (sceneOk ws n)) out walk xs (twice (headerOk ws) h) held s)
 
-    pub by-out : T (sceneOk ws n) → T out → refusedBy 10 ≡ question
-    by-out s o = sym (asked-out (not (headerOk ws)) (noScene ws n) (not (sceneOk ws n)) out walk x (twice (headerOk ws) h) held (twice (sceneOk ws n) s) o)
+    pub by-out : T (sceneOk ws n) → T out → refusedBy 10 xs ≡ question
+    by-out s o = sym (asked-out (not (headerOk ws)) (noScene ws n) (not (sceneOk ws n)) out walk xs (twice (headerOk ws) h) held (twice (sceneOk ws n) s) o)
 
-    pub by-walk : T (sceneOk ws n) → T (not out) → cond walk (refusedBy 2) (answered x) ≡ question
-    by-walk s o = sym (asked-walk (not (headerOk ws)) (noScene ws n) (not (sceneOk ws n)) out walk x (twice (headerOk ws) h) held (twice (sceneOk ws n) s) o)
+    pub by-walk : T (sceneOk ws n) → T (not out) → cond walk (refusedBy 2 xs) (answered xs) ≡ question
+    by-walk s o = sym (asked-walk (not (headerOk ws)) (noScene ws n) (not (sceneOk ws n)) out walk xs (twice (headerOk ws) h) held (twice (sceneOk ws n) s) o)

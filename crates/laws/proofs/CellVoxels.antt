@@ -7,7 +7,7 @@ use Prim.Native.Nat.{ℕ, zero, suc, _-_, _^_, _<_}
 use native.Mathlib.Omega.{arith}
 use lib.Dec.{T, eqb}
 use lib.ListN.{getD}
-use Rattle.paper.specs.Rooms.{Point, Inside, depthOk, mirror, childNo, inChild}
+use Rattle.paper.specs.Rooms.{Point, Inside, depthOk, OneCell, mirror, childNo, inChild}
 use Rattle.paper.specs.Outline.{edge}
 use Rattle.paper.specs.Store.{Cell, cellAt, tagOf, cellNo}
 use Rattle.paper.specs.Meaning.{cellVoxel, rootRoom}
@@ -15,7 +15,7 @@ use Rattle.paper.specs.Walk.{absent, Walk, isDamaged, solidAt, Child, none, wro
 use Rattle.paper.specs.Questions.{childFor, graphReading, keptReading, voxelWalk}
 use Rattle.laws.proofs.Outlines.{depth-two}
 use Rattle.laws.proofs.Matching.{tag-lt}
-use Rattle.laws.proofs.Walking.{Mirrors, OneCell, Seen, walk-untested, root-absent, root-seen}
+use Rattle.laws.proofs.Walking.{Mirrors, Seen, walk-untested, root-absent, root-seen}
 
 -- ---- without tests
 
@@ -76,17 +76,26 @@ kept-mirrors K k n i t q e = child-tag (getD (cellAt K (suc k) n) i 0) t q e
 -- ---- a voxel question on a store
 
 module _ (K : List (List Cell)) (D p : ℕ) (deep : T (depthOk D)) where
-  -- where its walk isn't damaged, it ends at the room's voxel
-  pub voxel-means : (v : Point) → isDamaged (voxelWalk K D p v .end) ≡ false → solidAt (voxelWalk K D p v .end) ≡ rootRoom K D p v
-  unfolding voxelWalk rootRoom
-  voxel-means v = go (eqb p 0)
+  -- where its walk isn't damaged, it is the walk without tests
+  pub voxel-untested : (v : Point) → isDamaged (voxelWalk K D p v .end) ≡ false → voxelWalk K D p v ≡ rootWalk (graphReading K) D (childFor p) v
+  unfolding voxelWalk
+  voxel-untested v = go (eqb p 0)
     where
       go : (b : Bool) → isDamaged (rootWalk (keptReading K) D (cond b none (to (tagOf p) (cellNo p))) v .end) ≡ false
-          → solidAt (rootWalk (keptReading K) D (cond b none (to (tagOf p) (cellNo p))) v .end) ≡ cond b false (cellVoxel K (D - 2) (cellAt K (D - 2) (cellNo p)) (mirror (tagOf p) (2 ^ D) v))
+          → rootWalk (keptReading K) D (cond b none (to (tagOf p) (cellNo p))) v ≡ rootWalk (graphReading K) D (cond b none (to (tagOf p) (cellNo p))) v
       go true e = refl
-      go false e =
-          ap (λ (w : Walk). solidAt (w .end)) (walk-untested (keptReading K) (D - 2) (cellNo p) (tagOf p) v e)
-          ∙ graph-voxel K (D - 2) (cellNo p) (tagOf p) v
+      go false e = walk-untested (keptReading K) (D - 2) (cellNo p) (tagOf p) v e
+
+  -- and ends at the room's voxel
+  pub voxel-means : (v : Point) → isDamaged (voxelWalk K D p v .end) ≡ false → solidAt (voxelWalk K D p v .end) ≡ rootRoom K D p v
+  unfolding rootRoom
+  voxel-means v e = ap (λ (w : Walk). solidAt (w .end)) (voxel-untested v e) ∙ go (eqb p 0)
+    where
+      go : (b : Bool) → solidAt (rootWalk (graphReading K) D (cond b none (to (tagOf p) (cellNo p))) v .end)
+          ≡ cond b false (cellVoxel K (D - 2) (cellAt K (D - 2) (cellNo p)) (mirror (tagOf p) (2 ^ D) v))
+      go true = refl
+      go false =
+          graph-voxel K (D - 2) (cellNo p) (tagOf p) v
           ∙ ap (λ (h : ℕ). cellVoxel K (D - 2) (cellAt K (D - 2) (cellNo p)) (mirror (tagOf p) (2 ^ h) v)) (depth-two D deep)
 
   -- the voxels of an absent child have one walk

@@ -45,7 +45,7 @@ module _ (K : List (List Cell)) (ok : OkCells K) (j : ℕ) where
   Leads d k = (p : ℕ) → OkPointer (length (cellsAt K k)) p → (c u : Point) → Inside (2 ^ d) c → Inside (edge j) u
       → Ends K j (cellOf (roomAt k p) (suc (suc j)) c) (pointerTo K j k p (pointAt (edge j) c u))
 
-  pointerTo-here : (i p : ℕ) (v : Point) → pointerTo K i i p v ≡ p
+  pub pointerTo-here : (i p : ℕ) (v : Point) → pointerTo K i i p v ≡ p
   unfolding pointerTo
   pointerTo-here zero p v = refl
   pointerTo-here (suc i) p v = rw (le-leb (suc i) (suc i) (omega arith))
@@ -62,7 +62,7 @@ module _ (K : List (List Cell)) (ok : OkCells K) (j : ℕ) where
   unfolding pointerTo
   pointerTo-none k p v h e = rw (lt-leb (suc k) j h, eq-eqb p 0 e)
 
-  pointerTo-some : (k p : ℕ) (v : Point) → j < suc k → (p ≡ 0 → ⊥)
+  pub pointerTo-some : (k p : ℕ) (v : Point) → j < suc k → (p ≡ 0 → ⊥)
       → pointerTo K j (suc k) p v ≡ pointerTo K j k (taken k (below K (suc k) p) (mirror (tagOf p) (edge (suc k)) v)) (inChild (edge k) (mirror (tagOf p) (edge (suc k)) v))
   unfolding pointerTo
   pointerTo-some k p v h ne = rw (lt-leb (suc k) j h, ne-eqb p 0 ne)

@@ -71,6 +71,7 @@ pub mod NoDamage
 pub mod Differing
 pub mod Alone
 pub mod CellWalk
+pub mod Emptiness
 pub mod RoomAnswers
 pub mod RunClaims
 pub mod WalkClaim
@@ -80,6 +81,7 @@ pub mod PackedLists
 pub mod PackedWalk
 pub mod ProperClaim
 pub mod ProperVoxels
+pub mod ProperEmptiness
 pub mod GraphCounts
 pub mod RecordSizes
 pub mod RecordReading

@@ -53,7 +53,7 @@ opens-ask file starts D v e =
     ap (λ (b : Bool). settled (cond (not b) 6 (firstOf (packedVoxelOrder file v))) (packedValues file v) [] []) e
 
 -- no bytes open to nothing
-nothing-ask : (starts : List ℕ) (D : ℕ) (v : Point) → askOutcome [] D starts v ≡ outcome (told 6 (0 ∷ 0 ∷ [])) []
+nothing-ask : (starts : List ℕ) (D : ℕ) (v : Point) → askOutcome [] D starts v ≡ outcome (told 6 (0 ∷ 0 ∷ 0 ∷ [])) []
 unfolding askOutcome opensTo openOutcome settled firstOf
 nothing-ask starts D v = refl
 

@@ -1,7 +1,7 @@
 -- Claim C6, packing, on every store that only the calls wrote: what pack writes for an accepted scene is written whole, is proper, means that scene's
 -- room, is accepted by check, answers the packed voxel as the room does, and has the records and at most the bytes claimed; and the same room packs
 -- to the same bytes. From what the words hold and the laws of packing. Assumes nothing.
-use mathlib.Core.Path.{_≡_, sym, _∙_, subst, ap}
+use mathlib.Core.Path.{_≡_, sym, _∙_, subst, ap, ap₂}
 use mathlib.Core.Bool.{Bool, true}
 use mathlib.Core.List.{List, [], _∷_}
 use Prim.Native.Nat.{ℕ, _-_, _^_, _≤_}
@@ -10,7 +10,7 @@ use borrow.Author.Tests.{le-ltb}
 use lib.Dec.{T, leb, leb→le}
 use lib.ListN.{length}
 use Rattle.paper.specs.Numbers.{bitFor}
-use Rattle.paper.specs.Rooms.{Room, Inside, Same, depthOk}
+use Rattle.paper.specs.Rooms.{Room, Inside, Same, depthOk, emptyAt}
 use Rattle.paper.specs.Outline.{fileDepth, fileRoom}
 use Rattle.paper.specs.Store.{Cell, mostCapacity, capacityOf, isHeld, keptOf, sceneDepth, sceneRoot, storeOk}
 use Rattle.paper.specs.Packed.{proper, packedRoom, packedPath}
@@ -25,7 +25,10 @@ use Rattle.laws.proofs.Undamaged.{undamaged}
 use Rattle.laws.proofs.Refusals.{settled-accepted}
 use Rattle.laws.proofs.Running.{reached-running}
 use Rattle.laws.proofs.Holding.{Means, Holds, HeldAt, root-room, held-at, below-there, running-capacity, reached-holds}
-use Rattle.laws.proofs.ProperClaim.{check-accepts, proper-voxel}
+use Rattle.laws.proofs.ProperClaim.{check-accepts}
+use Rattle.laws.proofs.ProperEmptiness.{proper-answer}
+use Rattle.laws.proofs.Emptiness.{empty-same}
+use Rattle.laws.proofs.Outlines.{depth-two}
 use Rattle.laws.proofs.PackedReachable.{Packable}
 use Rattle.laws.proofs.SamePack.{scenes-same}
 use Rattle.laws.proofs.Packing.{pack-proper, pack-depth, pack-room, pack-bytes}
@@ -102,8 +105,9 @@ module _ (s : State) (h : Holds (s .words) (s .held)) where
         means = packed-means;
         checks = λ scratch hs. check-accepts packed scratch packed-proper hs ∙ ap (λ (d : ℕ). outcome (told 0 (d ∷ [])) (cleared (length packed) scratch ∷ [])) packed-depth;
         voxels = λ v i.
-            proper-voxel packed v packed-bytes packed-proper (subst (λ (d : ℕ). Inside (2 ^ d) v) (sym packed-depth) i)
-            ∙ ap (λ (b : Bool). outcome (told 0 (bitFor b ∷ packedPath packed v ∷ [])) []) (packed-means v i);
+            proper-answer packed packed-bytes packed-proper v (subst (λ (d : ℕ). Inside (2 ^ d) v) (sym packed-depth) i)
+            ∙ ap₂ (λ (b : Bool) (h : ℕ). outcome (told 0 (bitFor b ∷ packedPath packed v ∷ h ∷ [])) []) (packed-means v i)
+            (ap (λ (d : ℕ). emptyAt d (packedRoom packed) v) packed-depth ∙ empty-same (fileDepth file - 2) (fileDepth file) (packedRoom packed) (fileRoom file) v (omega (arith, depth-two (fileDepth file) (m .accepted .deep))) packed-means i);
         counts = means-counts packed packed-bytes packed-proper (fileDepth file) (fileRoom file) packed-depth packed-means;
         fewest = λ other by e d same.
             means-fewest packed other packed-bytes by packed-proper e (fileDepth file) (fileRoom file) packed-depth d packed-means same;

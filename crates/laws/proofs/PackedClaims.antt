@@ -4,7 +4,7 @@ use mathlib.Core.Bool.{true}
 use mathlib.Core.List.{List, [], _∷_}
 use Prim.Native.Nat.{ℕ, _^_}
 use Rattle.paper.specs.Numbers.{bitFor}
-use Rattle.paper.specs.Rooms.{Point, Inside, depthOk}
+use Rattle.paper.specs.Rooms.{Point, Inside, depthOk, emptyAt}
 use Rattle.paper.specs.Outline.{fileDepth, versionOk, lengthOk}
 use Rattle.paper.specs.Packed.{packedVersion, packedHead, headOk, proper, packedRoom, packedPath, startsOf}
 use Rattle.paper.specs.Answers.{told, outcome}
@@ -15,7 +15,8 @@ use Rattle.paper.specs.Claims.{C7}
 use Rattle.laws.proofs.Tests.{T-true, true-T}
 use Rattle.laws.proofs.Refusals.{settled-accepted}
 use Rattle.laws.proofs.OpenClaim.{opened-opens, opens-ask}
-use Rattle.laws.proofs.ProperClaim.{check-passed, passed-check, check-number, Proper, proper-passes, proper-voxel}
+use Rattle.laws.proofs.ProperClaim.{check-passed, passed-check, check-number, Proper, proper-passes}
+use Rattle.laws.proofs.ProperEmptiness.{proper-answer}
 use Rattle.laws.proofs.ProperVoxels.{records-differ}
 use Rattle.laws.proofs.RoundTrip.{file-laid, file-empty, file-same}
 use Rattle.laws.proofs.ProperCounts.{file-counts}
@@ -36,9 +37,9 @@ proper-opens file e =
 
 -- and a question on it is the packed voxel's
 proper-asked : (file : List ℕ) (v : Point) → Bytes file → proper file ≡ true → Inside (2 ^ fileDepth file) v
-    → askOutcome file (fileDepth file) (startsOf file) v ≡ outcome (told 0 (bitFor (packedRoom file v) ∷ packedPath file v ∷ [])) []
+    → askOutcome file (fileDepth file) (startsOf file) v ≡ outcome (told 0 (bitFor (packedRoom file v) ∷ packedPath file v ∷ emptyAt (fileDepth file) (packedRoom file) v ∷ [])) []
 proper-asked file v by e l =
-    opens-ask file (startsOf file) (fileDepth file) v (opened-opens file file (startsOf file) (fileDepth file) (proper-opens file e)) ∙ proper-voxel file v by e l
+    opens-ask file (startsOf file) (fileDepth file) v (opened-opens file file (startsOf file) (fileDepth file) (proper-opens file e)) ∙ proper-answer file by e v l
 
 pub claim7 : C7
 claim7 = record {
@@ -46,7 +47,7 @@ claim7 = record {
     λ e. check-passed file scratch (sym (check-number file scratch) ∙ e),
     λ p. check-number file scratch ∙ passed-check file scratch (p .0) (p .1),
   );
-  asked = proper-voxel;
+  asked = λ file v by e l. proper-answer file by e v l;
   differ = records-differ;
   counts = file-counts;
   laid = file-laid;

@@ -10,7 +10,7 @@ use borrow.Author.Tests.{ne-eqb, eqb-true, eqb-false, lt-ltb}
 use lib.Dec.{T, eqb, ltb, eqb→eq, leb→le}
 use lib.ListN.{length, getD, drop, List·getD-map}
 use Rattle.paper.specs.Numbers.{num, count, allIn, isIn, indexIn}
-use Rattle.paper.specs.Rooms.{Point, Inside, depthOk}
+use Rattle.paper.specs.Rooms.{Point, Inside, depthOk, OneCell}
 use Rattle.paper.specs.Outline.{fileDepth, lengthOk}
 use Rattle.paper.specs.Store.{Cell, leafNo, pointer, cellAt}
 use Rattle.paper.specs.Walk.{absent, unless, none, wrong, to, walkIn, rootWalk}
@@ -21,7 +21,7 @@ use Rattle.laws.proofs.Tests.{T-true, true-T, and-left, and-right, all-
 use Rattle.laws.proofs.Lists.{allIn-at, allIn-isIn}
 use Rattle.laws.proofs.Bytes.{bytes-drop}
 use Rattle.laws.proofs.Adding.{pointer-cell, pointer-tag}
-use Rattle.laws.proofs.Walking.{Mirrors, Seen, OneCell, SameChild, Agree, SameWalk, walks-same, seen-damaged, root-absent, root-seen}
+use Rattle.laws.proofs.Walking.{Mirrors, Seen, SameChild, Agree, SameWalk, walks-same, seen-damaged, root-absent, root-seen}
 use Rattle.laws.proofs.CellVoxels.{tagTaken}
 use Rattle.laws.proofs.PackedLists.{num4-lt, Fits, pointers-fit, list-bytes, sizes-whole, tail-in, start-inside, start-small, packedPointer-some, record-cell, leaf-cell}
 

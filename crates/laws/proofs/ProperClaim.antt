@@ -13,7 +13,7 @@ use Rattle.paper.specs.Rooms.{Point, Inside, depthOk, mirror}
 use Rattle.paper.specs.Outline.{fileDepth, versionOk, lengthOk}
 use Rattle.paper.specs.Store.{Cell, cellAt}
 use Rattle.paper.specs.Meaning.{cellVoxel}
-use Rattle.paper.specs.Walk.{none, to, isDamaged, solidAt, rootWalk}
+use Rattle.paper.specs.Walk.{none, to, isDamaged, solidAt, emptyHeight, rootWalk}
 use Rattle.paper.specs.Questions.{graphReading}
 use Rattle.paper.specs.Packed.{packedVersion, packedHead, rootTag, isEmpty, topOf, graphOf, sizesOk, listsOk, graphOk, rootOk, headOk, packedRules, proper, packedRoom, packedPath, rootOf, fileReading, fileWalk}
 use Rattle.paper.specs.Answers.{told, outcome}
@@ -137,7 +137,7 @@ proper-path bs by p v = same-length (fileWalk bs v) _ (proper-walk bs by p v)
 
 -- at every point inside
 pub proper-voxel : (bs : List ℕ) (v : Point) → Bytes bs → proper bs ≡ true → Inside (2 ^ fileDepth bs) v
-    → packedVoxelOutcome bs v ≡ outcome (told 0 (bitFor (packedRoom bs v) ∷ packedPath bs v ∷ [])) []
+    → packedVoxelOutcome bs v ≡ outcome (told 0 (bitFor (packedRoom bs v) ∷ packedPath bs v ∷ emptyHeight (fileWalk bs v .end) ∷ [])) []
 unfolding packedVoxelOutcome packedOutside packedBroken firstOf
 proper-voxel bs v by e l =
     let p : Proper bs = proper-passes bs (true-T e) in
@@ -152,4 +152,4 @@ proper-voxel bs v by e l =
       proper-sound bs by p v,
     ) in
     settled-accepted (firstOf (packedVoxelOrder bs v)) (packedValues bs v) [] [] none
-    ∙ ap₂ (λ (b : Bool) (n : ℕ). outcome (told 0 (bitFor b ∷ n ∷ [])) []) (proper-means bs by p v) (proper-path bs by p v)
+    ∙ ap₂ (λ (b : Bool) (n : ℕ). outcome (told 0 (bitFor b ∷ n ∷ emptyHeight (fileWalk bs v .end) ∷ [])) []) (proper-means bs by p v) (proper-path bs by p v)

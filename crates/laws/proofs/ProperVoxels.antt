@@ -340,7 +340,7 @@ module _ (file : List ℕ) (by : Bytes file) (e : proper file ≡ true) (some : 
   abbrev g : List (List Cell)
   g = graphOf file
 
-  top-there : 0 < length (cellsAt g (topOf file))
+  pub top-there : 0 < length (cellsAt g (topOf file))
   unfolding topOk
   top-there =
       omega (arith, records-length file (topOf file) (omega arith), eqb→eq (length (placesAt file (topOf file))) 1 (proper-lists .top))

@@ -1,22 +1,22 @@
 -- On a store that only the calls wrote the answers are those of the rooms held: voxel, cell and box by the room's voxels, and outline out gives the
 -- file that came. The room of a scene's two words is the file's, and each answer goes by the voxels. Assumes nothing.
-use mathlib.Core.Path.{_≡_, refl, sym, _∙_, ap, subst}
-use mathlib.Core.Bool.{Bool, true, false, not}
+use mathlib.Core.Path.{_≡_, refl, sym, _∙_, ap, ap₂, subst}
+use mathlib.Core.Bool.{Bool, false, not}
 use mathlib.Core.List.{List, [], _∷_}
 use Prim.Native.Nat.{ℕ, zero, suc, _+_, _-_, _*_, _≤_, _^_}
 use native.Mathlib.Nat.{add-zero}
 use native.Mathlib.Omega.{arith}
-use borrow.Author.Tests.{le-leb, lt-ltb, le-ltb}
+use borrow.Author.Tests.{le-leb, le-ltb}
 use lib.Dec.{T, eqb, leb→le}
 use lib.Pow.{pow-add, pow-pos}
 use lib.ListN.{length}
 use Rattle.paper.specs.Numbers.{bitFor}
-use Rattle.paper.specs.Rooms.{Point, point, Room, Inside, inside, depthOk, cellOf, Same, boxCount, nonEmpty}
+use Rattle.paper.specs.Rooms.{Point, point, Room, Inside, depthOk, cellOf, Same, boxCount, nonEmpty, emptyUpTo, emptyAt}
 use Rattle.paper.specs.Outline.{edge, longest, outlineOf, fileDepth, fileRoom}
 use Rattle.paper.specs.Store.{Cell, cellsAt, keptOf, sceneDepth, sceneRoot, storeOk}
 use Rattle.paper.specs.Meaning.{rootRoom, pointerVoxel, cellVoxel}
-use Rattle.paper.specs.Walk.{Walk, solidAt}
-use Rattle.paper.specs.Questions.{voxelWalk, corner, pointerTo, cellNonEmpty}
+use Rattle.paper.specs.Walk.{Walk, solidAt, emptyHeight, onward, walkIn}
+use Rattle.paper.specs.Questions.{childFor, graphReading, voxelWalk, corner, pointerTo, cellNonEmpty}
 use Rattle.paper.specs.Answers.{told, outcome}
 use Rattle.paper.specs.Order.{firstOf}
 use Rattle.paper.specs.Calls.{over, questionOrder, voxelOutside, voxelDamaged, voxelOutcome, cellOutside, cellDamaged, cellOutcome, axisOutside, boxOutside, boxDamaged, boxOutcome, outlineBytes, outlineShort, outlineOutOrder, outlineOutcome}
@@ -26,19 +26,17 @@ use Rattle.laws.proofs.Occurring.{same-cell}
 use Rattle.laws.proofs.Invariant.{OkPointer}
 use Rattle.laws.proofs.Adding.{Invs}
 use Rattle.laws.proofs.OutlineCells.{nonEmpty-same}
-use Rattle.laws.proofs.Outlines.{outline-same, read-written, accepted-outline}
+use Rattle.laws.proofs.Outlines.{depth-two, outline-same, read-written, accepted-outline}
 use Rattle.laws.proofs.Refusals.{settled-accepted, question-accepted}
 use Rattle.laws.proofs.Boxes.{box-same}
 use Rattle.laws.proofs.Holding.{Holds, HeldAt, header-ok, scene-ok, below-there, root-room}
 use Rattle.laws.proofs.NoDamage.{voxel-undamaged, cell-undamaged, box-undamaged}
-use Rattle.laws.proofs.CellVoxels.{voxel-means}
-use Rattle.laws.proofs.CellPoints.{pointAt}
+use Rattle.laws.proofs.CellVoxels.{voxel-untested, voxel-means}
+use Rattle.laws.proofs.CellPoints.{pointAt, inside-is}
 use Rattle.laws.proofs.CellWalk.{Ends, leads, ends-nonEmpty}
+use Rattle.laws.proofs.Emptiness.{empty-same, pointer-empty}
 
 -- ---- tests passed
-
-inside-passes : (S : ℕ) (v : Point) → Inside S v → inside S v ≡ true
-inside-passes S v l = rw (lt-ltb (v .x) S (l .inX), lt-ltb (v .y) S (l .inY), lt-ltb (v .z) S (l .inZ))
 
 axis-passes : (S low high : ℕ) → low ≤ high → high ≤ S → axisOutside S low high ≡ false
 axis-passes S low high a b = rw (le-ltb high low a, le-ltb S high b)
@@ -88,16 +86,36 @@ module _ {ws : List ℕ} {held : Held} (s : Holds ws held) (n : ℕ) {sc : Scene
   question-0 : (outside walk : Bool) → outside ≡ false → walk ≡ false → firstOf (questionOrder ws n outside walk) ≡ 0
   question-0 outside walk o w = question-accepted ws n outside walk (header-ok s) (below-there s n (a .below)) (scene-ok s n (a .below)) o w
 
+  -- how big the emptiness is
+  voxel-empty : (v : Point) → Inside (2 ^ sceneDepth ws n) v → voxelDamaged ws n v ≡ false
+      → emptyHeight (voxelWalk (keptOf ws) (sceneDepth ws n) (sceneRoot ws n) v .end) ≡ emptyAt (sc .depth) (sc .room) v
+  unfolding voxelDamaged
+  voxel-empty v m sound =
+      let K : List (List Cell) = keptOf ws in
+      let D : ℕ = sceneDepth ws n in
+      let p : ℕ = sceneRoot ws n in
+      let k : ℕ = D - 2 in
+      let two : suc (suc k) ≡ D = depth-two D deep in
+      let inTop : Inside (edge k) v = subst (λ (d : ℕ). Inside (2 ^ d) v) (sym two) m in
+      ap (λ (w : Walk). emptyHeight (w .end)) (voxel-untested K D p deep v sound)
+      ∙ ap (λ (d : ℕ). emptyHeight (onward d (λ t q. walkIn (graphReading K) k q t v) (childFor p) .end)) (sym two)
+      ∙ pointer-empty K (s .invs) k p (a .means .okp) v inTop
+      ∙ ap (λ (r : Room). emptyUpTo r k v) (sym (root-room K D p deep))
+      ∙ empty-same k D R (sc .room) v (omega (arith, two)) room-is m
+      ∙ ap (λ (d : ℕ). emptyAt d (sc .room) v) (sym depth-is)
+
   -- (d) the voxel
-  pub voxel-answer : (v : Point) → Inside (2 ^ sc .depth) v → voxelOutcome ws n v ≡ outcome (told 0 (bitFor (sc .room v) ∷ [])) []
+  pub voxel-answer : (v : Point) → Inside (2 ^ sc .depth) v
+      → voxelOutcome ws n v ≡ outcome (told 0 (bitFor (sc .room v) ∷ emptyAt (sc .depth) (sc .room) v ∷ [])) []
   unfolding voxelOutcome voxelOutside voxelDamaged
   voxel-answer v l =
       let m : Inside (2 ^ sceneDepth ws n) v = subst (λ (d : ℕ). Inside (2 ^ d) v) depth-is l in
       let W : Walk = voxelWalk (keptOf ws) (sceneDepth ws n) (sceneRoot ws n) v in
       let sound : voxelDamaged ws n v ≡ false = voxel-undamaged s n v (below-there s n (a .below)) in
-      settled-accepted (firstOf (questionOrder ws n (voxelOutside ws n v) (voxelDamaged ws n v))) (bitFor (solidAt (W .end)) ∷ []) [] []
-      (question-0 (voxelOutside ws n v) (voxelDamaged ws n v) (ap not (inside-passes (2 ^ sceneDepth ws n) v m)) sound)
-      ∙ ap (λ (b : Bool). outcome (told 0 (bitFor b ∷ [])) []) (voxel-means (keptOf ws) (sceneDepth ws n) (sceneRoot ws n) deep v sound ∙ room-is v m)
+      settled-accepted (firstOf (questionOrder ws n (voxelOutside ws n v) (voxelDamaged ws n v))) (bitFor (solidAt (W .end)) ∷ emptyHeight (W .end) ∷ []) [] []
+      (question-0 (voxelOutside ws n v) (voxelDamaged ws n v) (ap not (inside-is (2 ^ sceneDepth ws n) v m)) sound)
+      ∙ ap₂ (λ (b : Bool) (h : ℕ). outcome (told 0 (bitFor b ∷ h ∷ [])) []) (voxel-means (keptOf ws) (sceneDepth ws n) (sceneRoot ws n) deep v sound ∙ room-is v m)
+      (voxel-empty v m sound)
 
   -- the cell of height h at c
   pub cell-answer : (h : ℕ) (c : Point) → h ≤ sc .depth → Inside (2 ^ (sc .depth - h)) c
@@ -110,7 +128,7 @@ module _ {ws : List ℕ} {held : Held} (s : Holds ws held) (n : ℕ) {sc : Scene
       let m : Inside (2 ^ (D - h)) c = subst (λ (d : ℕ). Inside (2 ^ (d - h)) c) depth-is l in
       let up : D ≡ h + (D - h) = omega arith in
       let e : 2 ^ D ≡ 2 ^ h * 2 ^ (D - h) = ap (λ (x : ℕ). 2 ^ x) up ∙ pow-add 2 h (D - h) in
-      let out : cellOutside ws n h c ≡ false = rw (le-leb h D hD, inside-passes (2 ^ (D - h)) c m) in
+      let out : cellOutside ws n h c ≡ false = rw (le-leb h D hD, inside-is (2 ^ (D - h)) c m) in
       settled-accepted (firstOf (questionOrder ws n (cellOutside ws n h c) (cellDamaged ws n h c))) (bitFor (cellNonEmpty K D (sceneRoot ws n) h c) ∷ []) [] []
       (question-0 (cellOutside ws n h c) (cellDamaged ws n h c) out (cell-undamaged s n h c (below-there s n (a .below))))
       ∙ ap (λ (b : Bool). outcome (told 0 (bitFor b ∷ [])) [])

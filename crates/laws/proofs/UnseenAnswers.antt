@@ -1,8 +1,8 @@
 -- A call that only reads a store answers the same with other words behind those used. By the order of its tests: what it looks at after a test
 -- is looked at only where that test passed, and there it is the same. Assumes nothing.
-use mathlib.Core.Path.{_≡_, refl, ap, ap₂, _∙_}
+use mathlib.Core.Path.{_≡_, refl, sym, ap, ap₂, _∙_}
 use mathlib.Core.Bool.{Bool, true, false, cond, not, _||_}
-use mathlib.Core.List.{List, [], _∷_, _++_}
+use mathlib.Core.List.{List, [], _∷_, _++_, map}
 use Prim.Native.Nat.{ℕ, _-_, _<_, _≤_, _^_}
 use lib.Dec.{T, eqb, leb, ltb}
 use lib.ListN.{length}
@@ -11,10 +11,10 @@ use Rattle.paper.specs.Rooms.{Point, depthOk, inside}
 use Rattle.paper.specs.Outline.{longest, outlineOf}
 use Rattle.paper.specs.Store.{Cell, mostScenes, used, capacityOf, keptCount, headerOk, sceneOk, storeOk}
 use Rattle.paper.specs.Meaning.{rootRoom}
-use Rattle.paper.specs.Walk.{isDamaged, solidAt}
+use Rattle.paper.specs.Walk.{isDamaged, solidAt, emptyHeight}
 use Rattle.paper.specs.Questions.{voxelWalk, cellNonEmpty, cellWalkDamaged, boxSolid, boxWalkDamaged}
 use Rattle.paper.specs.Pack.{packedFile}
-use Rattle.paper.specs.Answers.{Outcome}
+use Rattle.paper.specs.Answers.{Outcome, told, outcome}
 use Rattle.paper.specs.Order.{when, firstOf, settled}
 use Rattle.paper.specs.Calls.{over, cleared, noScene, ofScene, axisOutside, voxelOutside, voxelDamaged, voxelOutcome, cellOutside, cellDamaged, cellOutcome, boxOutside, boxDamaged, boxOutcome}
 use Rattle.paper.specs.Calls.{keptOutcome, outShort, outlineBytes, outlineShort, outlineOutcome, packScratch, packBytes, packShort, packOutcome}
@@ -23,16 +23,20 @@ use Rattle.laws.proofs.UnseenWords.{capacity-unseen, number-unseen, cou
 
 -- ---- the answers, by what their tests give
 
--- voxel, cell, box: header, no scene, scene, outside, walk, value
-abbrev question : Bool → Bool → Bool → Bool → Bool → ℕ → Outcome
-question h e s o w v = settled (firstOf (when (not h) 2 ∷ when e 9 ∷ when (not s) 2 ∷ when o 10 ∷ when w 2 ∷ [])) (v ∷ []) [] []
+-- voxel, cell, box: header, no scene, scene, outside, walk, values
+abbrev question : Bool → Bool → Bool → Bool → Bool → List ℕ → Outcome
+question h e s o w vs = settled (firstOf (when (not h) 2 ∷ when e 9 ∷ when (not s) 2 ∷ when o 10 ∷ when w 2 ∷ [])) vs [] []
 
-question-same : (h e s s′ o o′ w w′ : Bool) (v v′ : ℕ) → (T h → e ≡ false → (s ≡ s′) × (o ≡ o′) × (w ≡ w′) × (v ≡ v′))
+-- as many zeros as values
+abbrev zerosFor : List ℕ → List ℕ
+zerosFor vs = map (λ v. 0) vs
+
+question-same : (h e s s′ o o′ w w′ : Bool) (v v′ : List ℕ) → zerosFor v ≡ zerosFor v′ → (T h → e ≡ false → (s ≡ s′) × (o ≡ o′) × (w ≡ w′) × (v ≡ v′))
     → question h e s o w v ≡ question h e s′ o′ w′ v′
 unfolding firstOf settled
-question-same false e s s′ o o′ w w′ v v′ q = refl
-question-same true true s s′ o o′ w w′ v v′ q = refl
-question-same true false s s′ o o′ w w′ v v′ q = let p : (s ≡ s′) × (o ≡ o′) × (w ≡ w′) × (v ≡ v′) = q tt refl in λ i. question true false (p .0 i) (p .1 i) (p .2 i) (p .3 i)
+question-same false e s s′ o o′ w w′ v v′ z q = ap (λ (l : List ℕ). outcome (told 2 l) []) z
+question-same true true s s′ o o′ w w′ v v′ z q = ap (λ (l : List ℕ). outcome (told 9 l) []) z
+question-same true false s s′ o o′ w w′ v v′ z q = let p : (s ≡ s′) × (o ≡ o′) × (w ≡ w′) × (v ≡ v′) = q tt refl in λ i. question true false (p .0 i) (p .1 i) (p .2 i) (p .3 i)
 
 -- kept: header, height, count
 abbrev countOf : Bool → Bool → ℕ → Outcome
@@ -86,31 +90,32 @@ module _ (f r : List ℕ) (whole : used (capacityOf f) ≤ length f) where
       let l : n < mostScenes = placed n h e in
       λ i. F (kept-unseen f r whole h i) (depth-unseen f r whole h n l i) (root-unseen f r whole h n l i)
 
-  question-unseen : (n : ℕ) (O W : List (List Cell) → ℕ → ℕ → Bool) (N : List (List Cell) → ℕ → ℕ → ℕ)
+  question-unseen : (n : ℕ) (O W : List (List Cell) → ℕ → ℕ → Bool) (N : List (List Cell) → ℕ → ℕ → List ℕ) (zeros : List ℕ)
+      → ((K : List (List Cell)) (D p : ℕ) → zerosFor (N K D p) ≡ zeros)
       → question (headerOk (f ++ r)) (noScene (f ++ r) n) (sceneOk (f ++ r) n) (ofScene O (f ++ r) n) (ofScene W (f ++ r) n) (ofScene N (f ++ r) n)
       ≡ question (headerOk f) (noScene f n) (sceneOk f n) (ofScene O f n) (ofScene W f n) (ofScene N f n)
-  question-unseen n O W N =
+  question-unseen n O W N zeros z =
       ap₂ (λ (h e : Bool). question h e (sceneOk (f ++ r) n) (ofScene O (f ++ r) n) (ofScene W (f ++ r) n) (ofScene N (f ++ r) n))
       (header-unseen f r whole) (no-scene-unseen n)
       ∙ question-same (headerOk f) (noScene f n) (sceneOk (f ++ r) n) (sceneOk f n) (ofScene O (f ++ r) n) (ofScene O f n) (ofScene W (f ++ r) n) (ofScene W f n)
-      (ofScene N (f ++ r) n) (ofScene N f n)
+      (ofScene N (f ++ r) n) (ofScene N f n) (z _ _ _ ∙ sym (z _ _ _))
       (λ h e. (scene-unseen f r whole h n (placed n h e), scene-part O n h e, scene-part W n h e, scene-part N n h e))
 
   pub voxel-unseen : (n : ℕ) (v : Point) → voxelOutcome (f ++ r) n v ≡ voxelOutcome f n v
   unfolding voxelOutcome voxelOutside voxelDamaged
-  voxel-unseen n v = question-unseen n (λ K D p. not (inside (2 ^ D) v)) (λ K D p. isDamaged (voxelWalk K D p v .end)) (λ K D p. bitFor (solidAt (voxelWalk K D p v .end)))
+  voxel-unseen n v = question-unseen n (λ K D p. not (inside (2 ^ D) v)) (λ K D p. isDamaged (voxelWalk K D p v .end)) (λ K D p. bitFor (solidAt (voxelWalk K D p v .end)) ∷ emptyHeight (voxelWalk K D p v .end) ∷ []) (0 ∷ 0 ∷ []) (λ K D p. refl)
 
   pub cell-unseen : (n h : ℕ) (c : Point) → cellOutcome (f ++ r) n h c ≡ cellOutcome f n h c
   unfolding cellOutcome cellOutside cellDamaged
   cell-unseen n h c =
-      question-unseen n (λ K D p. not (leb h D) || not (inside (2 ^ (D - h)) c)) (λ K D p. cellWalkDamaged K D p h c) (λ K D p. bitFor (cellNonEmpty K D p h c))
+      question-unseen n (λ K D p. not (leb h D) || not (inside (2 ^ (D - h)) c)) (λ K D p. cellWalkDamaged K D p h c) (λ K D p. bitFor (cellNonEmpty K D p h c) ∷ []) (0 ∷ []) (λ K D p. refl)
 
   pub box-unseen : (n : ℕ) (low high : Point) → boxOutcome (f ++ r) n low high ≡ boxOutcome f n low high
   unfolding boxOutcome boxOutside boxDamaged
   box-unseen n low high =
       question-unseen n
       (λ K D p. axisOutside (2 ^ D) (low .x) (high .x) || axisOutside (2 ^ D) (low .y) (high .y) || axisOutside (2 ^ D) (low .z) (high .z))
-      (λ K D p. boxWalkDamaged K D p low high) (λ K D p. boxSolid K D p low high)
+      (λ K D p. boxWalkDamaged K D p low high) (λ K D p. boxSolid K D p low high ∷ []) (0 ∷ []) (λ K D p. refl)
 
   pub kept-answer-unseen : (h : ℕ) → keptOutcome (f ++ r) h ≡ keptOutcome f h
   unfolding keptOutcome

@@ -12,7 +12,7 @@ use lib.Bits.{bitXor, xor-comm, xor-zero-r}
 use lib.Dec.{T, lit<}
 use lib.Pow.{pow-add, pow-pos}
 use lib.ListN.{length, length-map}
-use Rattle.paper.specs.Rooms.{Point, point, Inside, depthOk, mirror, childNo, inChild}
+use Rattle.paper.specs.Rooms.{Point, point, Inside, depthOk, OneCell, mirror, childNo, inChild}
 use Rattle.paper.specs.Outline.{edge}
 use Rattle.paper.specs.Walk.{End, damaged, absent, inLeaf, Step, Walk, damagedWalk, unless, after, pathAfter, isDamaged, emptyHeight, tagsOf, inForce, mirrorIn, Child, none, wrong, to, Reading, onward, walkIn, rootWalk}
 use Rattle.laws.proofs.Eight.{xor8-lt}
@@ -243,12 +243,6 @@ abbrev isAbsent : End → Bool
 isAbsent damaged = false
 isAbsent (absent h) = true
 isAbsent (inLeaf n u) = false
-
--- v and w lie in one cell of height h
-pub record OneCell (h : ℕ) (v w : Point) : Type 0 where
-  pub oneX : v .x / 2 ^ h ≡ w .x / 2 ^ h
-  pub oneY : v .y / 2 ^ h ≡ w .y / 2 ^ h
-  pub oneZ : v .z / 2 ^ h ≡ w .z / 2 ^ h
 
 -- it lies below what was entered
 absent-step : (b : Bool) (s : Step) (n h : ℕ) (f : ℕ → ℕ → Walk) (c : Child) → ((t p : ℕ) → f t p .end ≡ absent h → h < n) → unless b (after s (onward n f c)) .end ≡ absent h → h < suc n

@@ -163,7 +163,7 @@ pub fn open<'a>(file: &'a [u8]) -> Opening<'a>
     }
 }
 
-// A question on an opened scene: whether a point is solid, with the number of records read; refused by 6, then as packed voxel.
+// A question on an opened scene: refused by 6, then as packed voxel.
 pub fn ask<'a>(scene: Opened<'a>, x: u32, y: u32, z: u32) -> Found
     ensures { λ r. ⌜ AskPromise (now (scene .entry .bytes)) (scene .entry .depth) (scene .entry .starts) (point x y z) r ⌝ }
 {

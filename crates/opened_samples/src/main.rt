@@ -1,22 +1,29 @@
 // Samples of opened scenes: a line for each question on a scene opened for it, with the refusal's number (0 where accepted),
-// 1 for solid or 0 for empty, and the records read.
+// 1 for solid or 0 for empty, the records read, and the height of the emptiness.
 ghost use Prim.Native.Nat.{_<_};
 use paper::Found;
 
 // One line of output.
-fn line(number: u32, solid: u32, records: u32) {
+fn line(number: u32, solid: u32, records: u32, height: u32) {
     io::write_all(1, b"ask ");
     io::print_decimal(1, number as u64);
     io::write_all(1, b" ");
     io::print_decimal(1, solid as u64);
     io::write_all(1, b" ");
     io::print_decimal(1, records as u64);
+    io::write_all(1, b" ");
+    io::print_decimal(1, height as u64);
     io::write_all(1, b"\n");
 }
 
 // Shows an answer.
 fn show(answer: Found) {
-    line(answer.number(), answer.value(), answer.records());
+    line(
+        answer.number(),
+        answer.value(),
+        answer.records(),
+        answer.height(),
+    );
 }
 
 // Opens, asks, and shows the answer.

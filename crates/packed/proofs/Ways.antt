@@ -10,7 +10,7 @@ use Rattle.paper.specs.Numbers.{bitFor, num}
 use Rattle.paper.specs.Rooms.{Point, least, deepest}
 use Rattle.paper.specs.Outline.{fileDepth}
 use Rattle.paper.specs.Leaf.{leafVoxel}
-use Rattle.paper.specs.Walk.{End, damaged, absent, inLeaf, isDamaged, solidAt}
+use Rattle.paper.specs.Walk.{End, damaged, absent, inLeaf, isDamaged, solidAt, emptyHeight}
 use Rattle.paper.specs.Packed.{packedVersion, packedHead, headOk, fileWalk}
 use Rattle.paper.specs.Answers.{Outcome, told, outcome, numberOf, found}
 use Rattle.paper.specs.Order.{Test, when, firstOf, settled}
@@ -47,16 +47,16 @@ tested bs h ok =
 
 -- ---- the outcome by the tests: outside; broken
 
-abbrev by-tests : ℕ → ℕ → Bool → Bool → Outcome
-by-tests s n o w = settled (firstOf (when o (numberOf Outside) ∷ when w (numberOf BrokenRules) ∷ [])) (s ∷ n ∷ []) [] []
+abbrev by-tests : List ℕ → Bool → Bool → Outcome
+by-tests values o w = settled (firstOf (when o (numberOf Outside) ∷ when w (numberOf BrokenRules) ∷ [])) values [] []
 
-end-found : (e : End) (n : ℕ) → outcome (found (foundBy e n)) [] ≡ by-tests (bitFor (solidAt e)) n false (isDamaged e)
+end-found : (e : End) (n : ℕ) → outcome (found (foundBy e n)) [] ≡ by-tests (bitFor (solidAt e) ∷ n ∷ emptyHeight e ∷ []) false (isDamaged e)
 unfolding firstOf settled
 end-found damaged n = refl
 end-found (absent h) n = refl
 end-found (inLeaf b u) n = go (leafVoxel b u)
   where
-    go : (t : Bool) → outcome (found (solidOr t n)) [] ≡ by-tests (bitFor t) n false false
+    go : (t : Bool) → outcome (found (solidOr t n)) [] ≡ by-tests (bitFor t ∷ n ∷ 0 ∷ []) false false
     go true = refl
     go false = refl
 
@@ -69,20 +69,14 @@ module _ (bs : List ℕ) (v : Point) where
   unfolding packedVoxelOutcome
   bad-bytes r n e f ne =
       let stops : firstOf (packedVoxelOrder bs v) ≡ headNumber packedVersion packedHead bs = head-stops packedVersion packedHead bs later (λ z. ne (f ∙ z)) in
-      ap (λ (m : ℕ). outcome (told m (0 ∷ 0 ∷ [])) []) (e ∙ f ∙ sym stops)
+      ap (λ (m : ℕ). outcome (told m (0 ∷ 0 ∷ 0 ∷ [])) []) (e ∙ f ∙ sym stops)
       ∙ sym (settled-refused (firstOf (packedVoxelOrder bs v)) (packedValues bs v) [] [] (λ z. ne (f ∙ sym stops ∙ z)))
 
   module _ (h : Headed packedVersion packedHead bs) where
-    abbrev solid : ℕ
-    solid = bitFor (solidAt (fileWalk bs v .end))
-
-    abbrev records : ℕ
-    records = length (fileWalk bs v .path)
-
-    rest : (o w : Bool) → packedOutside bs v ≡ o → packedBroken bs v ≡ w → by-tests solid records o w ≡ packedVoxelOutcome bs v
+    rest : (o w : Bool) → packedOutside bs v ≡ o → packedBroken bs v ≡ w → by-tests (packedValues bs v) o w ≡ packedVoxelOutcome bs v
     unfolding packedVoxelOutcome
     rest o w eo ew =
-        ap₂ (by-tests solid records) (sym eo) (sym ew)
+        ap₂ (by-tests (packedValues bs v)) (sym eo) (sym ew)
         ∙ ap (λ (n : ℕ). settled n (packedValues bs v) [] []) (sym (head-goes-on packedVersion packedHead bs later h))
 
     pub far-out : packedOutside bs v ≡ true → outcome (found (Refused Outside)) [] ≡ packedVoxelOutcome bs v
@@ -95,4 +89,4 @@ module _ (bs : List ℕ) (v : Point) where
 
     pub walked : packedOutside bs v ≡ false → (r : Found) → r ≡ foundAt (endingOf (fileWalk bs v)) → outcome (found r) [] ≡ packedVoxelOutcome bs v
     unfolding packedBroken
-    walked o r e = ap (λ (x : Found). outcome (found x) []) e ∙ end-found (fileWalk bs v .end) records ∙ rest false (isDamaged (fileWalk bs v .end)) o refl
+    walked o r e = ap (λ (x : Found). outcome (found x) []) e ∙ end-found (fileWalk bs v .end) (length (fileWalk bs v .path)) ∙ rest false (isDamaged (fileWalk bs v .end)) o refl

@@ -72,11 +72,11 @@ leafEnding l p m n = let b : ℕ = leafNo (leafAt l p) in cond (eqb b 0) Broken 
 -- the answer for it
 abbrev pub solidOr : Bool → ℕ → Found
 solidOr true n = Solid n
-solidOr false n = Empty n
+solidOr false n = Empty n 0
 
 abbrev pub foundBy : End → ℕ → Found
 foundBy damaged n = Refused BrokenRules
-foundBy (absent h) n = Empty n
+foundBy (absent h) n = Empty n h
 foundBy (inLeaf b u) n = solidOr (leafVoxel b u) n
 
 abbrev pub foundAt : Ending → Found

@@ -383,12 +383,12 @@ fn answer(end: Ended, x: u32, y: u32, z: u32) -> Found
 {
     match end {
         Ended::Broken => Found::Refused(Refusal::BrokenRules),
-        Ended::Absent(height, n) => Found::Empty(n),
+        Ended::Absent(height, n) => Found::Empty(n, height),
         Ended::InLeaf(bits, mirror, n) => {
             if leaf_solid(bits, mirror, x, y, z) {
                 Found::Solid(n)
             } else {
-                Found::Empty(n)
+                Found::Empty(n, 0)
             }
         }
     }
@@ -403,7 +403,7 @@ fn found_in(file: &[u8], starts: [u32; 15], x: u32, y: u32, z: u32) -> Found
 {
     let mark = file[MIRROR_POSITION];
     if mark == EMPTY_MARK {
-        return Found::Empty(0);
+        return Found::Empty(0, wide(file[DEPTH_POSITION]));
     }
     let last = starts[0] as usize;
     let leaves = &file[last..];
@@ -416,7 +416,7 @@ fn found_in(file: &[u8], starts: [u32; 15], x: u32, y: u32, z: u32) -> Found
     )
 }
 
-// Packed voxel: whether a point is solid, with the number of records read; refused by 3, 4, 5, 10, 6.
+// Packed voxel: whether a point is solid, with the number of records read and the height of the emptiness; refused by 3, 4, 5, 10, 6.
 pub fn packed_voxel(file: &[u8], x: u32, y: u32, z: u32) -> Found
     ensures { λ r. ⌜ outcome (found r) [] ≡ packedVoxelOutcome (now (file .entry)) (point x y z) ⌝ }
 {

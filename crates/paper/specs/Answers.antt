@@ -1,4 +1,4 @@
--- The answers of the calls, read as document 01's number and values ('any answer that is an enum'). An accepted call has number 0; a refusal has its
+-- The answers of the calls, read as the documents' number and values ('any answer that is an enum'). An accepted call has number 0; a refusal has its
 -- own in the table, and zeros for values. Definitions only.
 use mathlib.Core.List.{List, [], _∷_}
 use Prim.Native.Nat.{ℕ}
@@ -51,11 +51,11 @@ abbrev pub added : Added → Told
 added (Added.Scene n) = told 0 (n ∷ [])
 added (Added.Refused r) = told (numberOf r) (0 ∷ [])
 
--- voxel: 1 for solid, 0 for empty
+-- voxel: 1 for solid, 0 for empty, then the height of the emptiness
 abbrev pub seen : Seen → Told
-seen Seen.Solid = told 0 (1 ∷ [])
-seen Seen.Empty = told 0 (0 ∷ [])
-seen (Seen.Refused r) = told (numberOf r) (0 ∷ [])
+seen Seen.Solid = told 0 (1 ∷ 0 ∷ [])
+seen (Seen.Empty h) = told 0 (0 ∷ h ∷ [])
+seen (Seen.Refused r) = told (numberOf r) (0 ∷ 0 ∷ [])
 
 -- cell: 1 for non-empty, 0 for empty
 abbrev pub occupied : Occupied → Told
@@ -83,11 +83,11 @@ abbrev pub checked : Checked → Told
 checked (Checked.Depth d) = told 0 (d ∷ [])
 checked (Checked.Refused r) = told (numberOf r) (0 ∷ [])
 
--- packed voxel: 1 for solid, 0 for empty, then the records read
+-- packed voxel: 1 for solid, 0 for empty, then the records read, then the height of the emptiness
 abbrev pub found : Found → Told
-found (Found.Solid n) = told 0 (1 ∷ n ∷ [])
-found (Found.Empty n) = told 0 (0 ∷ n ∷ [])
-found (Found.Refused r) = told (numberOf r) (0 ∷ 0 ∷ [])
+found (Found.Solid n) = told 0 (1 ∷ n ∷ 0 ∷ [])
+found (Found.Empty n h) = told 0 (0 ∷ n ∷ h ∷ [])
+found (Found.Refused r) = told (numberOf r) (0 ∷ 0 ∷ 0 ∷ [])
 
 -- detail: the height
 abbrev pub chosen : Chosen → Told

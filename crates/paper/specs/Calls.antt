@@ -1,4 +1,4 @@
--- The calls of document 01 (detail is in Detail): for each its refusals in their order, and its whole outcome: number, values, and every slice lent for
+-- The calls of document 01, as document 02 changes them (detail is in Detail): for each its refusals in their order, and its whole outcome: number, values, and every slice lent for
 -- writing, to its last element, as the call leaves it. Definitions only. Slices lent for reading only never change.
 -- Words (ws, scratch of pack) and bytes (files, out, scratch of check) are lists of numbers.
 use mathlib.Core.Bool.{Bool, true, false, cond, not, _&&_, _||_}
@@ -12,7 +12,7 @@ use Rattle.paper.specs.Outline.{outlineVersion, outlineHead, longest, ou
 use Rattle.paper.specs.Store.{Cell, Store, mostScenes, used, capacityOf, scenesHeld, isHeld, keptCount, capacityOk, keptOf, storeOf, wordsOf, sceneDepth, sceneRoot, headerOk, sceneOk, storeOk}
 use Rattle.paper.specs.Meaning.{rootRoom}
 use Rattle.paper.specs.Match.{Adding, full, added, addTree}
-use Rattle.paper.specs.Walk.{isDamaged, solidAt}
+use Rattle.paper.specs.Walk.{End, isDamaged, solidAt, emptyHeight}
 use Rattle.paper.specs.Questions.{voxelWalk, cellNonEmpty, cellWalkDamaged, boxSolid, boxWalkDamaged}
 use Rattle.paper.specs.Packed.{packedVersion, packedHead, headOk, packedRules, fileWalk, startsOf}
 use Rattle.paper.specs.Pack.{packedFile}
@@ -120,10 +120,11 @@ voxelOutside ws n v = not (inside (2 ^ sceneDepth ws n) v)
 unfoldable pub voxelDamaged : List ℕ → ℕ → Point → Bool
 voxelDamaged ws n v = isDamaged (ofScene voxelWalk ws n v .end)
 
+-- the voxel, and the height of the emptiness (document 02, request 2)
 unfoldable pub voxelOutcome : List ℕ → ℕ → Point → Outcome
 voxelOutcome ws n v =
-    let value : ℕ = bitFor (solidAt (ofScene voxelWalk ws n v .end)) in
-    settled (firstOf (questionOrder ws n (voxelOutside ws n v) (voxelDamaged ws n v))) (value ∷ []) [] []
+    let end : End = ofScene voxelWalk ws n v .end in
+    settled (firstOf (questionOrder ws n (voxelOutside ws n v) (voxelDamaged ws n v))) (bitFor (solidAt end) ∷ emptyHeight end ∷ []) [] []
 
 -- the height is above the room's, or no cell of that height has these coordinates
 unfoldable pub cellOutside : List ℕ → ℕ → ℕ → Point → Bool
@@ -249,8 +250,9 @@ packedBroken file v = isDamaged (fileWalk file v .end)
 abbrev pub packedVoxelOrder : List ℕ → Point → List Test
 packedVoxelOrder file v = packedOrder file (when (packedOutside file v) 10 ∷ when (packedBroken file v) 6 ∷ [])
 
+-- the voxel, the records read, and the height of the emptiness (document 02, request 2)
 abbrev pub packedValues : List ℕ → Point → List ℕ
-packedValues file v = bitFor (solidAt (fileWalk file v .end)) ∷ length (fileWalk file v .path) ∷ []
+packedValues file v = bitFor (solidAt (fileWalk file v .end)) ∷ length (fileWalk file v .path) ∷ emptyHeight (fileWalk file v .end) ∷ []
 
 unfoldable pub packedVoxelOutcome : List ℕ → Point → Outcome
 packedVoxelOutcome file v = settled (firstOf (packedVoxelOrder file v)) (packedValues file v) [] []

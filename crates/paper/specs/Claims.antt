@@ -1,4 +1,4 @@
--- The claims C1 to C12, document 01's demands, as types. This file states all and proves none; docs/READING.md says where each is proved.
+-- The claims C1 to C12, the demands of documents 01 and 02, as types. This file states all and proves none; docs/READING.md says where each is proved.
 -- A claim that speaks of a call speaks of its outcome function (Calls, Detail); the promise of the call ties the code to that function.
 use mathlib.Core.Bool.{true, false, cond}
 use mathlib.Core.List.{List, [], _∷_}
@@ -13,7 +13,7 @@ use lib.Ieee.Exact.{HasValue}
 use lib.Ieee.Positive.{num, den}
 use lib.ListN.{length, take, drop, getD}
 use Rattle.paper.specs.Numbers.{allIn, bitFor, isIn}
-use Rattle.paper.specs.Rooms.{Point, Room, deepest, depthOk, Inside, cellOf, childRoom, mirror, mirrored, Same, Image, NonEmpty, boxCount, nonEmpty}
+use Rattle.paper.specs.Rooms.{Point, Room, deepest, depthOk, Inside, cellOf, OneCell, cellAround, childRoom, mirror, mirrored, Same, Image, NonEmpty, boxCount, nonEmpty, emptyAt}
 use Rattle.paper.specs.Outline.{edge, IsOutline, outlineOf, fileDepth, fileRoom}
 use Rattle.paper.specs.Store.{Cell, leafNo, tagOf, cellNo, anyBad, capacityOf, isHeld, keptOf, cellsAt, cellAt}
 use Rattle.paper.specs.Meaning.{cellVoxel, rootRoom}
@@ -82,9 +82,9 @@ pub record Demand3 (s : State) : Type 0 where
   pub apart : (k q r : ℕ) → r < q → q < length (cellsAt (keptOf (s .words)) k) → ¬ Image (edge k) (keptRoom (s .words) k q) (keptRoom (s .words) k r)
   -- (c) every kept cell occurs in an accepted scene, itself, unmirrored, at an aligned place
   pub occur : (k q : ℕ) → q < length (cellsAt (keptOf (s .words)) k) → Occurs (s .held) (suc (suc k)) (keptRoom (s .words) k q)
-  -- (d) each accepted scene answers every voxel as its outline does
+  -- (d) each accepted scene answers every voxel as its outline does, with the height that the room's voxels give (`emptyAt`)
   pub voxels : (n : ℕ) (sc : Scene) (v : Point) → s .held n ≡ some sc → Inside (2 ^ sc .depth) v
-      → voxelOutcome (s .words) n v ≡ outcome (told 0 (bitFor (sc .room v) ∷ [])) []
+      → voxelOutcome (s .words) n v ≡ outcome (told 0 (bitFor (sc .room v) ∷ emptyAt (sc .depth) (sc .room) v ∷ [])) []
   -- (e) an outline that meets no earlier refusal is refused by 8 exactly when the cells of the accepted scenes and its own outnumber C
   pub capacity : (file : List ℕ) → Bytes file → outlineRefusal file ≡ 0 → scenesFull (s .words) ≡ false
       → (addOutcome (s .words) file .number ≡ 8) ↔ Outnumbered (holding (nextScene (s .words)) (sceneOf file) (s .held)) (s .capacity)
@@ -132,9 +132,9 @@ pub record Packs (s : State) (n : ℕ) (sc : Scene) (file : List ℕ) : Type 0 w
   -- check accepts it
   pub checks : (scratch : List ℕ) → length file ≤ length scratch
       → checkOutcome file scratch ≡ outcome (told 0 (sc .depth ∷ [])) (cleared (length file) scratch ∷ [])
-  -- packed voxel on it gives the room's voxel
+  -- packed voxel on it gives the room's voxel and the height of its emptiness
   pub voxels : (v : Point) → Inside (2 ^ sc .depth) v
-      → packedVoxelOutcome file v ≡ outcome (told 0 (bitFor (sc .room v) ∷ packedPath file v ∷ [])) []
+      → packedVoxelOutcome file v ≡ outcome (told 0 (bitFor (sc .room v) ∷ packedPath file v ∷ emptyAt (sc .depth) (sc .room) v ∷ [])) []
   -- its records of each height are as many as the scene's differing non-empty cells there, images counted once
   pub counts : (k : ℕ) → suc (suc k) ≤ sc .depth → Number (alone (sc .depth) (sc .room)) (suc (suc k)) (recordsAt file k)
   -- and every proper file that means the room has just as many
@@ -179,10 +179,10 @@ pub record RecordsDiffer (file : List ℕ) : Type 0 where
 pub record C7 : Type 0 where
   -- check answers 0 exactly on proper files (with scratch enough to look)
   pub checked : (file scratch : List ℕ) → Bytes file → (checkOutcome file scratch .number ≡ 0) ↔ ((proper file ≡ true) × (length file ≤ length scratch))
-  -- on a proper file the packed voxel never refuses a point inside, gives the voxel of the room that the file means, and its number of records
-  -- is the length of the path in the definition
+  -- on a proper file the packed voxel never refuses a point inside, gives the voxel of the room that the file means and how big the emptiness is,
+  -- and its number of records is the length of the path in the definition
   pub asked : (file : List ℕ) (v : Point) → Bytes file → proper file ≡ true → Inside (2 ^ fileDepth file) v
-      → packedVoxelOutcome file v ≡ outcome (told 0 (bitFor (packedRoom file v) ∷ packedPath file v ∷ [])) []
+      → packedVoxelOutcome file v ≡ outcome (told 0 (bitFor (packedRoom file v) ∷ packedPath file v ∷ emptyAt (fileDepth file) (packedRoom file) v ∷ [])) []
   -- its records differ by voxels
   pub differ : (file : List ℕ) → Bytes file → proper file ≡ true → isEmpty file ≡ false → RecordsDiffer file
   -- its records of each height are as many as the differing non-empty cells of the room that it means, images counted once
@@ -196,9 +196,9 @@ pub record C7 : Type 0 where
       → graphOf file ≡ graphOf file′ → file ≡ file′
   -- it opens
   pub opened : (file : List ℕ) → proper file ≡ true → openOutcome file ≡ outcome (told 0 (fileDepth file ∷ startsOf file)) (file ∷ [])
-  -- and a question on the opened scene gives its room's voxel
+  -- and a question on the opened scene gives its room's voxel and the height of its emptiness
   pub questioned : (file : List ℕ) (v : Point) → Bytes file → proper file ≡ true → Inside (2 ^ fileDepth file) v
-      → askOutcome file (fileDepth file) (startsOf file) v ≡ outcome (told 0 (bitFor (packedRoom file v) ∷ packedPath file v ∷ [])) []
+      → askOutcome file (fileDepth file) (startsOf file) v ≡ outcome (told 0 (bitFor (packedRoom file v) ∷ packedPath file v ∷ emptyAt (fileDepth file) (packedRoom file) v ∷ [])) []
 
 -- ---- C8, opened scenes
 
@@ -208,7 +208,7 @@ pub record C8 : Type 0 where
       → (part ≡ file) × (askOutcome part D starts v ≡ packedVoxelOutcome file v)
   -- and one on a refused opening is refused by 6
   pub refused : (file part starts : List ℕ) (n D : ℕ) (v : Point) → openOutcome file ≡ outcome (told (suc n) (D ∷ starts)) (part ∷ [])
-      → (part ≡ []) × (askOutcome part D starts v ≡ outcome (told 6 (0 ∷ 0 ∷ [])) [])
+      → (part ≡ []) × (askOutcome part D starts v ≡ outcome (told 6 (0 ∷ 0 ∷ 0 ∷ [])) [])
 
 -- ---- C9, detail: the floats that the code compares, against whole numbers
 
@@ -263,8 +263,21 @@ pub record C11 : Type 0 where
   pub check-scratch : (file scratch : List ℕ)
       → getD (checkOutcome file scratch .lent) 0 [] ≡ cond (isIn (checkOutcome file scratch .number) (0 ∷ 6 ∷ [])) (cleared (length file) scratch) scratch
 
--- ---- C12, what a walk tells, on any words
+-- ---- C12, what a walk tells, on any words and bytes; and what `emptyAt` says of a room
 
 pub record C12 : Type 0 where
   -- a voxel that a store answers is the one that its cells mean, whoever wrote them
-  pub means : (ws : List ℕ) (n : ℕ) (v : Point) → voxelOutcome ws n v .number ≡ 0 → voxelOutcome ws n v ≡ outcome (told 0 (bitFor (ofScene rootRoom ws n v) ∷ [])) []
+  pub means : (ws : List ℕ) (n : ℕ) (v : Point) → voxelOutcome ws n v .number ≡ 0 → getD (voxelOutcome ws n v .values) 0 0 ≡ bitFor (ofScene rootRoom ws n v)
+  -- document 02, request 2: an empty answer with height h is a whole cell's: each point in one cell of height h with v gets the same, records included
+  pub shared : (ws : List ℕ) (n h : ℕ) (v w : Point) → voxelOutcome ws n v ≡ outcome (told 0 (0 ∷ h ∷ [])) [] → OneCell h v w → voxelOutcome ws n w ≡ voxelOutcome ws n v
+  pub packed-shared : (file : List ℕ) (m h : ℕ) (v w : Point) → packedVoxelOutcome file v ≡ outcome (told 0 (0 ∷ m ∷ h ∷ [])) [] → OneCell h v w
+      → packedVoxelOutcome file w ≡ packedVoxelOutcome file v
+  pub ask-shared : (file starts : List ℕ) (D m h : ℕ) (v w : Point) → askOutcome file D starts v ≡ outcome (told 0 (0 ∷ m ∷ h ∷ [])) [] → OneCell h v w
+      → askOutcome file D starts w ≡ askOutcome file D starts v
+  -- what C4, C6 and C7 say by `emptyAt`: it is 0 exactly where v's leaf is non-empty, or else from 2 up to the depth
+  pub leaf : (D : ℕ) (r : Room) (v : Point) → (emptyAt D r v ≡ 0) ↔ NonEmpty (2 ^ 2) (cellAround r 2 v)
+  pub range : (D : ℕ) (r : Room) (v : Point) → T (depthOk D) → ¬ (emptyAt D r v ≡ 0) → (2 ≤ emptyAt D r v) × (emptyAt D r v ≤ D)
+  -- where v is empty, so is the cell of that height around it: in a non-empty leaf the voxel alone
+  pub empty : (D : ℕ) (r : Room) (v : Point) → r v ≡ false → ¬ NonEmpty (2 ^ emptyAt D r v) (cellAround r (emptyAt D r v) v)
+  -- and from height 2 up it is the greatest: the cell one height up around v, unless the height is the depth, is non-empty
+  pub greatest : (D : ℕ) (r : Room) (v : Point) → ¬ (emptyAt D r v ≡ 0) → emptyAt D r v < D → NonEmpty (2 ^ suc (emptyAt D r v)) (cellAround r (suc (emptyAt D r v)) v)

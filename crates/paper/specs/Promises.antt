@@ -1,4 +1,4 @@
--- The promise of each public call: the outcome read from its answer is document 01's. First what the call is given, then its answer, then each slice
+-- The promise of each public call: the outcome read from its answer is the documents'. First what the call is given, then its answer, then each slice
 -- lent for writing as the call leaves it. The calls' `ensures` and the theorems of one outcome both cite these. Definitions only.
 use mathlib.Core.Path.{_≡_}
 use mathlib.Core.List.{List, [], _∷_}

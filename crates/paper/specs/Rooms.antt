@@ -1,8 +1,9 @@
--- Document 01, 'Rooms and mirrors', by coordinates: rooms, cells, mirrors, images, non-empty, how much is solid in a box. Definitions only.
+-- Document 01, 'Rooms and mirrors', by coordinates: rooms, cells, mirrors, images, non-empty, how much is solid in a box; document 02, request 2: how
+-- big the emptiness is. Definitions only.
 -- A room is a question on three coordinates; a cell of it is that question restricted and shifted. Nothing here speaks of trees or pointers.
 use mathlib.Core.Bool.{Bool, true, false, cond, _&&_}
 use mathlib.Core.Path.{_≡_}
-use Prim.Native.Nat.{ℕ, _+_, _-_, _*_, _/_, _%_, _^_, _<_}
+use Prim.Native.Nat.{ℕ, zero, suc, _+_, _-_, _*_, _/_, _%_, _^_, _<_}
 use lib.Dec.{eqb, leb, ltb}
 use Rattle.paper.specs.Numbers.{anyBelow, sum, bitFor}
 
@@ -43,6 +44,16 @@ pub record Inside (S : ℕ) (v : Point) : Type 0 where
 -- the cell of height h at c, c counted in cells of that height
 abbrev pub cellOf : Room → ℕ → Point → Room
 cellOf r h c v = r (point (c .x * 2 ^ h + v .x) (c .y * 2 ^ h + v .y) (c .z * 2 ^ h + v .z))
+
+-- v and w lie in one cell of height h
+pub record OneCell (h : ℕ) (v w : Point) : Type 0 where
+  pub oneX : v .x / 2 ^ h ≡ w .x / 2 ^ h
+  pub oneY : v .y / 2 ^ h ≡ w .y / 2 ^ h
+  pub oneZ : v .z / 2 ^ h ≡ w .z / 2 ^ h
+
+-- the cell of height h that holds v
+abbrev pub cellAround : Room → ℕ → Point → Room
+cellAround r h v = cellOf r h (point (v .x / 2 ^ h) (v .y / 2 ^ h) (v .z / 2 ^ h))
 
 -- ---- children ('eight children'), numbered by three bits, the lowest for x: a bit is 1 in the upper half of its axis
 
@@ -109,3 +120,17 @@ boxCount S r low high = sum3 S (λ v. cond (inBox low high v) (bitFor (r v)) 0)
 -- some voxel of a cube of edge S is solid: the test of NonEmpty
 unfoldable pub nonEmpty : ℕ → Room → Bool
 nonEmpty S r = anyBelow S (λ c. anyBelow S (λ b. anyBelow S (λ a. r (point a b c))))
+
+-- ---- document 02, request 2 ('how big the emptiness is'), of voxels
+
+-- the height of the greatest empty cell that holds v, of heights k + 2 down to 2; 0 where v's leaf is non-empty
+unfoldable pub emptyUpTo : Room → ℕ → Point → ℕ
+emptyUpTo r zero v = cond (nonEmpty (2 ^ 2) (cellAround r 2 v)) 0 2
+emptyUpTo r (suc k) v =
+    let h : ℕ = suc (suc (suc k)) in
+    let lower : ℕ = emptyUpTo r k v in
+    cond (nonEmpty (2 ^ h) (cellAround r h v)) lower h
+
+-- the height of the emptiness at v, by the voxels of a room of depth D
+abbrev pub emptyAt : ℕ → Room → Point → ℕ
+emptyAt D r v = emptyUpTo r (D - 2) v

@@ -1,5 +1,5 @@
 -- Document 01, 'Samples': S1 to S12 as one list, each computed by the outcome functions on words and bytes. A sample is what is got beside what
--- document 01 says. Definitions only: the claim that all hold is C10.
+-- document 01 says, the heights of emptiness by document 02, request 2. Definitions only: the claim that all hold is C10.
 use mathlib.Core.Bool.{Bool, false, cond, not}
 use mathlib.Core.List.{List, [], _∷_, _++_}
 use Prim.Native.Nat.{ℕ, _+_, _*_, _%_}
@@ -13,7 +13,7 @@ use Rattle.paper.specs.Store.{used, tagOf, sceneDepth, sceneRoot}
 use Rattle.paper.specs.Match.{matches, leafCell}
 use Rattle.paper.specs.Answers.{Outcome}
 use Rattle.paper.specs.Detail.{detailOutcome}
-use Rattle.paper.specs.Calls.{newOutcome, addOutcome, boxOutcome, keptOutcome, packOutcome, packScratch, packedVoxelOutcome}
+use Rattle.paper.specs.Calls.{newOutcome, addOutcome, voxelOutcome, boxOutcome, keptOutcome, packOutcome, packScratch, packedVoxelOutcome}
 use Rattle.paper.specs.declared.Wish.the-variants.{WidestEdge, Distance}
 
 -- what is got, what is said
@@ -92,10 +92,10 @@ s1 roomPacked packed =
 -- of those bytes
 abbrev pub s2-s5 : List ℕ → List Sample
 s2-s5 packed =
-    answer (packedVoxelOutcome packed (point 7 0 0)) is (0 ∷ 1 ∷ 2 ∷ [])
-    ∷ answer (packedVoxelOutcome packed (point 4 0 0)) is (0 ∷ 0 ∷ 2 ∷ [])
-    ∷ answer (packedVoxelOutcome packed (point 0 4 0)) is (0 ∷ 0 ∷ 1 ∷ [])
-    ∷ answer (packedVoxelOutcome packed (point 8 0 0)) is (10 ∷ 0 ∷ 0 ∷ [])
+    answer (packedVoxelOutcome packed (point 7 0 0)) is (0 ∷ 1 ∷ 2 ∷ 0 ∷ [])
+    ∷ answer (packedVoxelOutcome packed (point 4 0 0)) is (0 ∷ 0 ∷ 2 ∷ 0 ∷ [])
+    ∷ answer (packedVoxelOutcome packed (point 0 4 0)) is (0 ∷ 0 ∷ 1 ∷ 2 ∷ [])
+    ∷ answer (packedVoxelOutcome packed (point 8 0 0)) is (10 ∷ 0 ∷ 0 ∷ 0 ∷ [])
     ∷ []
 
 -- of the store with that room
@@ -133,12 +133,13 @@ s10-s11 =
     ∷ distant (whole 5 1) (whole 3 0) is (0 ∷ 1 ∷ [])
     ∷ []
 
--- accepted; its scene's two words: depth 2, no root; nothing solid
+-- accepted; its scene's two words: depth 2, no root; nothing solid, and the emptiness is the whole room
 abbrev pub s12 : Outcome → List ℕ → List Sample
 s12 first ws =
     answer first is (0 ∷ 0 ∷ [])
     ∷ (sceneDepth ws 0 ∷ sceneRoot ws 0 ∷ []) is (2 ∷ 0 ∷ [])
     ∷ answer (boxOutcome ws 0 (point 0 0 0) (point 4 4 4)) is (0 ∷ 0 ∷ [])
+    ∷ answer (voxelOutcome ws 0 (point 3 3 3)) is (0 ∷ 0 ∷ 2 ∷ [])
     ∷ []
 
 unfoldable pub samples : List Sample

@@ -56,7 +56,7 @@ solidAt damaged = false
 solidAt (absent h) = false
 solidAt (inLeaf n u) = leafVoxel n u
 
--- the height of the absent child; 0 in a leaf
+-- document 02, request 2 ('ended the walk'): the height of the absent child; 0 in a leaf
 abbrev pub emptyHeight : End → ℕ
 emptyHeight damaged = 0
 emptyHeight (absent h) = h

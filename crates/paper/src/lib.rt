@@ -91,10 +91,10 @@ impl Added {
     }
 }
 
-// Voxel.
+// Voxel: an empty one with the height of its emptiness: of the child that isn't there, 0 in a leaf.
 pub enum Seen {
     Solid,
-    Empty,
+    Empty(u32),
     Refused(Refusal),
 }
 
@@ -105,7 +105,7 @@ impl Seen {
     {
         match self {
             Seen::Solid => 0,
-            Seen::Empty => 0,
+            Seen::Empty(_) => 0,
             Seen::Refused(why) => why.number(),
         }
     }
@@ -116,7 +116,18 @@ impl Seen {
     {
         match self {
             Seen::Solid => 1,
-            Seen::Empty => 0,
+            Seen::Empty(_) => 0,
+            Seen::Refused(_) => 0,
+        }
+    }
+
+    // The height of the emptiness; 0 in a leaf, for solid and on a refusal.
+    pub fn height(self) -> u32
+        ensures { λ r. ⌜ r ≡ getD (seen self .values) 1 0 ⌝ }
+    {
+        match self {
+            Seen::Solid => 0,
+            Seen::Empty(h) => h,
             Seen::Refused(_) => 0,
         }
     }
@@ -265,10 +276,11 @@ impl Checked {
     }
 }
 
-// Packed voxel, and a question on an opened scene: with the number of records read.
+// Packed voxel, and a question on an opened scene: with the number of records read and, of an empty one, the height of its
+// emptiness: of the child that isn't there, 0 in a leaf.
 pub enum Found {
     Solid(u32),
-    Empty(u32),
+    Empty(u32, u32),
     Refused(Refusal),
 }
 
@@ -279,7 +291,7 @@ impl Found {
     {
         match self {
             Found::Solid(_) => 0,
-            Found::Empty(_) => 0,
+            Found::Empty(_, _) => 0,
             Found::Refused(why) => why.number(),
         }
     }
@@ -290,7 +302,7 @@ impl Found {
     {
         match self {
             Found::Solid(_) => 1,
-            Found::Empty(_) => 0,
+            Found::Empty(_, _) => 0,
             Found::Refused(_) => 0,
         }
     }
@@ -301,7 +313,18 @@ impl Found {
     {
         match self {
             Found::Solid(n) => n,
-            Found::Empty(n) => n,
+            Found::Empty(n, _) => n,
+            Found::Refused(_) => 0,
+        }
+    }
+
+    // The height of the emptiness; 0 in a leaf, for solid and on a refusal.
+    pub fn height(self) -> u32
+        ensures { λ r. ⌜ r ≡ getD (found self .values) 2 0 ⌝ }
+    {
+        match self {
+            Found::Solid(_) => 0,
+            Found::Empty(_, h) => h,
             Found::Refused(_) => 0,
         }
     }

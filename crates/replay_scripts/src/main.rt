@@ -30,6 +30,7 @@ fn main() {
     play(b"wide.script");
     play(b"long.script");
     play(b"stop.script");
+    play(b"emptiness.script");
     play(b"questions.script");
     play(b"adding.script");
     play(b"packing.script");

@@ -47,12 +47,12 @@ pick a b zero = a
 pick a b (suc n) = b
 
 abbrev seenOf : Outcome → Seen
-seenOf o = answerOf (pick Seen.Empty Seen.Solid (value o)) Seen.Refused (o .number)
+seenOf o = answerOf (pick (Seen.Empty (getD (o .values) 1 0)) Seen.Solid (value o)) Seen.Refused (o .number)
 
 seen-back : (r : Seen) (ls : List (List ℕ)) → seenOf (outcome (seen r) ls) ≡ r
 seen-back Seen.Solid ls = refl
-seen-back Seen.Empty ls = refl
-seen-back (Seen.Refused r) ls = refused-back Seen.Empty Seen.Refused r
+seen-back (Seen.Empty h) ls = refl
+seen-back (Seen.Refused r) ls = refused-back (Seen.Empty 0) Seen.Refused r
 
 abbrev occupiedOf : Outcome → Occupied
 occupiedOf o = answerOf (pick Occupied.Empty Occupied.NonEmpty (value o)) Occupied.Refused (o .number)
@@ -91,12 +91,12 @@ checked-back (Checked.Depth d) ls = refl
 checked-back (Checked.Refused r) ls = refused-back (Checked.Depth 0) Checked.Refused r
 
 abbrev foundOf : Outcome → Found
-foundOf o = answerOf (pick (Found.Empty (getD (o .values) 1 0)) (Found.Solid (getD (o .values) 1 0)) (value o)) Found.Refused (o .number)
+foundOf o = answerOf (pick (Found.Empty (getD (o .values) 1 0) (getD (o .values) 2 0)) (Found.Solid (getD (o .values) 1 0)) (value o)) Found.Refused (o .number)
 
 found-back : (r : Found) (ls : List (List ℕ)) → foundOf (outcome (found r) ls) ≡ r
 found-back (Found.Solid n) ls = refl
-found-back (Found.Empty n) ls = refl
-found-back (Found.Refused r) ls = refused-back (Found.Empty 0) Found.Refused r
+found-back (Found.Empty n h) ls = refl
+found-back (Found.Refused r) ls = refused-back (Found.Empty 0 0) Found.Refused r
 
 abbrev chosenOf : Outcome → Chosen
 chosenOf o = answerOf (Chosen.Height (value o)) Chosen.Refused (o .number)

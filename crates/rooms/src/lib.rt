@@ -34,7 +34,7 @@ pub fn add(store: &mut [u32], file: &[u8]) -> Added
     merge::add(store, file)
 }
 
-// Voxel: solid or empty; refused by 2 (header), 9, 2 (the scene's two words), 10, 2 (walk).
+// Voxel: solid or empty, with the height of the emptiness; refused by 2 (header), 9, 2 (the scene's two words), 10, 2 (walk).
 pub fn voxel(store: &[u32], scene: u32, x: u32, y: u32, z: u32) -> Seen
     ensures { λ r. ⌜ VoxelPromise (now (store .entry)) scene (point x y z) r ⌝ }
 {
@@ -102,7 +102,7 @@ pub fn check(file: &[u8], scratch: &mut [u8]) -> Checked
     proper::check(file, scratch)
 }
 
-// Packed voxel: solid or empty, with the number of records read on the way; refused by 3, 4, 5, 10, 6.
+// Packed voxel: solid or empty, with the number of records read on the way and the height of the emptiness; refused by 3, 4, 5, 10, 6.
 pub fn packed_voxel(file: &[u8], x: u32, y: u32, z: u32) -> Found
     ensures { λ r. ⌜ PackedVoxelPromise (now (file .entry)) (point x y z) r ⌝ }
 {

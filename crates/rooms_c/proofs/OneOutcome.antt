@@ -38,6 +38,11 @@ slice-only a b = (same-number a b, same-lent a b 0)
 two-values : {n m v w s t : ℕ} {o : Outcome} → outcome (told n (v ∷ s ∷ [])) [] ≡ o → outcome (told m (w ∷ t ∷ [])) [] ≡ o → (n ≡ m) × (v ≡ w) × (s ≡ t)
 two-values a b = (same-number a b, same-value a b 0, same-value a b 1)
 
+-- three values
+three-values : {n m v w s t x y : ℕ} {o : Outcome} → outcome (told n (v ∷ s ∷ x ∷ [])) [] ≡ o → outcome (told m (w ∷ t ∷ y ∷ [])) [] ≡ o
+    → (n ≡ m) × (v ≡ w) × (s ≡ t) × (x ≡ y)
+three-values a b = (same-number a b, same-value a b 0, same-value a b 1, same-value a b 2)
+
 -- ---- the thirteen exports
 
 pub rooms-new : (C : ℕ) (ws : List ℕ) {n m : ℕ} {xs ys : List ℕ} → RoomsNewPromise C ws n xs → RoomsNewPromise C ws m ys → (n ≡ m) × (xs ≡ ys)
@@ -47,9 +52,9 @@ pub rooms-add : (ws file : List ℕ) {n m scene scene′ : ℕ} {xs ys : List �
     → (n ≡ m) × (scene ≡ scene′) × (xs ≡ ys)
 rooms-add ws file a b = one-slice a b
 
-pub rooms-voxel : (ws : List ℕ) (scene : ℕ) (v : Point) {n m solid solid′ : ℕ} → RoomsVoxelPromise ws scene v n solid → RoomsVoxelPromise ws scene v m solid′
-    → (n ≡ m) × (solid ≡ solid′)
-rooms-voxel ws scene v a b = one-value a b
+pub rooms-voxel : (ws : List ℕ) (scene : ℕ) (v : Point) {n m solid solid′ height height′ : ℕ} → RoomsVoxelPromise ws scene v n solid height
+    → RoomsVoxelPromise ws scene v m solid′ height′ → (n ≡ m) × (solid ≡ solid′) × (height ≡ height′)
+rooms-voxel ws scene v a b = two-values a b
 
 pub rooms-cell : (ws : List ℕ) (scene h : ℕ) (c : Point) {n m full full′ : ℕ} → RoomsCellPromise ws scene h c n full → RoomsCellPromise ws scene h c m full′
     → (n ≡ m) × (full ≡ full′)
@@ -74,16 +79,16 @@ pub rooms-check : (file scratch : List ℕ) {n m depth depth′ : ℕ} {xs ys : 
     → RoomsCheckPromise file scratch m depth′ ys → (n ≡ m) × (depth ≡ depth′) × (xs ≡ ys)
 rooms-check file scratch a b = one-slice a b
 
-pub rooms-packed-voxel : (file : List ℕ) (v : Point) {n m solid solid′ records records′ : ℕ} → RoomsPackedVoxelPromise file v n solid records
-    → RoomsPackedVoxelPromise file v m solid′ records′ → (n ≡ m) × (solid ≡ solid′) × (records ≡ records′)
-rooms-packed-voxel file v a b = two-values a b
+pub rooms-packed-voxel : (file : List ℕ) (v : Point) {n m solid solid′ records records′ height height′ : ℕ} → RoomsPackedVoxelPromise file v n solid records height
+    → RoomsPackedVoxelPromise file v m solid′ records′ height′ → (n ≡ m) × (solid ≡ solid′) × (records ≡ records′) × (height ≡ height′)
+rooms-packed-voxel file v a b = three-values a b
 
 pub rooms-open : (file ns : List ℕ) {n m : ℕ} {xs ys : List ℕ} → RoomsOpenPromise file ns n xs → RoomsOpenPromise file ns m ys → (n ≡ m) × (xs ≡ ys)
 rooms-open file ns a b = slice-only a b
 
-pub rooms-ask : (file ns : List ℕ) (v : Point) {n m solid solid′ records records′ : ℕ} → RoomsAskPromise file ns v n solid records
-    → RoomsAskPromise file ns v m solid′ records′ → (n ≡ m) × (solid ≡ solid′) × (records ≡ records′)
-rooms-ask file ns v a b = two-values a b
+pub rooms-ask : (file ns : List ℕ) (v : Point) {n m solid solid′ records records′ height height′ : ℕ} → RoomsAskPromise file ns v n solid records height
+    → RoomsAskPromise file ns v m solid′ records′ height′ → (n ≡ m) × (solid ≡ solid′) × (records ≡ records′) × (height ≡ height′)
+rooms-ask file ns v a b = three-values a b
 
 pub rooms-detail : (depth kind : ℕ) (a b : Float) {n m height height′ : ℕ} → RoomsDetailPromise depth kind a b n height
     → RoomsDetailPromise depth kind a b m height′ → (n ≡ m) × (height ≡ height′)

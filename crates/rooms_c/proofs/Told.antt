@@ -1,5 +1,5 @@
 -- An answer told by its number and values apart is the answer: an export that returns the number of what a call of `rooms` answers, and writes its
--- values, has that call's outcome. One law for each type of answer, by its cases; then one for a call with no value, one and two. Assumes nothing.
+-- values, has that call's outcome. One law for each type of answer, by its cases; then one for a call with no value, one, two and three. Assumes nothing.
 use mathlib.Core.Path.{_≡_, refl, ap, ap₂, _∙_}
 use mathlib.Core.List.{List, [], _∷_}
 use Prim.Native.Nat.{ℕ}
@@ -27,6 +27,9 @@ One {A} tell = (a : A) → told (tell a .number) (getD (tell a .values) 0 0 ∷ 
 abbrev Two : {A : Type 0} → (A → Told) → Type 0
 Two {A} tell = (a : A) → told (tell a .number) (getD (tell a .values) 0 0 ∷ getD (tell a .values) 1 0 ∷ []) ≡ tell a
 
+abbrev Three : {A : Type 0} → (A → Told) → Type 0
+Three {A} tell = (a : A) → told (tell a .number) (getD (tell a .values) 0 0 ∷ getD (tell a .values) 1 0 ∷ getD (tell a .values) 2 0 ∷ []) ≡ tell a
+
 pub started-told : None started
 started-told Started.Ready = refl
 started-told (Started.Refused r) = refl
@@ -35,9 +38,9 @@ pub added-told : One added
 added-told (Added.Scene n) = refl
 added-told (Added.Refused r) = refl
 
-pub seen-told : One seen
+pub seen-told : Two seen
 seen-told Seen.Solid = refl
-seen-told Seen.Empty = refl
+seen-told (Seen.Empty h) = refl
 seen-told (Seen.Refused r) = refl
 
 pub occupied-told : One occupied
@@ -61,9 +64,9 @@ pub checked-told : One checked
 checked-told (Checked.Depth d) = refl
 checked-told (Checked.Refused r) = refl
 
-pub found-told : Two found
+pub found-told : Three found
 found-told (Found.Solid n) = refl
-found-told (Found.Empty n) = refl
+found-told (Found.Empty n h) = refl
 found-told (Found.Refused r) = refl
 
 pub chosen-told : One chosen
@@ -84,4 +87,10 @@ module _ {A : Type 0} (tell : A → Told) where
       → w ≡ getD (tell a .values) 1 0 → outcome (tell a) ls ≡ o → outcome (told n (v ∷ w ∷ [])) ls ≡ o
   tells-two is a {n} {v} {w} {ls} e f g p =
       ap (λ (m : ℕ). outcome (told m (v ∷ w ∷ [])) ls) e ∙ ap₂ (λ (x y : ℕ). outcome (told (tell a .number) (x ∷ y ∷ [])) ls) f g
+      ∙ ap (λ (t : Told). outcome t ls) (is a) ∙ p
+
+  pub tells-three : Three tell → (a : A) {n v w u : ℕ} {ls : List (List ℕ)} {o : Outcome} → n ≡ tell a .number → v ≡ getD (tell a .values) 0 0
+      → w ≡ getD (tell a .values) 1 0 → u ≡ getD (tell a .values) 2 0 → outcome (tell a) ls ≡ o → outcome (told n (v ∷ w ∷ u ∷ [])) ls ≡ o
+  tells-three is a {n} {v} {w} {u} {ls} e f g h p =
+      ap₂ (λ (m x : ℕ). outcome (told m (x ∷ w ∷ u ∷ [])) ls) e f ∙ ap₂ (λ (y z : ℕ). outcome (told (tell a .number) (getD (tell a .values) 0 0 ∷ y ∷ z ∷ [])) ls) g h
       ∙ ap (λ (t : Told). outcome t ls) (is a) ∙ p

@@ -59,7 +59,7 @@ module _ (file ns : List ℕ) where
 -- ---- a question on an opened scene
 
 module _ (file ns : List ℕ) (v : Point) where
-  pub ask-short : length ns < openedNumbers → outcome (told 6 (0 ∷ 0 ∷ [])) [] ≡ askCOutcome file ns v
+  pub ask-short : length ns < openedNumbers → outcome (told 6 (0 ∷ 0 ∷ 0 ∷ [])) [] ≡ askCOutcome file ns v
   unfolding askCOutcome
   ask-short h = rw (lt-ltb (length ns) openedNumbers h) refl
 
@@ -67,7 +67,7 @@ module _ (file ns : List ℕ) (v : Point) where
   unfolding askCOutcome
   ask-asked h s e =
       e ∙ ap (λ (l : List ℕ). askOutcome file (depthHeld ns) l v) s
-      ∙ ap (λ (b : Bool). cond b (outcome (told 6 (0 ∷ 0 ∷ [])) []) (askOutcome file (depthHeld ns) (startsHeld ns) v)) (sym (le-ltb (length ns) openedNumbers h))
+      ∙ ap (λ (b : Bool). cond b (outcome (told 6 (0 ∷ 0 ∷ 0 ∷ [])) []) (askOutcome file (depthHeld ns) (startsHeld ns) v)) (sym (le-ltb (length ns) openedNumbers h))
 
 -- ---- the numbers copied
 

@@ -45,7 +45,7 @@ startsHeld ns = take heights (drop 1 ns)
 -- 6 where the numbers are too few to be an opened scene's: 'its bytes don't open to its numbers'
 unfoldable pub askCOutcome : List ℕ → List ℕ → Point → Outcome
 askCOutcome file ns v =
-    let short : Outcome = outcome (told 6 (0 ∷ 0 ∷ [])) [] in
+    let short : Outcome = outcome (told 6 (0 ∷ 0 ∷ 0 ∷ [])) [] in
     let asked : Outcome = askOutcome file (depthHeld ns) (startsHeld ns) v in
     cond (numbersShort ns) short asked
 
@@ -85,8 +85,8 @@ RoomsNewPromise C ws r ws′ = outcome (told r []) (ws′ ∷ []) ≡ newOutcome
 abbrev pub RoomsAddPromise : List ℕ → List ℕ → ℕ → ℕ → List ℕ → Type 0
 RoomsAddPromise ws file r scene ws′ = outcome (told r (scene ∷ [])) (ws′ ∷ []) ≡ addOutcome ws file
 
-abbrev pub RoomsVoxelPromise : List ℕ → ℕ → Point → ℕ → ℕ → Type 0
-RoomsVoxelPromise ws n v r solid = outcome (told r (solid ∷ [])) [] ≡ voxelOutcome ws n v
+abbrev pub RoomsVoxelPromise : List ℕ → ℕ → Point → ℕ → ℕ → ℕ → Type 0
+RoomsVoxelPromise ws n v r solid height = outcome (told r (solid ∷ height ∷ [])) [] ≡ voxelOutcome ws n v
 
 abbrev pub RoomsCellPromise : List ℕ → ℕ → ℕ → Point → ℕ → ℕ → Type 0
 RoomsCellPromise ws n h c r full = outcome (told r (full ∷ [])) [] ≡ cellOutcome ws n h c
@@ -106,15 +106,15 @@ RoomsPackPromise ws n scratch out r len scratch′ out′ = outcome (told r (len
 abbrev pub RoomsCheckPromise : List ℕ → List ℕ → ℕ → ℕ → List ℕ → Type 0
 RoomsCheckPromise file scratch r depth scratch′ = outcome (told r (depth ∷ [])) (scratch′ ∷ []) ≡ checkOutcome file scratch
 
-abbrev pub RoomsPackedVoxelPromise : List ℕ → Point → ℕ → ℕ → ℕ → Type 0
-RoomsPackedVoxelPromise file v r solid records = outcome (told r (solid ∷ records ∷ [])) [] ≡ packedVoxelOutcome file v
+abbrev pub RoomsPackedVoxelPromise : List ℕ → Point → ℕ → ℕ → ℕ → ℕ → Type 0
+RoomsPackedVoxelPromise file v r solid records height = outcome (told r (solid ∷ records ∷ height ∷ [])) [] ≡ packedVoxelOutcome file v
 
 -- the numbers, and the numbers afterwards
 abbrev pub RoomsOpenPromise : List ℕ → List ℕ → ℕ → List ℕ → Type 0
 RoomsOpenPromise file ns r ns′ = outcome (told r []) (ns′ ∷ []) ≡ openCOutcome file ns
 
-abbrev pub RoomsAskPromise : List ℕ → List ℕ → Point → ℕ → ℕ → ℕ → Type 0
-RoomsAskPromise file ns v r solid records = outcome (told r (solid ∷ records ∷ [])) [] ≡ askCOutcome file ns v
+abbrev pub RoomsAskPromise : List ℕ → List ℕ → Point → ℕ → ℕ → ℕ → ℕ → Type 0
+RoomsAskPromise file ns v r solid records height = outcome (told r (solid ∷ records ∷ height ∷ [])) [] ≡ askCOutcome file ns v
 
 -- the depth, the wish's kind and its two numbers
 abbrev pub RoomsDetailPromise : ℕ → ℕ → Float → Float → ℕ → ℕ → Type 0

@@ -36,7 +36,7 @@ pub extern "C" fn rooms_add(store: &mut [u32], file: &[u8], scene: &mut u32) -> 
     answer.number()
 }
 
-// Voxel: 1 for solid, 0 for empty.
+// Voxel: 1 for solid, 0 for empty, and the height of the emptiness.
 #[no_mangle]
 pub extern "C" fn rooms_voxel(
     store: &[u32],
@@ -45,11 +45,13 @@ pub extern "C" fn rooms_voxel(
     y: u32,
     z: u32,
     solid: &mut u32,
+    height: &mut u32,
 ) -> u32
-    ensures { λ r. ⌜ RoomsVoxelPromise (now (store .entry)) scene (point x y z) r (now (solid .exit)) ⌝ }
+    ensures { λ r. ⌜ RoomsVoxelPromise (now (store .entry)) scene (point x y z) r (now (solid .exit)) (now (height .exit)) ⌝ }
 {
     let answer = rooms::voxel(store, scene, x, y, z);
     *solid = answer.value();
+    *height = answer.height();
     answer.number()
 }
 
@@ -137,7 +139,7 @@ pub extern "C" fn rooms_check(file: &[u8], scratch: &mut [u8], depth: &mut u32) 
     answer.number()
 }
 
-// Packed voxel: 1 for solid, 0 for empty, and the number of records read on the way.
+// Packed voxel: 1 for solid, 0 for empty, the number of records read on the way, and the height of the emptiness.
 #[no_mangle]
 pub extern "C" fn rooms_packed_voxel(
     file: &[u8],
@@ -146,12 +148,14 @@ pub extern "C" fn rooms_packed_voxel(
     z: u32,
     solid: &mut u32,
     records: &mut u32,
+    height: &mut u32,
 ) -> u32
-    ensures { λ r. ⌜ RoomsPackedVoxelPromise (now (file .entry)) (point x y z) r (now (solid .exit)) (now (records .exit)) ⌝ }
+    ensures { λ r. ⌜ RoomsPackedVoxelPromise (now (file .entry)) (point x y z) r (now (solid .exit)) (now (records .exit)) (now (height .exit)) ⌝ }
 {
     let answer = rooms::packed_voxel(file, x, y, z);
     *solid = answer.value();
     *records = answer.records();
+    *height = answer.height();
     answer.number()
 }
 
@@ -185,17 +189,20 @@ pub extern "C" fn rooms_ask(
     z: u32,
     solid: &mut u32,
     records: &mut u32,
+    height: &mut u32,
 ) -> u32
-    ensures { λ r. ⌜ RoomsAskPromise (now (file .entry)) (now (numbers .entry)) (point x y z) r (now (solid .exit)) (now (records .exit)) ⌝ }
+    ensures { λ r. ⌜ RoomsAskPromise (now (file .entry)) (now (numbers .entry)) (point x y z) r (now (solid .exit)) (now (records .exit)) (now (height .exit)) ⌝ }
 {
     if numbers.len() < OPENED_NUMBERS {
         *solid = 0;
         *records = 0;
+        *height = 0;
         return 6;
     }
     let answer = opened::ask_bytes(file, numbers[0], read_starts(numbers), x, y, z);
     *solid = answer.value();
     *records = answer.records();
+    *height = answer.height();
     answer.number()
 }
 

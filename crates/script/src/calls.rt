@@ -7,7 +7,7 @@ use crate::sums::sum_bytes;
 use crate::sums::sum_words;
 
 // `V`: voxel.
-fn voxel(given: &[u8], store: &[u32]) -> [u64; 5] {
+fn voxel(given: &[u8], store: &[u32]) -> [u64; 6] {
     let scene = word(given, 0);
     let seen = rooms::voxel(
         store,
@@ -16,11 +16,18 @@ fn voxel(given: &[u8], store: &[u32]) -> [u64; 5] {
         word(given, 8),
         word(given, 12),
     );
-    [seen.number() as u64, seen.value() as u64, 0, 0, 0]
+    [
+        seen.number() as u64,
+        seen.value() as u64,
+        seen.height() as u64,
+        0,
+        0,
+        0,
+    ]
 }
 
 // `C`: cell.
-fn cell(given: &[u8], store: &[u32]) -> [u64; 5] {
+fn cell(given: &[u8], store: &[u32]) -> [u64; 6] {
     let scene = word(given, 0);
     let height = word(given, 4);
     let full = rooms::cell(
@@ -31,11 +38,11 @@ fn cell(given: &[u8], store: &[u32]) -> [u64; 5] {
         word(given, 12),
         word(given, 16),
     );
-    [full.number() as u64, full.value() as u64, 0, 0, 0]
+    [full.number() as u64, full.value() as u64, 0, 0, 0, 0]
 }
 
 // `B`: box.
-fn box_count(given: &[u8], store: &[u32]) -> [u64; 5] {
+fn box_count(given: &[u8], store: &[u32]) -> [u64; 6] {
     let scene = word(given, 0);
     let lowx = word(given, 4);
     let lowy = word(given, 8);
@@ -44,17 +51,17 @@ fn box_count(given: &[u8], store: &[u32]) -> [u64; 5] {
     let highy = word(given, 20);
     let highz = word(given, 24);
     let count = rooms::box_count(store, scene, lowx, lowy, lowz, highx, highy, highz);
-    [count.number() as u64, count.value(), 0, 0, 0]
+    [count.number() as u64, count.value(), 0, 0, 0, 0]
 }
 
 // `K`: kept.
-fn kept(given: &[u8], store: &[u32]) -> [u64; 5] {
+fn kept(given: &[u8], store: &[u32]) -> [u64; 6] {
     let cells = rooms::kept(store, word(given, 0));
-    [cells.number() as u64, cells.value() as u64, 0, 0, 0]
+    [cells.number() as u64, cells.value() as u64, 0, 0, 0, 0]
 }
 
 // `O`: outline out, into this output.
-fn outline_out(given: &[u8], store: &[u32], out: &mut [u8]) -> [u64; 5] {
+fn outline_out(given: &[u8], store: &[u32], out: &mut [u8]) -> [u64; 6] {
     fill_bytes(out);
     let length = rooms::outline_out(store, word(given, 0), out);
     [
@@ -63,11 +70,12 @@ fn outline_out(given: &[u8], store: &[u32], out: &mut [u8]) -> [u64; 5] {
         sum_bytes(out),
         0,
         0,
+        0,
     ]
 }
 
 // `P`: pack, with this scratch and into this output.
-fn pack(given: &[u8], store: &[u32], scratch: &mut [u32], out: &mut [u8]) -> [u64; 5] {
+fn pack(given: &[u8], store: &[u32], scratch: &mut [u32], out: &mut [u8]) -> [u64; 6] {
     fill_words(scratch);
     fill_bytes(out);
     let length = rooms::pack(store, word(given, 0), scratch, out);
@@ -77,11 +85,12 @@ fn pack(given: &[u8], store: &[u32], scratch: &mut [u32], out: &mut [u8]) -> [u6
         sum_words(scratch),
         sum_bytes(out),
         0,
+        0,
     ]
 }
 
 // Plays a command that asks the store.
-pub fn ask(code: u8, given: &[u8], store: &[u32], scratch: &mut [u32], out: &mut [u8]) -> [u64; 5] {
+pub fn ask(code: u8, given: &[u8], store: &[u32], scratch: &mut [u32], out: &mut [u8]) -> [u64; 6] {
     match code {
         b'V' => voxel(given, store),
         b'C' => cell(given, store),
@@ -89,7 +98,7 @@ pub fn ask(code: u8, given: &[u8], store: &[u32], scratch: &mut [u32], out: &mut
         b'K' => kept(given, store),
         b'O' => outline_out(given, store, out),
         b'P' => pack(given, store, scratch, out),
-        b'H' => [sum_words(store), 0, 0, 0, 0],
-        _ => [0; 5],
+        b'H' => [sum_words(store), 0, 0, 0, 0, 0],
+        _ => [0; 6],
     }
 }

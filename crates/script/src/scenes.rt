@@ -8,19 +8,20 @@ use paper::DistanceFactor;
 use paper::Wish;
 
 // `v`: packed voxel.
-fn packed_voxel(given: &[u8], file: &[u8]) -> [u64; 5] {
+fn packed_voxel(given: &[u8], file: &[u8]) -> [u64; 6] {
     let found = rooms::packed_voxel(file, word(given, 0), word(given, 4), word(given, 8));
     [
         found.number() as u64,
         found.value() as u64,
         found.records() as u64,
+        found.height() as u64,
         0,
         0,
     ]
 }
 
 // `q`: the current file is opened and the opened scene asked; where the opening is refused, so is the question.
-fn open_and_ask(given: &[u8], file: &[u8]) -> [u64; 5] {
+fn open_and_ask(given: &[u8], file: &[u8]) -> [u64; 6] {
     let header = opened::read_header(file);
     let found = opened::open_and_ask(file, word(given, 0), word(given, 4), word(given, 8));
     [
@@ -29,17 +30,19 @@ fn open_and_ask(given: &[u8], file: &[u8]) -> [u64; 5] {
         found.number() as u64,
         found.value() as u64,
         found.records() as u64,
+        found.height() as u64,
     ]
 }
 
 // `c`: packed check, with this scratch.
-fn check(file: &[u8], scratch: &mut [u8]) -> [u64; 5] {
+fn check(file: &[u8], scratch: &mut [u8]) -> [u64; 6] {
     fill_bytes(scratch);
     let depth = rooms::check(file, scratch);
     [
         depth.number() as u64,
         depth.value() as u64,
         sum_bytes(scratch),
+        0,
         0,
         0,
     ]
@@ -69,23 +72,23 @@ fn wish_of(kind: u8, first: f64, second: f64) -> Wish {
 }
 
 // `D`: detail.
-fn detail(given: &[u8]) -> [u64; 5] {
+fn detail(given: &[u8]) -> [u64; 6] {
     let wish = wish_of(
         byte(given),
         float_of(long(given, 5)),
         float_of(long(given, 13)),
     );
     let height = rooms::detail(word(given, 0), wish);
-    [height.number() as u64, height.value() as u64, 0, 0, 0]
+    [height.number() as u64, height.value() as u64, 0, 0, 0, 0]
 }
 
 // Plays a command that asks the current packed file, or detail.
-pub fn look(code: u8, given: &[u8], file: &[u8], out: &mut [u8]) -> [u64; 5] {
+pub fn look(code: u8, given: &[u8], file: &[u8], out: &mut [u8]) -> [u64; 6] {
     match code {
         b'v' => packed_voxel(given, file),
         b'q' => open_and_ask(given, file),
         b'c' => check(file, out),
         b'D' => detail(given),
-        _ => [0; 5],
+        _ => [0; 6],
     }
 }

@@ -26,21 +26,21 @@ fn decimal(text: &mut [u8], used: usize, number: u64) -> usize
     put(text, used, &digits[..n])
 }
 
-// The place of the number that a byte of a form stands for; 5 or more where it stands for itself.
+// The place of the number that a byte of a form stands for; 6 or more where it stands for itself.
 fn place(byte: u8) -> usize {
     if byte < b'0' {
-        return 5;
+        return 6;
     }
     (byte - b'0') as usize
 }
 
-// Puts what a byte of a form stands for: a digit 0 to 4 for the number at its place, any other for itself.
-fn piece(text: &mut [u8], used: usize, byte: u8, numbers: [u64; 5]) -> usize
+// Puts what a byte of a form stands for: a digit 0 to 5 for the number at its place, any other for itself.
+fn piece(text: &mut [u8], used: usize, byte: u8, numbers: [u64; 6]) -> usize
     requires { ⌜ used + 20 ≤ length (now text) ⌝ }
     ensures { λ r. ⌜ r ≤ used + 20 ⌝ }
 {
     let i = place(byte);
-    if i < 5 {
+    if i < 6 {
         return decimal(text, used, numbers[i]);
     }
     text[used] = byte;
@@ -48,7 +48,7 @@ fn piece(text: &mut [u8], used: usize, byte: u8, numbers: [u64; 5]) -> usize
 }
 
 // Puts a line with these numbers, in the form that these bytes begin with: up to the end of its line, and at most 25 bytes.
-fn line(text: &mut [u8], used: usize, form: &[u8], numbers: [u64; 5]) -> usize
+fn line(text: &mut [u8], used: usize, form: &[u8], numbers: [u64; 6]) -> usize
     requires { ⌜ used + 500 ≤ length (now text) ⌝ }
     ensures { λ r. ⌜ r ≤ used + 500 ⌝ }
 {
@@ -94,7 +94,7 @@ fn find(forms: &[u8], code: u8) -> usize
 }
 
 // Puts a line with these numbers, in the form that stands behind this byte.
-fn formed(text: &mut [u8], used: usize, forms: &[u8], code: u8, numbers: [u64; 5]) -> usize
+fn formed(text: &mut [u8], used: usize, forms: &[u8], code: u8, numbers: [u64; 6]) -> usize
     requires { ⌜ used + 500 ≤ length (now text) ⌝ }
     ensures { λ r. ⌜ r ≤ used + 500 ⌝ }
 {
@@ -103,7 +103,7 @@ fn formed(text: &mut [u8], used: usize, forms: &[u8], code: u8, numbers: [u64; 5
 }
 
 // Puts what a command prints. An opening that is accepted has the line of the question behind its own.
-fn lines(text: &mut [u8], used: usize, forms: &[u8], code: u8, numbers: [u64; 5]) -> usize
+fn lines(text: &mut [u8], used: usize, forms: &[u8], code: u8, numbers: [u64; 6]) -> usize
     requires { ⌜ used + 1000 ≤ length (now text) ⌝ }
     ensures { λ r. ⌜ r ≤ used + 1000 ⌝ }
 {
@@ -118,11 +118,11 @@ fn lines(text: &mut [u8], used: usize, forms: &[u8], code: u8, numbers: [u64; 5]
 }
 
 // Puts what a command prints with these numbers. A form stands behind its command's byte, `a` for the question after `q`.
-pub fn say(text: &mut [u8], used: usize, code: u8, numbers: [u64; 5]) -> usize
+pub fn say(text: &mut [u8], used: usize, code: u8, numbers: [u64; 6]) -> usize
     requires { ⌜ used + 1000 ≤ length (now text) ⌝ }
     ensures { λ r. ⌜ r ≤ used + 1000 ⌝ }
 {
     let forms =
-        b"Nnew 0 store 1\nAadd 0 1 store 2\nHstore 0\nVvoxel 0 1\nCcell 0 1\nBbox 0 1\nKkept 0 1\nOoutline 0 1 out 2\nPpack 0 1 scratch 2 out 3\nccheck 0 1 scratch 2\nvpacked 0 1 2\nqopen 0 1\naask 2 3 4\nDdetail 0 1\n";
+        b"Nnew 0 store 1\nAadd 0 1 store 2\nHstore 0\nVvoxel 0 1 2\nCcell 0 1\nBbox 0 1\nKkept 0 1\nOoutline 0 1 out 2\nPpack 0 1 scratch 2 out 3\nccheck 0 1 scratch 2\nvpacked 0 1 2 3\nqopen 0 1\naask 2 3 4 5\nDdetail 0 1\n";
     lines(text, used, forms, code, numbers)
 }

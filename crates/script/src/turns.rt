@@ -31,7 +31,7 @@ fn command(
     file: &mut [u8],
     out: &mut [u8],
     scratch: &mut [u32],
-) -> [u64; 5] {
+) -> [u64; 6] {
     match code {
         b'N' | b'A' | b'W' | b'X' | b'L' => change(code, given, bytes, store, file),
         b'v' | b'q' | b'c' | b'D' => look(code, given, file, out),
@@ -48,7 +48,7 @@ fn lend(
     file: &mut [u8],
     out: &mut [u8],
     scratch: &mut [u32],
-) -> [u64; 5]
+) -> [u64; 6]
     requires { ⌜ Parts asked (now given) (now store) (now file) (now out) (now scratch) ⌝ }
 {
     let from = asked.from;

@@ -58,7 +58,7 @@ pub cell-high : (K : List (List Cell)) (D p h : ℕ) (c : Point) → T (depthOk 
 cell-high K D p h c d l m i z =
     ap toldBy (pointer-root K (h - 2) D p (corner h c) d (corner-inside D h c m i) z)
     ∙ told-end (cellWalkDamaged K D p h c) (not (eqb (pointerTo K (h - 2) (D - 2) p (corner h c)) 0))
-    ∙ ap (λ (b : Bool). pastEntry false (cellWalkDamaged K D p h c) (bitFor b)) (sym (full-high K D p h c l))
+    ∙ ap (λ (b : Bool). pastEntry false (cellWalkDamaged K D p h c) (bitFor b ∷ [])) (sym (full-high K D p h c l))
 
 pub cell-low : (K : List (List Cell)) (D p h : ℕ) (c : Point) → T (depthOk D) → h < 2 → h ≤ D → Inside (2 ^ (D - h)) c → T (not (eqb p 0))
     → toldBy (smallAt K h (corner h c) (walkTo K (h - 2) (D - 2) (cellNo p) (tagOf p) (corner h c))) ≡ cellAsked K D p h c
@@ -67,23 +67,23 @@ cell-low K D p h c d l m i z =
     ap (λ (s : ℕ). toldBy (smallAt K h (corner h c) (walkTo K s (D - 2) (cellNo p) (tagOf p) (corner h c)))) e
     ∙ ap toldBy (small-root K D p h c d l m i z)
     ∙ told-end (fromRoot (walkDamaged K 0) K D p (corner h c)) (nonEmpty (2 ^ h) (cellOf (rootRoom K D p) h c))
-    ∙ ap₂ (λ (s : ℕ) (b : Bool). pastEntry false (fromRoot (walkDamaged K s) K D p (corner h c)) (bitFor b)) (sym e) (sym (full-low K D p h c l))
+    ∙ ap₂ (λ (s : ℕ) (b : Bool). pastEntry false (fromRoot (walkDamaged K s) K D p (corner h c)) (bitFor b ∷ [])) (sym e) (sym (full-low K D p h c l))
 
 -- ---- outside
 
 module _ (K : List (List Cell)) (D p h : ℕ) (c : Point) where
   pub cell-above : D < h → told 10 (0 ∷ []) ≡ cellTold K D p h c
-  cell-above l = past-outside (cellOut D h c) (cellWalkDamaged K D p h c) (bitFor (cellNonEmpty K D p h c)) (true-T (ap (λ (b : Bool). not b || not (inside (2 ^ (D - h)) c)) (lt-leb h D l)))
+  cell-above l = past-outside (cellOut D h c) (cellWalkDamaged K D p h c) (bitFor (cellNonEmpty K D p h c) ∷ []) (true-T (ap (λ (b : Bool). not b || not (inside (2 ^ (D - h)) c)) (lt-leb h D l)))
 
   -- at most the depth: the coordinates decide
   out-is : h ≤ D → cellOut D h c ≡ not (inside (2 ^ (D - h)) c)
   out-is l = ap (λ (b : Bool). not b || not (inside (2 ^ (D - h)) c)) (le-leb h D l)
 
   pub cell-past : h ≤ D → T (not (inside (2 ^ (D - h)) c)) → told 10 (0 ∷ []) ≡ cellTold K D p h c
-  cell-past l o = past-outside (cellOut D h c) (cellWalkDamaged K D p h c) (bitFor (cellNonEmpty K D p h c)) (true-T (out-is l ∙ T-true {b = not (inside (2 ^ (D - h)) c)} o))
+  cell-past l o = past-outside (cellOut D h c) (cellWalkDamaged K D p h c) (bitFor (cellNonEmpty K D p h c) ∷ []) (true-T (out-is l ∙ T-true {b = not (inside (2 ^ (D - h)) c)} o))
 
   pub cell-inside : h ≤ D → T (inside (2 ^ (D - h)) c) → cellAsked K D p h c ≡ cellTold K D p h c
-  cell-inside l i = past-inside (cellOut D h c) (cellWalkDamaged K D p h c) (bitFor (cellNonEmpty K D p h c)) (true-T (ap not (out-is l) ∙ not-not (inside (2 ^ (D - h)) c) ∙ T-true {b = inside (2 ^ (D - h)) c} i))
+  cell-inside l i = past-inside (cellOut D h c) (cellWalkDamaged K D p h c) (bitFor (cellNonEmpty K D p h c) ∷ []) (true-T (ap not (out-is l) ∙ not-not (inside (2 ^ (D - h)) c) ∙ T-true {b = inside (2 ^ (D - h)) c} i))
 
 -- ---- the whole outcome
 
@@ -91,12 +91,12 @@ pub cell-settled : (ws : List ℕ) (n D p h : ℕ) (c : Point) → Entered ws n 
 unfolding cellOutcome cellOutside cellDamaged
 cell-settled ws n D p h c e =
     ap₂ (λ (d q : ℕ). outcome (cellTold (keptOf ws) d q h c) []) (e .depth) (e .root)
-    ∙ past-settled e (cellOut (sceneDepth ws n) h c) (cellWalkDamaged (keptOf ws) (sceneDepth ws n) (sceneRoot ws n) h c) (bitFor (cellNonEmpty (keptOf ws) (sceneDepth ws n) (sceneRoot ws n) h c))
+    ∙ past-settled e (cellOut (sceneDepth ws n) h c) (cellWalkDamaged (keptOf ws) (sceneDepth ws n) (sceneRoot ws n) h c) (bitFor (cellNonEmpty (keptOf ws) (sceneDepth ws n) (sceneRoot ws n) h c) ∷ [])
 
-pub cell-refused : (ws : List ℕ) (n h : ℕ) (c : Point) (r : Refusal) → Says ws n (Refused r) → refusedBy (numberOf r) ≡ cellOutcome ws n h c
+pub cell-refused : (ws : List ℕ) (n h : ℕ) (c : Point) (r : Refusal) → Says ws n (Refused r) → refusedBy (numberOf r) (0 ∷ []) ≡ cellOutcome ws n h c
 unfolding cellOutcome cellOutside cellDamaged
 cell-refused ws n h c r s =
-    s (cellOut (sceneDepth ws n) h c) (cellWalkDamaged (keptOf ws) (sceneDepth ws n) (sceneRoot ws n) h c) (bitFor (cellNonEmpty (keptOf ws) (sceneDepth ws n) (sceneRoot ws n) h c))
+    s (cellOut (sceneDepth ws n) h c) (cellWalkDamaged (keptOf ws) (sceneDepth ws n) (sceneRoot ws n) h c) (bitFor (cellNonEmpty (keptOf ws) (sceneDepth ws n) (sceneRoot ws n) h c) ∷ [])
 
 -- ---- a corner's coordinates are below 2^16
 

@@ -2,7 +2,7 @@
 -- induction on the list, one step down being the same for all three. Assumes nothing.
 use mathlib.Core.Path.{_≡_, refl, sym, ap, ap₂, _∙_, subst⁻¹}
 use mathlib.Core.Bool.{Bool, true, false, cond, not}
-use mathlib.Core.List.{List}
+use mathlib.Core.List.{List, [], _∷_}
 use Prim.Native.Nat.{ℕ, zero, suc, _<_}
 use lib.Bits.{bitXor}
 use lib.Dec.{T, eqb, leb, leb·suc-zero, eqb→eq}
@@ -69,7 +69,7 @@ orDamage true n = 2
 orDamage false n = n
 
 -- such a number, told
-pub told-end : (w b : Bool) → toldBy (orDamage w (bitFor b)) ≡ pastEntry false w (bitFor b)
+pub told-end : (w b : Bool) → toldBy (orDamage w (bitFor b)) ≡ pastEntry false w (bitFor b ∷ [])
 told-end true b = refl
 told-end false true = refl
 told-end false false = refl

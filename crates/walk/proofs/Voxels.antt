@@ -5,16 +5,15 @@ use mathlib.Core.List.{List, [], _∷_}
 use Prim.Native.Nat.{ℕ, _-_, _^_}
 use borrow.Author.Tests.{ne-eqb}
 use lib.Dec.{T, eqb, ltb, ltb→lt}
-use Rattle.paper.specs.Numbers.{bitFor}
 use Rattle.paper.specs.Rooms.{Point, Inside, inside}
 use Rattle.paper.specs.Store.{Cell, sceneDepth, sceneRoot, keptOf}
 use Rattle.paper.specs.Answers.{told, outcome, numberOf}
 use Rattle.paper.specs.Calls.{voxelOutside, voxelDamaged, voxelOutcome}
 use Rattle.paper.specs.declared.Refusal.{Refusal}
-use Rattle.paper.specs.Walk.{End, isDamaged, solidAt, rootWalk}
+use Rattle.paper.specs.Walk.{End, isDamaged, rootWalk}
 use Rattle.paper.specs.Questions.{childFor, keptReading, voxelWalk}
 use Rattle.laws.proofs.Tests.{T-true, true-T, not-not, and-left, and-right}
-use Rattle.walk.specs.Walk.{endOf, endTold, voxelTold}
+use Rattle.walk.specs.Walk.{endOf, voxelValues, endTold, voxelTold}
 use Rattle.walk.specs.declared.walks.Ended.the-variants.{Absent}
 use Rattle.entry.specs.declared.Entry.the-variants.{Refused}
 use Rattle.entry.proofs.Asked.{refusedBy}
@@ -36,11 +35,11 @@ module _ (K : List (List Cell)) (D p : ℕ) (v : Point) where
   abbrev end : End
   end = voxelWalk K D p v .end
 
-  pub voxel-outside : T (not (inside (2 ^ D) v)) → told 10 (0 ∷ []) ≡ voxelTold K D p v
-  voxel-outside = past-outside (not (inside (2 ^ D) v)) (isDamaged end) (bitFor (solidAt end))
+  pub voxel-outside : T (not (inside (2 ^ D) v)) → told 10 (0 ∷ 0 ∷ []) ≡ voxelTold K D p v
+  voxel-outside = past-outside (not (inside (2 ^ D) v)) (isDamaged end) (voxelValues end)
 
   pub voxel-inside : T (inside (2 ^ D) v) → endTold end ≡ voxelTold K D p v
-  voxel-inside i = past-inside (not (inside (2 ^ D) v)) (isDamaged end) (bitFor (solidAt end)) (true-T (not-not (inside (2 ^ D) v) ∙ T-true {b = inside (2 ^ D) v} i))
+  voxel-inside i = past-inside (not (inside (2 ^ D) v)) (isDamaged end) (voxelValues end) (true-T (not-not (inside (2 ^ D) v) ∙ T-true {b = inside (2 ^ D) v} i))
 
 -- an absent root
 pub voxel-none : (K : List (List Cell)) (D p : ℕ) (v : Point) → p ≡ 0 → endOf K v (Absent D) ≡ voxelWalk K D p v .end
@@ -53,9 +52,9 @@ pub voxel-settled : (ws : List ℕ) (n D p : ℕ) (v : Point) → Entered ws n D
 unfolding voxelOutcome voxelOutside voxelDamaged
 voxel-settled ws n D p v e =
     ap₂ (λ (d q : ℕ). outcome (voxelTold (keptOf ws) d q v) []) (e .depth) (e .root)
-    ∙ past-settled e (not (inside (2 ^ sceneDepth ws n) v)) (isDamaged (voxelWalk (keptOf ws) (sceneDepth ws n) (sceneRoot ws n) v .end)) (bitFor (solidAt (voxelWalk (keptOf ws) (sceneDepth ws n) (sceneRoot ws n) v .end)))
+    ∙ past-settled e (not (inside (2 ^ sceneDepth ws n) v)) (isDamaged (voxelWalk (keptOf ws) (sceneDepth ws n) (sceneRoot ws n) v .end)) (voxelValues (voxelWalk (keptOf ws) (sceneDepth ws n) (sceneRoot ws n) v .end))
 
-pub voxel-refused : (ws : List ℕ) (n : ℕ) (v : Point) (r : Refusal) → Says ws n (Refused r) → refusedBy (numberOf r) ≡ voxelOutcome ws n v
+pub voxel-refused : (ws : List ℕ) (n : ℕ) (v : Point) (r : Refusal) → Says ws n (Refused r) → refusedBy (numberOf r) (0 ∷ 0 ∷ []) ≡ voxelOutcome ws n v
 unfolding voxelOutcome voxelOutside voxelDamaged
 voxel-refused ws n v r s =
-    s (not (inside (2 ^ sceneDepth ws n) v)) (isDamaged (voxelWalk (keptOf ws) (sceneDepth ws n) (sceneRoot ws n) v .end)) (bitFor (solidAt (voxelWalk (keptOf ws) (sceneDepth ws n) (sceneRoot ws n) v .end)))
+    s (not (inside (2 ^ sceneDepth ws n) v)) (isDamaged (voxelWalk (keptOf ws) (sceneDepth ws n) (sceneRoot ws n) v .end)) (voxelValues (voxelWalk (keptOf ws) (sceneDepth ws n) (sceneRoot ws n) v .end))

@@ -7,7 +7,7 @@ use lib.Bits.{bitXor}
 use lib.Dec.{eqb, leb}
 use lib.ListN.{length, getD}
 use Rattle.paper.specs.Rooms.{Point, point, inside, nonEmpty}
-use Rattle.paper.specs.Walk.{End, damaged, absent, inLeaf, isDamaged, solidAt}
+use Rattle.paper.specs.Walk.{End, damaged, absent, inLeaf, isDamaged, solidAt, emptyHeight}
 use Rattle.paper.specs.Questions.{voxelWalk, cellWalkDamaged, cellNonEmpty}
 use Rattle.paper.specs.Store.{Cell, cellsAt, cellAt, tagOf, cellNo, leafNo, anyBad}
 use Rattle.paper.specs.Leaf.{leafVoxel}
@@ -43,9 +43,13 @@ endOf K v (Absent h) = absent h
 endOf K v (At n m) = inLeaf (leafNo (cellAt K 0 n)) (seenAt 0 m v)
 endOf K v Damaged = damaged
 
+-- a voxel question's values: 1 for solid, 0 for empty, then the height of the emptiness
+abbrev pub voxelValues : End → List ℕ
+voxelValues e = bitFor (solidAt e) ∷ emptyHeight e ∷ []
+
 -- a voxel question told by that end
 abbrev pub endTold : End → Told
-endTold e = pastEntry false (isDamaged e) (bitFor (solidAt e))
+endTold e = pastEntry false (isDamaged e) (voxelValues e)
 
 -- a cell question that stops at its list: 2 for damage, 1 for non-empty, 0 for empty
 abbrev pub cellEnd : Ended → ℕ
@@ -63,9 +67,9 @@ AtKept K (Absent h) = Unit {0}
 AtKept K (At n m) = (n < length (cellsAt K 0)) × (m < 8)
 AtKept K Damaged = Unit {0}
 
--- a voxel question past the scene's tests: 1 for solid, 0 for empty
+-- a voxel question past the scene's tests
 abbrev pub voxelTold : List (List Cell) → ℕ → ℕ → Point → Told
-voxelTold K D p v = let e : End = voxelWalk K D p v .end in pastEntry (not (inside (2 ^ D) v)) (isDamaged e) (bitFor (solidAt e))
+voxelTold K D p v = let e : End = voxelWalk K D p v .end in pastEntry (not (inside (2 ^ D) v)) (isDamaged e) (voxelValues e)
 
 -- a cell of height 0 or 1 with low corner w, where the walk to its leaf ended: 2 for damage, 1 for non-empty, 0 for empty
 abbrev pub smallAt : List (List Cell) → ℕ → Point → Ended → ℕ
@@ -78,7 +82,7 @@ abbrev pub cellOut : ℕ → ℕ → Point → Bool
 cellOut D h c = not (leb h D) || not (inside (2 ^ (D - h)) c)
 
 abbrev pub cellTold : List (List Cell) → ℕ → ℕ → ℕ → Point → Told
-cellTold K D p h c = pastEntry (cellOut D h c) (cellWalkDamaged K D p h c) (bitFor (cellNonEmpty K D p h c))
+cellTold K D p h c = pastEntry (cellOut D h c) (cellWalkDamaged K D p h c) (bitFor (cellNonEmpty K D p h c) ∷ [])
 
 abbrev pub cellAsked : List (List Cell) → ℕ → ℕ → ℕ → Point → Told
-cellAsked K D p h c = pastEntry false (cellWalkDamaged K D p h c) (bitFor (cellNonEmpty K D p h c))
+cellAsked K D p h c = pastEntry false (cellWalkDamaged K D p h c) (bitFor (cellNonEmpty K D p h c) ∷ [])

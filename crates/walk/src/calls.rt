@@ -20,7 +20,7 @@ use points::leaf_solid;
 use points::outside;
 use store::leaf_at;
 
-// The voxel at which a walk ended.
+// The voxel at which a walk ended; an empty one in a leaf has height 0.
 fn voxel_at(store: &[u32], end: Ended, x: u32, y: u32, z: u32) -> Seen
     requires { ⌜ T (headerOk (now store)) ⌝ }
     requires { ⌜ AtKept (keptOf (now store)) end ⌝ }
@@ -28,12 +28,12 @@ fn voxel_at(store: &[u32], end: Ended, x: u32, y: u32, z: u32) -> Seen
 {
     match end {
         Ended::Damaged => Seen::Refused(Refusal::DamagedStore),
-        Ended::Absent(_) => Seen::Empty,
+        Ended::Absent(height) => Seen::Empty(height),
         Ended::At(number, mirror) => {
             if leaf_solid(leaf_at(store, number), mirror, x, y, z) {
                 Seen::Solid
             } else {
-                Seen::Empty
+                Seen::Empty(0)
             }
         }
     }
@@ -52,7 +52,7 @@ fn voxel_from(store: &[u32], depth: u32, root: u32, x: u32, y: u32, z: u32) -> S
     voxel_at(store, voxel_walk(store, depth, root, x, y, z), x, y, z)
 }
 
-// Voxel: solid or empty.
+// Voxel: solid or empty, with the height of the emptiness.
 pub fn voxel(store: &[u32], scene: u32, x: u32, y: u32, z: u32) -> Seen
     ensures { λ r. ⌜ outcome (seen r) [] ≡ voxelOutcome (now (store .entry)) scene (point x y z) ⌝ }
 {

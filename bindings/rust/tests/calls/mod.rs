@@ -1,66 +1,22 @@
-//! The thirteen calls as C has them: the number returned, values in out parameters. `Library` is the proved library, `Twin` document 01
-//! once more; the tests run both on the same memory.
+//! The thirteen calls as C has them: the number returned, values in out parameters. `Twin` is document 01 once more, `library::Library` the
+//! proved library; the tests run both on the same memory.
 
 use crate::twin::{self, Answer};
 
 pub trait Calls {
     fn new_store(&mut self, store: &mut [u32], capacity: u32) -> u32;
     fn add(&mut self, store: &mut [u32], file: &[u8], scene: &mut u32) -> u32;
-    fn voxel(&mut self, store: &[u32], scene: u32, at: [u32; 3], solid: &mut u32) -> u32;
+    fn voxel(&mut self, store: &[u32], scene: u32, at: [u32; 3], solid: &mut u32, height: &mut u32) -> u32;
     fn cell(&mut self, store: &[u32], scene: u32, height: u32, at: [u32; 3], full: &mut u32) -> u32;
     fn box_count(&mut self, store: &[u32], scene: u32, low: [u32; 3], high: [u32; 3], count: &mut u64) -> u32;
     fn kept(&mut self, store: &[u32], height: u32, count: &mut u32) -> u32;
     fn outline(&mut self, store: &[u32], scene: u32, out: &mut [u8], length: &mut u32) -> u32;
     fn pack(&mut self, store: &[u32], scene: u32, scratch: &mut [u32], out: &mut [u8], length: &mut u32) -> u32;
     fn check(&mut self, file: &[u8], scratch: &mut [u8], depth: &mut u32) -> u32;
-    fn packed_voxel(&mut self, file: &[u8], at: [u32; 3], solid: &mut u32, records: &mut u32) -> u32;
+    fn packed_voxel(&mut self, file: &[u8], at: [u32; 3], solid: &mut u32, records: &mut u32, height: &mut u32) -> u32;
     fn open(&mut self, file: &[u8], numbers: &mut [u32]) -> u32;
-    fn ask(&mut self, file: &[u8], numbers: &[u32], at: [u32; 3], solid: &mut u32, records: &mut u32) -> u32;
+    fn ask(&mut self, file: &[u8], numbers: &[u32], at: [u32; 3], solid: &mut u32, records: &mut u32, height: &mut u32) -> u32;
     fn detail(&mut self, depth: u32, kind: u32, a: f64, b: f64, height: &mut u32) -> u32;
-}
-
-pub struct Library;
-
-impl Calls for Library {
-    fn new_store(&mut self, store: &mut [u32], capacity: u32) -> u32 {
-        rooms::c::rooms_new(store, capacity)
-    }
-    fn add(&mut self, store: &mut [u32], file: &[u8], scene: &mut u32) -> u32 {
-        rooms::c::rooms_add(store, file, scene)
-    }
-    fn voxel(&mut self, store: &[u32], scene: u32, [x, y, z]: [u32; 3], solid: &mut u32) -> u32 {
-        rooms::c::rooms_voxel(store, scene, x, y, z, solid)
-    }
-    fn cell(&mut self, store: &[u32], scene: u32, height: u32, [x, y, z]: [u32; 3], full: &mut u32) -> u32 {
-        rooms::c::rooms_cell(store, scene, height, x, y, z, full)
-    }
-    fn box_count(&mut self, store: &[u32], scene: u32, low: [u32; 3], high: [u32; 3], count: &mut u64) -> u32 {
-        rooms::c::rooms_box(store, scene, low, high, count)
-    }
-    fn kept(&mut self, store: &[u32], height: u32, count: &mut u32) -> u32 {
-        rooms::c::rooms_kept(store, height, count)
-    }
-    fn outline(&mut self, store: &[u32], scene: u32, out: &mut [u8], length: &mut u32) -> u32 {
-        rooms::c::rooms_outline(store, scene, out, length)
-    }
-    fn pack(&mut self, store: &[u32], scene: u32, scratch: &mut [u32], out: &mut [u8], length: &mut u32) -> u32 {
-        rooms::c::rooms_pack(store, scene, scratch, out, length)
-    }
-    fn check(&mut self, file: &[u8], scratch: &mut [u8], depth: &mut u32) -> u32 {
-        rooms::c::rooms_check(file, scratch, depth)
-    }
-    fn packed_voxel(&mut self, file: &[u8], [x, y, z]: [u32; 3], solid: &mut u32, records: &mut u32) -> u32 {
-        rooms::c::rooms_packed_voxel(file, x, y, z, solid, records)
-    }
-    fn open(&mut self, file: &[u8], numbers: &mut [u32]) -> u32 {
-        rooms::c::rooms_open(file, numbers)
-    }
-    fn ask(&mut self, file: &[u8], numbers: &[u32], [x, y, z]: [u32; 3], solid: &mut u32, records: &mut u32) -> u32 {
-        rooms::c::rooms_ask(file, numbers, x, y, z, solid, records)
-    }
-    fn detail(&mut self, depth: u32, kind: u32, a: f64, b: f64, height: &mut u32) -> u32 {
-        rooms::c::rooms_detail(depth, kind, a, b, height)
-    }
 }
 
 /// The twin; `clause` says which clause of document 01 refused the last call.
@@ -86,10 +42,11 @@ impl Twin {
         }
     }
 
-    fn tell_two(&mut self, answer: Answer<(u32, u32)>, one: &mut u32, two: &mut u32) -> u32 {
-        let mut both = (0, 0);
-        let number = self.tell(answer, &mut both);
-        (*one, *two) = both;
+    /// The same for a voxel of packed bytes: solid, records, height.
+    fn tell_found(&mut self, answer: Answer<(u32, u32, u32)>, solid: &mut u32, records: &mut u32, height: &mut u32) -> u32 {
+        let mut found = (0, 0, 0);
+        let number = self.tell(answer, &mut found);
+        (*solid, *records, *height) = found;
         number
     }
 }
@@ -101,8 +58,11 @@ impl Calls for Twin {
     fn add(&mut self, store: &mut [u32], file: &[u8], scene: &mut u32) -> u32 {
         self.tell(twin::add(store, file), scene)
     }
-    fn voxel(&mut self, store: &[u32], scene: u32, [x, y, z]: [u32; 3], solid: &mut u32) -> u32 {
-        self.tell(twin::voxel(store, scene, x, y, z), solid)
+    fn voxel(&mut self, store: &[u32], scene: u32, [x, y, z]: [u32; 3], solid: &mut u32, height: &mut u32) -> u32 {
+        let mut both = (0, 0);
+        let number = self.tell(twin::voxel(store, scene, x, y, z), &mut both);
+        (*solid, *height) = both;
+        number
     }
     fn cell(&mut self, store: &[u32], scene: u32, height: u32, [x, y, z]: [u32; 3], full: &mut u32) -> u32 {
         self.tell(twin::cell(store, scene, height, x, y, z), full)
@@ -122,14 +82,14 @@ impl Calls for Twin {
     fn check(&mut self, file: &[u8], scratch: &mut [u8], depth: &mut u32) -> u32 {
         self.tell(twin::check(file, scratch), depth)
     }
-    fn packed_voxel(&mut self, file: &[u8], [x, y, z]: [u32; 3], solid: &mut u32, records: &mut u32) -> u32 {
-        self.tell_two(twin::packed_voxel(file, x, y, z), solid, records)
+    fn packed_voxel(&mut self, file: &[u8], [x, y, z]: [u32; 3], solid: &mut u32, records: &mut u32, height: &mut u32) -> u32 {
+        self.tell_found(twin::packed_voxel(file, x, y, z), solid, records, height)
     }
     fn open(&mut self, file: &[u8], numbers: &mut [u32]) -> u32 {
         self.tell(twin::open(file, numbers), &mut ())
     }
-    fn ask(&mut self, file: &[u8], numbers: &[u32], [x, y, z]: [u32; 3], solid: &mut u32, records: &mut u32) -> u32 {
-        self.tell_two(twin::ask(file, numbers, x, y, z), solid, records)
+    fn ask(&mut self, file: &[u8], numbers: &[u32], [x, y, z]: [u32; 3], solid: &mut u32, records: &mut u32, height: &mut u32) -> u32 {
+        self.tell_found(twin::ask(file, numbers, x, y, z), solid, records, height)
     }
     fn detail(&mut self, depth: u32, kind: u32, a: f64, b: f64, height: &mut u32) -> u32 {
         self.tell(twin::detail(depth, kind, a, b), height)

@@ -4,8 +4,17 @@
 use crate::calls::Calls;
 use crate::lent::{hex, Lent, GUARD};
 use crate::Compare;
-use rooms::{Found, Refusal, Wish};
+use rooms::{Found, Refusal, Voxel, Wish};
 use std::fmt::Debug;
+
+/// What a voxel's answer is counted as.
+fn kind(solid: u32, height: u32) -> &'static str {
+    match (solid, height) {
+        (1, _) => "solid",
+        (_, 0) => "empty, in a leaf",
+        _ => "empty, in an empty cell",
+    }
+}
 
 impl Compare {
     pub fn lend_words(&mut self, slice: &[u32]) -> Lent<u32> {
@@ -70,6 +79,15 @@ impl Compare {
         }
     }
 
+    /// Another voxel of the same empty cell has the same answer.
+    fn alike<V: PartialEq + Debug>(&self, call: &str, [at, other]: [[u32; 3]; 2], here: (u32, V), there: (u32, V)) {
+        if here != there {
+            println!("DIFFERENCE in one empty cell, {call}: {here:?} at {at:?}, {there:?} at {other:?}");
+            println!("seed {} episode {}", self.seed, self.episode);
+            std::process::exit(1);
+        }
+    }
+
     pub fn new_store(&mut self, store: &mut Lent<u32>, capacity: u32) -> u32 {
         let before = store.clone();
         let mut mine = store.clone();
@@ -124,13 +142,22 @@ impl Compare {
 
     pub fn voxel(&mut self, store: &Lent<u32>, scene: u32, at: [u32; 3]) -> u32 {
         let mine = store.clone();
-        let (mut a, mut b) = (self.random.word(), self.random.word());
-        let here = self.library.voxel(mine.slice(), scene, at, &mut a);
-        let there = self.twin.voxel(store.slice(), scene, at, &mut b);
+        let (mut a, mut b) = ([self.random.word(), 7], [self.random.word(), 8]);
+        let [solid, height] = &mut a;
+        let here = self.library.voxel(mine.slice(), scene, at, solid, height);
+        let [solid, height] = &mut b;
+        let there = self.twin.voxel(store.slice(), scene, at, solid, height);
         let number =
             self.judge("voxel", (here, a), (there, b), mine == *store, || format!("store {}\nscene {scene} at {at:?}", hex(store.slice())));
-        self.note("voxel", number, if a == 1 { "solid" } else { "empty" });
-        self.agree("voxel", number, a == 1, rooms::voxel(store.slice(), scene, at[0], at[1], at[2]));
+        self.note("voxel", number, kind(a[0], a[1]));
+        let voxel = Voxel { solid: a[0] == 1, height: a[1] };
+        self.agree("voxel", number, voxel, rooms::voxel(store.slice(), scene, at[0], at[1], at[2]));
+        if a[1] > 0 {
+            let other = self.random.in_cell(at, a[1]);
+            let [solid, height] = &mut b;
+            let there = self.library.voxel(mine.slice(), scene, other, solid, height);
+            self.alike("voxel", [at, other], (here, a), (there, b));
+        }
         number
     }
 
@@ -240,15 +267,21 @@ impl Compare {
     pub fn packed_voxel(&mut self, file: &[u8], at: [u32; 3]) -> u32 {
         let file = self.lend_bytes(file);
         let mine = file.clone();
-        let (mut a, mut b) = ([self.random.word(), 7], [self.random.word(), 8]);
-        let [solid, records] = &mut a;
-        let here = self.library.packed_voxel(mine.slice(), at, solid, records);
-        let [solid, records] = &mut b;
-        let there = self.twin.packed_voxel(file.slice(), at, solid, records);
+        let (mut a, mut b) = ([self.random.word(), 7, 9], [self.random.word(), 8, 10]);
+        let [solid, records, height] = &mut a;
+        let here = self.library.packed_voxel(mine.slice(), at, solid, records, height);
+        let [solid, records, height] = &mut b;
+        let there = self.twin.packed_voxel(file.slice(), at, solid, records, height);
         let number = self.judge("packed_voxel", (here, a), (there, b), mine == file, || format!("file {}\nat {at:?}", hex(file.slice())));
-        self.note("packed_voxel", number, if a[0] == 1 { "solid" } else { "empty" });
-        let found = Found { solid: a[0] == 1, records: a[1] };
+        self.note("packed_voxel", number, kind(a[0], a[2]));
+        let found = Found { solid: a[0] == 1, records: a[1], height: a[2] };
         self.agree("packed_voxel", number, found, rooms::packed_voxel(file.slice(), at[0], at[1], at[2]));
+        if a[2] > 0 {
+            let other = self.random.in_cell(at, a[2]);
+            let [solid, records, height] = &mut b;
+            let there = self.library.packed_voxel(mine.slice(), other, solid, records, height);
+            self.alike("packed_voxel", [at, other], (here, a), (there, b));
+        }
         number
     }
 
@@ -283,19 +316,19 @@ impl Compare {
         let mine = file.clone();
         let numbers = self.lend_words(numbers);
         let numbers_mine = numbers.clone();
-        let (mut a, mut b) = ([self.random.word(), 7], [self.random.word(), 8]);
-        let [solid, records] = &mut a;
-        let here = self.library.ask(mine.slice(), numbers_mine.slice(), at, solid, records);
-        let [solid, records] = &mut b;
-        let there = self.twin.ask(file.slice(), numbers.slice(), at, solid, records);
+        let (mut a, mut b) = ([self.random.word(), 7, 9], [self.random.word(), 8, 10]);
+        let [solid, records, height] = &mut a;
+        let here = self.library.ask(mine.slice(), numbers_mine.slice(), at, solid, records, height);
+        let [solid, records, height] = &mut b;
+        let there = self.twin.ask(file.slice(), numbers.slice(), at, solid, records, height);
         let same = mine == file && numbers_mine == numbers;
         let clause = self.twin.clause;
         let number = self.judge("ask", (here, a), (there, b), same, || {
             format!("file {}\nnumbers {}\nat {at:?}", hex(file.slice()), hex(numbers.slice()))
         });
-        self.note("ask", number, if a[0] == 1 { "solid" } else { "empty" });
+        self.note("ask", number, kind(a[0], a[2]));
         if !["numbers", "doesn't open", "other numbers"].contains(&clause) {
-            let found = Found { solid: a[0] == 1, records: a[1] };
+            let found = Found { solid: a[0] == 1, records: a[1], height: a[2] };
             let answer = rooms::open(file.slice()).and_then(|o| o.voxel(at[0], at[1], at[2]));
             self.agree("Opened::voxel", number, found, answer);
         }

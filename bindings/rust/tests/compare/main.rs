@@ -11,12 +11,15 @@ mod cases;
 mod episodes;
 mod generator;
 mod lent;
+#[path = "../library/mod.rs"]
+mod library;
 mod questions;
 #[path = "../twin/mod.rs"]
 mod twin;
 
-use calls::{Library, Twin};
+use calls::Twin;
 use generator::Random;
+use library::Library;
 use std::collections::BTreeMap;
 use std::env;
 

@@ -1,5 +1,5 @@
-//! Document 01 written once more, in plain Rust, slow and clear: the thirteen calls on slices. It shares no code with the proved
-//! store; the tests compare the two.
+//! Document 01 written once more, in plain Rust, slow and clear: the thirteen calls on slices, with what document 02 adds to them
+//! (its request 2: the height of the empty cell). It shares no code with the proved store; the tests compare the two.
 //!
 //! A call answers its values, or a refusal: its number and which clause of document 01 it was. Lent memory is changed as the
 //! page says. Where the page's words would take for ever (does a cell match itself, how many voxels has a whole cell), what was
@@ -211,23 +211,24 @@ fn entered(w: &Words, h: usize, n: usize) -> Answer<[u32; 8]> {
     Ok(cell)
 }
 
-fn voxel_under(w: &Words, h: usize, p: u32, v: Point) -> Answer<u32> {
+/// Under a pointer to height h: solid, and the height of the absent child that ended the walk, 0 in a leaf.
+fn voxel_under(w: &Words, h: usize, p: u32, v: Point) -> Answer<(u32, u32)> {
     if p == 0 {
-        return Ok(0);
+        return Ok((0, h as u32));
     }
     let edge = 1u64 << h;
     let v = mirror(tag(p), edge, v);
     let n = number(p);
     if h == 2 {
-        return Ok(leaf_bit(leaf_at(w, n), v) as u32);
+        return Ok((leaf_bit(leaf_at(w, n), v) as u32, 0));
     }
     let cell = entered(w, h, n)?;
     let (i, u) = child_of(edge, v);
     voxel_under(w, h - 1, cell[i], u)
 }
 
-/// Voxel: 1 for solid, 0 for empty.
-pub fn voxel(w: &Words, n: u32, x: u32, y: u32, z: u32) -> Answer<u32> {
+/// Voxel: 1 for solid, 0 for empty; the height of the empty cell that holds it, D for an empty scene.
+pub fn voxel(w: &Words, n: u32, x: u32, y: u32, z: u32) -> Answer<(u32, u32)> {
     let (d, p) = asked(w, n)?;
     let v = [x as u64, y as u64, z as u64];
     need(v.iter().all(|&c| c < 1 << d), 10, "point")?;
@@ -722,26 +723,27 @@ impl<'a> Packed<'a> {
         be(&self.list(2)[8 * n as usize..8 * n as usize + 8])
     }
 
-    /// From the record at a place, seen under a mirror: solid, and the records read.
-    fn walk(&self, h: usize, place: u64, t: u32, v: Point) -> Answer<(u32, u32)> {
+    /// From the record at a place, seen under a mirror: solid, the records read, and the height of the absent child that ended the walk,
+    /// 0 in a leaf.
+    fn walk(&self, h: usize, place: u64, t: u32, v: Point) -> Answer<(u32, u32, u32)> {
         let edge = 1u64 << h;
         let v = mirror(t, edge, v);
         if h == 2 {
             // a leaf's room in its list: only the root of a file of depth 2 can miss it
             need(place < self.size(2), 6, "no leaf")?;
             need(self.leaf(place) != 0, 6, "leaf zero")?;
-            return Ok((leaf_bit(self.leaf(place), v) as u32, 1));
+            return Ok((leaf_bit(self.leaf(place), v) as u32, 1, 0));
         }
         let (links, _) = self.record(h, place)?;
         let (i, u) = child_of(edge, v);
         let link = links[i];
         if link.code == 0 {
-            return Ok((0, 1));
+            return Ok((0, 1, h as u32 - 1));
         }
         need((link.place as u64) < self.size(h - 1), 6, "place outside")?;
         need(link.code == code(link.place), 6, "width")?;
-        let (solid, read) = self.walk(h - 1, link.place as u64, link.tag, u)?;
-        Ok((solid, read + 1))
+        let (solid, read, height) = self.walk(h - 1, link.place as u64, link.tag, u)?;
+        Ok((solid, read + 1, height))
     }
 
     /// The places at which records start, where the list divides into whole records.
@@ -859,14 +861,14 @@ pub fn check(file: &Bytes, scratch: &mut Bytes) -> Answer<u32> {
     Ok(p.depth as u32)
 }
 
-/// Packed voxel: 3,4,5,10,6; solid, records read.
-pub fn packed_voxel(file: &Bytes, x: u32, y: u32, z: u32) -> Answer<(u32, u32)> {
+/// Packed voxel: 3,4,5,10,6; solid, records read, the height of the empty cell that holds it, D for an empty scene.
+pub fn packed_voxel(file: &Bytes, x: u32, y: u32, z: u32) -> Answer<(u32, u32, u32)> {
     let p = Packed::front(file)?;
     let v = [x as u64, y as u64, z as u64];
     need(v.iter().all(|&c| c < 1 << p.depth), 10, "point")?;
     p.head()?;
     if p.empty() {
-        return Ok((0, 0));
+        return Ok((0, 0, p.depth as u32));
     }
     p.walk(p.depth, 0, p.root as u32, v)
 }
@@ -894,7 +896,7 @@ pub fn open(file: &Bytes, numbers: &mut Words) -> Answer<()> {
 }
 
 /// A question on an opened scene: 6 where its bytes open to other numbers or not at all, then as packed voxel.
-pub fn ask(file: &Bytes, numbers: &Words, x: u32, y: u32, z: u32) -> Answer<(u32, u32)> {
+pub fn ask(file: &Bytes, numbers: &Words, x: u32, y: u32, z: u32) -> Answer<(u32, u32, u32)> {
     need(numbers.len() >= 16, 6, "numbers")?;
     let found = header(file).map_err(|_| refused(6, "doesn't open"))?;
     need(found == numbers[..16], 6, "other numbers")?;

@@ -8,6 +8,7 @@ use Rattle.paper.specs.Rooms.{Point, point}
 use Rattle.paper.specs.Store.{heights}
 use Rattle.paper.specs.Walk.{Walk}
 use Rattle.paper.specs.Packed.{topOf, listAt}
+use Rattle.paper.specs.declared.Found.the-variants.{Empty}
 use Rattle.laws.proofs.PackedLists.{Whole}
 use Rattle.packed.specs.Walk.{Parts, endingOf, foundAt, partsWalk}
 use Rattle.packed.proofs.Header.{sizes-sum}
@@ -21,8 +22,8 @@ spot s = point (s .args .x) (s .args .y) (s .args .z)
 
 returns : tie.Need-returns
 returns c =
-    let s = c .before .before .before in
-    sym (ap (λ (w : Walk). foundAt (endingOf w)) (walk-empty (s .args .file .now) (spot s) (s .pre .0 .head) (c .if1 .taken)))
+    let s = c .before .before .before .before .before in
+    ap (Empty 0) (c .wide .ensures .0) ∙ sym (ap (λ (w : Walk). foundAt (endingOf w)) (walk-empty (s .args .file .now) (spot s) (s .pre .0 .head) (c .before .before .if1 .taken)))
 
 -- the sizes add up
 total : (c : tie.Else1) → Whole (c .before .before .before .args .file .now)
@@ -49,8 +50,8 @@ walk-requires c κs =
     let e = c .before .before .before .before in
     let s = e .before .before .before in
     let bs = s .args .file .now in
-    let top : c .before .wide .result - 2 ≡ topOf bs = ap (λ (n : ℕ). n - 2) (c .before .wide .ensures .0) in
-    (subst (λ (n : ℕ). Parts bs (leaves s) (s .args .t2) n) (sym top) (parts-are bs (total e) (s .args .t2) (s .pre .1 .0) (e .if1 .left) (few s) (leaves s) (leaves-are e)), omega (arith, c .wide2 .ensures .0, root-mirror bs (s .pre .0 .head) (e .if1 .left)))
+    let top : c .before .wide2 .result - 2 ≡ topOf bs = ap (λ (n : ℕ). n - 2) (c .before .wide2 .ensures .0) in
+    (subst (λ (n : ℕ). Parts bs (leaves s) (s .args .t2) n) (sym top) (parts-are bs (total e) (s .args .t2) (s .pre .1 .0) (e .if1 .left) (few s) (leaves s) (leaves-are e)), omega (arith, c .wide3 .ensures .0, root-mirror bs (s .pre .0 .head) (e .if1 .left)))
 
 returns-2 : tie.Need-returns-2
 returns-2 c =
@@ -58,14 +59,14 @@ returns-2 c =
     let s = e .before .before .before in
     let bs = s .args .file .now in
     let d = c .before .before in
-    let top : d .before .wide .result - 2 ≡ topOf bs = ap (λ (n : ℕ). n - 2) (d .before .wide .ensures .0) in
+    let top : d .before .wide2 .result - 2 ≡ topOf bs = ap (λ (n : ℕ). n - 2) (d .before .wide2 .ensures .0) in
     c .answer .ensures
     ∙ ap foundAt (c .before .walk .ensures
-    ∙ ap endingOf (ap₂ (λ (n m : ℕ). partsWalk bs (leaves s) (s .args .t2) n m (spot s)) top (d .wide2 .ensures .0)
+    ∙ ap endingOf (ap₂ (λ (n m : ℕ). partsWalk bs (leaves s) (s .args .t2) n m (spot s)) top (d .wide3 .ensures .0)
     ∙ parts-walk bs (total e) (s .args .t2) (s .pre .1 .0) (e .if1 .left) (few s) (leaves s) (leaves-are e) (spot s) (inside-top bs (s .pre .0 .tested .deep) (spot s) (s .pre .1 .1)) (s .pre .0 .head)))
 
 pub found-in-spec : {M : Type 1} → statement M
 found-in-spec =
     tie.close
-    (tie.spec (λ c. search needs) returns (λ c. search needs) (λ c. search needs) (λ c. omega (arith, last-in c)) (λ c. omega (arith, last-in c)) (λ c. search needs) (λ c. search needs) (λ c κs. search needs)
-    (λ c. omega (arith, c .wide .ensures .0, c .before .before .before .before .before .before .pre .0 .tested .deep)) (λ c κs. search needs) walk-requires (λ c κs. search needs) returns-2)
+    (tie.spec (λ c. search needs) (λ c. search needs) (λ c κs. search needs) returns (λ c. search needs) (λ c. search needs) (λ c. omega (arith, last-in c)) (λ c. omega (arith, last-in c)) (λ c. search needs) (λ c. search needs) (λ c κs. search needs)
+    (λ c. omega (arith, c .wide2 .ensures .0, c .before .before .before .before .before .before .pre .0 .tested .deep)) (λ c κs. search needs) walk-requires (λ c κs. search needs) returns-2)

@@ -80,6 +80,11 @@ impl Random {
         [(); 3].map(|_| if inside { self.below(1 << depth) as u32 } else { self.coordinate(depth) })
     }
 
+    /// A voxel of the cell of this height that holds a voxel.
+    pub fn in_cell(&mut self, at: [u32; 3], height: u32) -> [u32; 3] {
+        at.map(|c| (c >> height << height) + self.below(1 << height) as u32)
+    }
+
     /// A float: at the ends of document 01's ranges, at powers of two and beside them, of odd kinds, of any bits.
     pub fn float(&mut self) -> f64 {
         match self.below(12) {
