@@ -32,7 +32,7 @@ static void must(uint32_t number)
 
 int main(void)
 {
-    uint32_t scene, solid, kept, length, depth, records, height;
+    uint32_t scene, solid, kept, length, depth, records, height, blocked, x, y, z;
     uint32_t numbers[ROOMS_OPENED_NUMBERS];
     uint64_t count;
 
@@ -44,6 +44,12 @@ int main(void)
     printf("voxel 7 0 0: %s\n", solid ? "solid" : "empty");
     must(rooms_voxel(store, ROOMS_STORE_WORDS(CAPACITY), scene, 0, 5, 0, &solid, &height));
     printf("voxel 0 5 0: %s, height %" PRIu32 "\n", solid ? "solid" : "empty", height);
+    must(rooms_sight(store, ROOMS_STORE_WORDS(CAPACITY), scene, 0, 0, 0, 7, 0, 0, &blocked, &x, &y, &z));
+    if (blocked) {
+        printf("sight line 0 0 0 to 7 0 0: blocked at %" PRIu32 " %" PRIu32 " %" PRIu32 "\n", x, y, z);
+    } else {
+        printf("sight line 0 0 0 to 7 0 0: clear\n");
+    }
     must(rooms_cell(store, ROOMS_STORE_WORDS(CAPACITY), scene, 2, 0, 1, 0, &solid));
     printf("cell of height 2 at 0 1 0: %s\n", solid ? "non-empty" : "empty");
     must(rooms_box(store, ROOMS_STORE_WORDS(CAPACITY), scene, 0, 0, 0, 8, 8, 8, &count));

@@ -3,7 +3,7 @@
  * needs memset alone.
  *
  * A room is a cube of voxels; its depth D, from 2 to 16, gives its edge, 2^D voxels. A store keeps up to 64 scenes and each
- * differing cell of theirs once, mirror images included. The thirteen calls below work on memory that the caller lends: they
+ * differing cell of theirs once, mirror images included. The fourteen calls below work on memory that the caller lends: they
  * allocate nothing, keep nothing between calls, print nothing and start nothing. docs/RULES.md has the rules of rooms, stores
  * and refusals, docs/FORMATS.md the bytes of the two kinds of file.
  *
@@ -40,7 +40,8 @@
  * 'On a store of these calls' below means: words in which rooms_new was accepted and which since then only rooms_new and
  * rooms_add have written, as their store, lent with all words of its capacity each time.
  *
- * Nothing is promised of time. A box whose faces lie off the grid can enter each cell that they cut.
+ * Nothing is promised of time. A box whose faces lie off the grid can enter each cell that they cut. A sight line steps over
+ * an empty cell at once, however large, and goes through leaves voxel by voxel.
  */
 #ifndef ROOMS_H
 #define ROOMS_H
@@ -123,6 +124,19 @@ uint32_t rooms_add(uint32_t *store, size_t store_words, const uint8_t *file, siz
  */
 uint32_t rooms_voxel(const uint32_t *store, size_t store_words, uint32_t scene, uint32_t x, uint32_t y, uint32_t z,
                      uint32_t *solid, uint32_t *height);
+
+/*
+ * Sight line from the centre of one voxel to the centre of another: *blocked is 1 where the segment between them meets a
+ * solid voxel other than the two ends, and (*x, *y, *z) is then the first such, seen from the from end; where it meets none
+ * the line is clear, and all four are 0. A voxel is met where the segment has a point strictly inside it; one that is only
+ * touched, at a face, an edge or a corner, does not block. The ends are never tested, solid or not. Where they are the same
+ * voxel, or touch each other, the line is clear. No rounding takes part.
+ * Refusals, in order: 2 (the store's header), 9, 2 (the scene's two words), 10 (either end outside), 2 (where rooms_voxel
+ * gives it at a voxel met before the answer, the ends left out).
+ */
+uint32_t rooms_sight(const uint32_t *store, size_t store_words, uint32_t scene, uint32_t from_x, uint32_t from_y,
+                     uint32_t from_z, uint32_t to_x, uint32_t to_y, uint32_t to_z, uint32_t *blocked, uint32_t *x,
+                     uint32_t *y, uint32_t *z);
 
 /*
  * Cell (x, y, z) among those of a height, 0 to D: *full is 1 for non-empty, 0 for empty. On a store of these calls that

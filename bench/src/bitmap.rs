@@ -1,6 +1,8 @@
 //! The plain bitmap: one bit a voxel, x fastest, in words of 64.
 use crate::boxes::Region;
+use crate::lines;
 use crate::outline::{self, Records};
+use crate::questions::Point;
 
 pub struct Bitmap {
     pub depth: u32,
@@ -53,13 +55,27 @@ impl Bitmap {
         (z as usize) << (2 * self.depth) | (y as usize) << self.depth | x as usize
     }
 
+    fn solid(&self, x: u32, y: u32, z: u32) -> bool {
+        let at = self.bit(x, y, z);
+        self.words[at / 64] >> (at % 64) & 1 == 1
+    }
+
     #[inline(never)]
     pub fn voxel(&self, x: u32, y: u32, z: u32) -> Option<bool> {
         if (x | y | z) >> self.depth != 0 {
             return None;
         }
-        let at = self.bit(x, y, z);
-        Some(self.words[at / 64] >> (at % 64) & 1 == 1)
+        Some(self.solid(x, y, z))
+    }
+
+    /// The first solid voxel that the segment meets, the ends left out; none of all where one is outside.
+    #[inline(never)]
+    pub fn sight(&self, from: Point, to: Point) -> Option<Option<Point>> {
+        let outside = |[x, y, z]: Point| (x | y | z) >> self.depth != 0;
+        if outside(from) || outside(to) {
+            return None;
+        }
+        Some(lines::by_voxels(from, to, |[x, y, z]| self.solid(x, y, z)))
     }
 
     /// The solid voxels from bit a up to bit b.

@@ -1,5 +1,6 @@
 //! The proved library's calls for C: the only unsafe code of the library's use. A slice is a pointer, then a length.
 use crate::boxes::Region;
+use crate::questions::Point;
 
 #[rustfmt::skip]
 extern "C" {
@@ -7,6 +8,8 @@ extern "C" {
     fn rooms_add(store: *mut u32, words: usize, file: *const u8, bytes: usize, scene: *mut u32) -> u32;
     fn rooms_voxel(store: *const u32, words: usize, scene: u32, x: u32, y: u32, z: u32,
         solid: *mut u32, height: *mut u32) -> u32;
+    fn rooms_sight(store: *const u32, words: usize, scene: u32, fromx: u32, fromy: u32, fromz: u32,
+        tox: u32, toy: u32, toz: u32, blocked: *mut u32, x: *mut u32, y: *mut u32, z: *mut u32) -> u32;
     fn rooms_cell(store: *const u32, words: usize, scene: u32, height: u32, x: u32, y: u32, z: u32, full: *mut u32) -> u32;
     fn rooms_box(store: *const u32, words: usize, scene: u32, lowx: u32, lowy: u32, lowz: u32,
         highx: u32, highy: u32, highz: u32, count: *mut u64) -> u32;
@@ -64,6 +67,32 @@ pub fn voxel(store: &[u32], scene: u32, x: u32, y: u32, z: u32) -> Answer<(bool,
     let (from, words) = (store.as_ptr(), store.len());
     let number = unsafe { rooms_voxel(from, words, scene, x, y, z, &mut solid, &mut height) };
     answer(number, (solid == 1, height))
+}
+
+/// The first solid voxel that the segment between two voxels' centres meets, the ends left out.
+#[inline]
+pub fn sight(store: &[u32], scene: u32, from: Point, to: Point) -> Answer<Option<Point>> {
+    let (mut blocked, mut x, mut y, mut z) = (0, 0, 0, 0);
+    let ([a, b, c], [d, e, f]) = (from, to);
+    let words = store.len();
+    let number = unsafe {
+        rooms_sight(
+            store.as_ptr(),
+            words,
+            scene,
+            a,
+            b,
+            c,
+            d,
+            e,
+            f,
+            &mut blocked,
+            &mut x,
+            &mut y,
+            &mut z,
+        )
+    };
+    answer(number, (blocked == 1).then_some([x, y, z]))
 }
 
 #[inline]

@@ -1,7 +1,9 @@
 //! The plain graph: an octree with equal cells kept once, no mirrors. An inner cell is eight 4-byte pointers, a leaf 8 bytes; a
 //! pointer is 0 for none, otherwise a number plus 1.
 use crate::boxes::Region;
+use crate::lines::{self, Segment};
 use crate::outline::{self, Records};
+use crate::questions::Point;
 use std::collections::HashMap;
 
 pub struct Graph {
@@ -88,6 +90,60 @@ impl Graph {
         }
         let bit = x & 3 | (y & 3) << 2 | (z & 3) << 4;
         Some(self.leaves[p as usize - 1] >> bit & 1 == 1)
+    }
+
+    /// The first solid voxel that the segment meets, the ends left out; none of all where one is outside.
+    #[inline(never)]
+    pub fn sight(&self, from: Point, to: Point) -> Option<Option<Point>> {
+        let outside = |[x, y, z]: Point| (x | y | z) >> self.depth != 0;
+        if outside(from) || outside(to) {
+            return None;
+        }
+        Some(self.along(from, to, |_| ()))
+    }
+
+    /// The same inside the room: empty cells are crossed at once, leaves voxel by voxel, and from each the walk goes on from the deepest
+    /// cell on its path that holds the next voxel. `see` gets the height of each empty cell crossed, 0 for a voxel of a leaf.
+    #[inline]
+    pub fn along(&self, from: Point, to: Point, mut see: impl FnMut(u32)) -> Option<Point> {
+        if from == to {
+            return None;
+        }
+        let mut segment = Segment::new(from, to);
+        segment.step();
+        let to = to.map(u64::from);
+        let mut path = [self.root; 17];
+        let mut h = self.depth;
+        while segment.at != to {
+            let before = segment.at;
+            let [x, y, z] = before;
+            let mut p = path[h as usize];
+            while h > 2 && p != 0 {
+                h -= 1;
+                let i = x >> h & 1 | (y >> h & 1) << 1 | (z >> h & 1) << 2;
+                p = self.cells[p as usize - 1][i as usize];
+                path[h as usize] = p;
+            }
+            if p == 0 {
+                see(h);
+                if lines::differ(before, to) >> h == 0 {
+                    return None;
+                }
+                segment.leave(h);
+            } else {
+                let leaf = self.leaves[p as usize - 1];
+                while segment.at != to && lines::differ(before, segment.at) < 4 {
+                    see(0);
+                    let [x, y, z] = segment.at;
+                    if leaf >> (x & 3 | (y & 3) << 2 | (z & 3) << 4) & 1 == 1 {
+                        return Some(segment.at.map(|c| c as u32));
+                    }
+                    segment.step();
+                }
+            }
+            h = 64 - lines::differ(before, segment.at).leading_zeros();
+        }
+        None
     }
 
     #[inline(never)]

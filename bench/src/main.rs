@@ -4,6 +4,8 @@
 //!     bench count KEPT TIMES [ROOMS]   the same work, to be run under callgrind, but for what took long by the clock
 //!     bench gather DUMPS            callgrind's dumps as lines; the functions' shares go to DUMPS/shares.txt
 //!     bench table TIMES COUNTS SVG  the tables and the picture
+//!     bench lines WHICH TIMES KEPT ROOM   asks for all sight lines of a room, TIMES times: for a counter of a whole program's
+//!                                   instructions (src/sight.rs)
 //!
 //! KEPT is a folder for the words of the stores.
 mod bitmap;
@@ -12,9 +14,11 @@ mod callgrind;
 mod calls;
 mod classes;
 mod clock;
+mod deep;
 mod dumps;
 mod graph;
 mod growth;
+mod lines;
 mod measure;
 mod octree;
 mod outline;
@@ -22,6 +26,7 @@ mod own;
 mod picture;
 mod proper;
 mod questions;
+mod sight;
 mod table;
 mod twin;
 mod work;
@@ -61,7 +66,10 @@ fn main() {
             table::print(&all);
             fs::write(svg, picture::svg(&all)).unwrap();
         }
-        _ => panic!("bench times | count | gather | table: see src/main.rs"),
+        ["lines", which, times, kept, room] => {
+            sight::repeat(which, times.parse().unwrap(), Path::new(kept), room)
+        }
+        _ => panic!("bench times | count | gather | table | lines: see src/main.rs"),
     }
 }
 
@@ -72,9 +80,10 @@ fn measured_rooms(times: &measure::Results, all: Vec<String>) -> Vec<String> {
     all.into_iter().filter(is_room).collect()
 }
 
-/// Measures the check's growth, then every room.
+/// Measures the check's growth and sight lines in deep rooms, then every room.
 fn measure_all(meter: &Meter, kept: &Path, folder: &[&str]) {
     growth::check(meter);
+    sight::deep(meter);
     for (name, file) in rooms(folder) {
         eprintln!("{name}");
         work::room(meter, &name, file, kept);

@@ -67,8 +67,13 @@ impl Meter {
 
     /// Tells a number that isn't measured.
     pub fn tell(&self, item: &str, room: &str, who: &str, number: usize) {
+        self.tell_of(item, room, who, 1, number);
+    }
+
+    /// Tells such a number of all questions together.
+    pub fn tell_of(&self, item: &str, room: &str, who: &str, questions: usize, sum: usize) {
         if !self.counting() {
-            println!("{}", line(item, room, who, 1, number as f64));
+            println!("{}", line(item, room, who, questions as u64, sum as f64));
         }
     }
 }

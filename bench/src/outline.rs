@@ -50,6 +50,24 @@ pub fn file(depth: u32, records: &[u8]) -> Vec<u8> {
     out
 }
 
+/// Writes the record of the cell of height h that has these leaves, given by their corners, and no others.
+pub fn write_leaves(out: &mut Vec<u8>, h: u32, leaves: &[([u32; 3], u64)]) {
+    if h == 2 {
+        out.extend_from_slice(&leaves[0].1.to_be_bytes());
+        return;
+    }
+    let mut children: [Vec<([u32; 3], u64)>; 8] = Default::default();
+    for &leaf in leaves {
+        let ([x, y, z], h) = (leaf.0, h - 1);
+        let i = x >> h & 1 | (y >> h & 1) << 1 | (z >> h & 1) << 2;
+        children[i as usize].push(leaf);
+    }
+    out.push((0..8).fold(0, |mask, i| mask | u8::from(!children[i].is_empty()) << i));
+    for child in children.iter().filter(|child| !child.is_empty()) {
+        write_leaves(out, h - 1, child);
+    }
+}
+
 /// Writes the record of the cell of height h at a corner, where `leaf_at` gives the leaf at a corner; whether it is non-empty.
 pub fn write_cell(
     out: &mut Vec<u8>,

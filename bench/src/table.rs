@@ -1,6 +1,8 @@
 //! The tables: sizes, ratios with their goals, the check's growth, what damage tests and the search for equal cells take.
+use crate::deep;
 use crate::growth::{KINDS, SIZES};
 use crate::measure::Results;
+use crate::sight::{LINE, QUESTIONS};
 
 /// What was measured: by the clock, and by instructions.
 pub struct Measured {
@@ -120,6 +122,13 @@ pub fn rows() -> Vec<Row> {
         ),
         beside_graph!("large box", "large box", |_| None),
         beside_graph!("whole room's box", "whole room's box", |_| Some(1.0)),
+        beside_graph!(LINE, LINE, |_| Some(3.0)),
+        row!(
+            "sight line / by voxel questions",
+            (LINE, "store"),
+            (QUESTIONS, "store"),
+            |_| Some(0.2)
+        ),
         beside_graph!("outline out", "outline out", |_| None),
         beside_graph!("add", "add", |_| None),
         row!("pack / add", ("pack", "store"), ("add", "store"), |_| Some(
@@ -186,6 +195,7 @@ pub fn print(all: &Measured) {
     for room in &all.rooms {
         questions(all, room);
     }
+    lines(all);
     whole_calls(all);
     growth(all);
     shares(all);
@@ -287,6 +297,8 @@ fn questions(all: &Measured, room: &str) {
         ("small box, near surfaces", "small box, near surfaces"),
         ("large box", "large box"),
         ("whole room's box", "whole room's box"),
+        (LINE, LINE),
+        (QUESTIONS, LINE),
     ];
     for (item, base) in items {
         let mut fields = vec![item.to_string()];
@@ -299,6 +311,41 @@ fn questions(all: &Measured, room: &str) {
             let count = all.instructions(item, room, who);
             let time = all.told(item, room, who);
             fields.push(format!("{}, {} ns", cell(count), cell(time)));
+        }
+        print_row(fields);
+    }
+}
+
+fn lines(all: &Measured) {
+    println!("\n## Sight lines: what a line goes through, and its instructions\n");
+    println!("Crossed: up to the answer, where empty cells are taken at once, the empty cells and the voxels of leaves that the line meets. The");
+    println!("last rows are rooms of depth 16: a solid voxel in each corner leaf and lines past them; a wall, and lines along it in its");
+    println!("leaves, and beside these.\n");
+    let told = [
+        "voxels met",
+        "voxels up to the answer",
+        "empty cells crossed",
+        "voxels of leaves crossed",
+    ];
+    let mut head = vec!["room", "lines"];
+    head.extend(told);
+    head.extend(["store", "by voxel questions", "graph", "bitmap"]);
+    print_head(&head);
+    for room in all.rooms.iter().map(String::as_str).chain(deep::NAMES) {
+        let number = |item| all.told(item, room, "room");
+        let mut fields = vec![room.to_string()];
+        let text = |value: Option<f64>, digits: usize| {
+            value.map_or("-".to_string(), |value| format!("{value:.digits$}"))
+        };
+        fields.push(text(number("sight lines"), 0));
+        fields.extend(told.map(|item| text(number(item), 1)));
+        for (item, who) in [
+            (LINE, "store"),
+            (QUESTIONS, "store"),
+            (LINE, "graph"),
+            (LINE, "bitmap"),
+        ] {
+            fields.push(cell(all.instructions(item, room, who)));
         }
         print_row(fields);
     }

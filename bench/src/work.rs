@@ -7,7 +7,7 @@ use crate::graph::Graph;
 use crate::measure::Meter;
 use crate::octree::Octree;
 use crate::questions::{self, Point};
-use crate::{classes, outline, twin};
+use crate::{classes, outline, sight, twin};
 use std::collections::HashSet;
 use std::fs;
 use std::hint::black_box;
@@ -38,7 +38,7 @@ struct Subject<'a> {
 /// Measures a room. `kept` is a folder for the words of its store, so that callgrind needn't wait for the adding.
 pub fn room(meter: &Meter, name: &str, file: Vec<u8>, kept: &Path) {
     let differing = classes::of(&file);
-    let capacity = differing[2..].iter().copied().max().unwrap().max(1);
+    let capacity = least_capacity(&differing);
     let words = kept.join(format!("{name}.words"));
     let store = added(meter, name, &file, capacity, words);
     if !meter.counting() {
@@ -71,6 +71,7 @@ pub fn room(meter: &Meter, name: &str, file: Vec<u8>, kept: &Path) {
     }
     subject.cells();
     subject.boxes();
+    sight::room(meter, name, &subject.store, &subject.graph, &subject.bitmap);
 }
 
 // ---- adding, packing, checking
@@ -82,6 +83,41 @@ fn zeros<T: Copy + Default>(n: usize) -> Vec<T> {
         buffer.push(black_box(T::default()));
     }
     buffer
+}
+
+fn least_capacity(differing: &[u32; 17]) -> u32 {
+    differing[2..].iter().copied().max().unwrap().max(1)
+}
+
+/// A store of the least capacity with the room added.
+pub fn store_of(file: &[u8]) -> Vec<u32> {
+    let capacity = least_capacity(&classes::of(file));
+    let mut store = zeros(calls::store_words(capacity));
+    calls::new(&mut store, capacity).unwrap();
+    assert_eq!(calls::add(&mut store, file), Ok(0));
+    store
+}
+
+/// The same, its words kept in a folder for the next run.
+pub fn kept_store(file: &[u8], kept: &Path, room: &str) -> Vec<u32> {
+    let name = Path::new(room).file_stem().unwrap().to_str().unwrap();
+    let words = kept.join(format!("{name}.words"));
+    read_words(&words).unwrap_or_else(|| {
+        let store = store_of(file);
+        write_words(&words, &store);
+        store
+    })
+}
+
+fn write_words(path: &Path, store: &[u32]) {
+    let bytes: Vec<u8> = store.iter().flat_map(|word| word.to_le_bytes()).collect();
+    fs::write(path, bytes).unwrap();
+}
+
+fn read_words(path: &Path) -> Option<Vec<u32>> {
+    let bytes = fs::read(path).ok()?;
+    let word = |four: &[u8]| u32::from_le_bytes(four.try_into().unwrap());
+    Some(bytes.chunks(4).map(word).collect())
 }
 
 /// The store with the room added, and what adding costs, also of the same records with all leaves equal: next to no search.
@@ -101,16 +137,11 @@ fn added(meter: &Meter, name: &str, file: &[u8], capacity: u32, words: PathBuf) 
         add("equal leaves", &equal_leaves(file));
         let store = add("store", file);
         if !meter.counting() {
-            let bytes: Vec<u8> = store.iter().flat_map(|word| word.to_le_bytes()).collect();
-            fs::write(words, bytes).unwrap();
+            write_words(&words, &store);
         }
         return store;
     }
-    let bytes = fs::read(words).expect("the store's words that the run by the clock leaves");
-    bytes
-        .chunks(4)
-        .map(|word| u32::from_le_bytes(word.try_into().unwrap()))
-        .collect()
+    read_words(&words).expect("the store's words that the run by the clock leaves")
 }
 
 /// The same masks, every leaf full: where cells were images of each other, they still are.

@@ -6,7 +6,7 @@
  *
  * Each word of the command line is a prototype of the header: its name and those of its parameters (bindings/c/run writes them).
  *
- * What is known is worked out beside each call, from document 01's formats and three rooms of one or two voxels.
+ * What is known is worked out beside each call, from document 01's formats and four rooms of one or two voxels.
  */
 #include "rooms.h"
 #include "rooms.h" /* twice does no harm */
@@ -24,6 +24,7 @@
 uint32_t rooms_new(uint32_t *, size_t, uint32_t);
 uint32_t rooms_add(uint32_t *, size_t, const uint8_t *, size_t, uint32_t *);
 uint32_t rooms_voxel(const uint32_t *, size_t, uint32_t, uint32_t, uint32_t, uint32_t, uint32_t *, uint32_t *);
+uint32_t rooms_sight(const uint32_t *, size_t, uint32_t, uint32_t, uint32_t, uint32_t, uint32_t, uint32_t, uint32_t, uint32_t *, uint32_t *, uint32_t *, uint32_t *);
 uint32_t rooms_cell(const uint32_t *, size_t, uint32_t, uint32_t, uint32_t, uint32_t, uint32_t, uint32_t *);
 uint32_t rooms_box(const uint32_t *, size_t, uint32_t, uint32_t, uint32_t, uint32_t, uint32_t, uint32_t, uint32_t, uint64_t *);
 uint32_t rooms_kept(const uint32_t *, size_t, uint32_t, uint32_t *);
@@ -54,8 +55,11 @@ struct argument {
 /* Elements of each memory. No number given is greater, so that any pointer may be lent with any of them as its length. */
 #define SIZE 1200
 
+#define SLICES 5 /* of words */
+#define MOST 13  /* arguments of a call */
+
 struct memory {
-    uint32_t words[4][SIZE];
+    uint32_t words[SLICES][SIZE];
     uint8_t bytes[2][SIZE];
     uint64_t wide[2];
 };
@@ -106,6 +110,11 @@ static uint32_t call_add(const struct argument *a)
 static uint32_t call_voxel(const struct argument *a)
 {
     return rooms_voxel(a[0].words, a[1].whole, U32(2), U32(3), U32(4), U32(5), a[6].words, a[7].words);
+}
+
+static uint32_t call_sight(const struct argument *a)
+{
+    return rooms_sight(a[0].words, a[1].whole, U32(2), U32(3), U32(4), U32(5), U32(6), U32(7), U32(8), a[9].words, a[10].words, a[11].words, a[12].words);
 }
 
 static uint32_t call_cell(const struct argument *a)
@@ -164,7 +173,7 @@ static char **prototypes; /* the words of the command line */
 
 static const char *called;
 static uint32_t (*call)(const struct argument *);
-static struct argument given[10]; /* in the header's order */
+static struct argument given[MOST]; /* in the header's order */
 static size_t count;              /* of arguments */
 static size_t outs;               /* how many of them, from the last back, are out parameters */
 
@@ -206,7 +215,7 @@ static void begin(const char *name, uint32_t (*make)(const struct argument *))
     called = name;
     call = make;
     for (size_t i = 0; i < SIZE; i++) {
-        for (size_t k = 0; k < 4; k++) {
+        for (size_t k = 0; k < SLICES; k++) {
             before.words[k][i] = (uint32_t)(2654435761u * i + 12345 + k);
         }
         for (size_t k = 0; k < 2; k++) {
@@ -240,7 +249,7 @@ static size_t place_of(const char *name)
    header has its name. */
 static void give(size_t out, size_t many, ...)
 {
-    enum kind kinds[10];
+    enum kind kinds[MOST];
     va_list list;
     count = many;
     outs = out;
@@ -372,8 +381,8 @@ static void orders(void)
 {
     printf("%-18s", called);
     for (enum kind kind = WHOLE; kind < KINDS; kind++) {
-        struct argument a[10];
-        size_t places[10], many = 0;
+        struct argument a[MOST];
+        size_t places[MOST], many = 0;
         bool differ = true;
         memcpy(a, given, sizeof a);
         for (size_t i = 0; i < count; i++) {
@@ -397,7 +406,7 @@ static void orders(void)
     printf("\n");
 }
 
-/* ---- three rooms ---- */
+/* ---- four rooms ---- */
 
 #define CAPACITY 8
 #define STORE ROOMS_STORE_WORDS(CAPACITY)
@@ -437,6 +446,13 @@ static const uint8_t single_packed[] = {
 /* Two voxels, (2, 3, 4) and (8, 10, 12), at depth 4: children 0 and 7, each with a child 4, a leaf; bit 2 + 12 = 14 and bit 8. */
 static const uint8_t pair[] = {
     0x11, 0, 0, 0, 25, 4, 0x81, 0x10, 0, 0, 0, 0, 0, 0, 0x40, 0, 0x10, 0, 0, 0, 0, 0, 0, 0x01, 0,
+};
+
+/* Two voxels, (10, 11, 13) and (18, 17, 15), at depth 5, in one row with (2, 5, 11) and (26, 23, 17). In binary they are 01010, 01011, 01101
+   and 10010, 10001, 01111: children 0, 7 and 4, then (2, 3, 1) of the leaf, bit 2 + 12 + 16 = 30; children 3, 4 and 4, then (2, 1, 3),
+   bit 2 + 4 + 48 = 54. */
+static const uint8_t row[] = {
+    0x11, 0, 0, 0, 27, 5, 0x09, 0x80, 0x10, 0, 0, 0, 0, 0x40, 0, 0, 0, 0x10, 0x10, 0, 0x40, 0, 0, 0, 0, 0, 0,
 };
 
 /* S9: a room that keeps two leaves. */
@@ -576,6 +592,65 @@ static void try_voxel(void)
     change(whole("y", 2));
     change(whole("z", 1));
     empty(2, 0, "the empty scene, of depth 2");
+}
+
+/* The sight line's ends. */
+static void ends_at(uint32_t from_x, uint32_t from_y, uint32_t from_z, uint32_t to_x, uint32_t to_y, uint32_t to_z)
+{
+    change(whole("from_x", from_x));
+    change(whole("from_y", from_y));
+    change(whole("from_z", from_z));
+    change(whole("to_x", to_x));
+    change(whole("to_y", to_y));
+    change(whole("to_z", to_z));
+}
+
+/* The line is blocked at this voxel; or, all four 0, it is clear. */
+static void seen(uint32_t blocked, uint32_t x, uint32_t y, uint32_t z, const char *what)
+{
+    memcpy(&after, &before, sizeof after);
+    after.words[1][0] = blocked;
+    after.words[2][0] = x;
+    after.words[3][0] = y;
+    after.words[4][0] = z;
+    accepted(what);
+}
+
+static void try_sight(void)
+{
+    const size_t root = 160 + 2 * CAPACITY + 2 * 8 * CAPACITY; /* where the pointers of the one cell of height 5 are */
+    static const char *const ends[] = {"from_x", "from_y", "from_z", "to_x", "to_y", "to_z"};
+    begin("rooms_sight", call_sight);
+    put_store(row, sizeof row);
+    give(4, 13, words("store", 0), whole("store_words", STORE), whole("scene", 1), whole("from_x", 2), whole("from_y", 5), whole("from_z", 11), whole("to_x", 26), whole("to_y", 23), whole("to_z", 17), words("blocked", 1), words("x", 2), words("y", 3), words("z", 4));
+    seen(1, 10, 11, 13, "from the one end of the row: the first voxel");
+    orders();
+    refused_store();
+    for (size_t i = 0; i < 6; i++) {
+        refused(whole(ends[i], 32), ROOMS_OUTSIDE);
+    }
+    refused_word(34, 17, ROOMS_DAMAGED_STORE);       /* the scene's depth */
+    refused_word(35, 2, ROOMS_DAMAGED_STORE);        /* its root, a cell that is not kept */
+    refused_word(root + 6, 9, ROOMS_DAMAGED_STORE);  /* a child that is not kept, of a cell that is entered */
+    ends_at(26, 23, 17, 2, 5, 11);
+    seen(1, 18, 17, 15, "from the other end: the second");
+    ends_at(10, 11, 13, 26, 23, 17);
+    seen(1, 18, 17, 15, "from the first on: the end is left out");
+    ends_at(10, 11, 13, 18, 17, 15);
+    seen(0, 0, 0, 0, "from the first to the second: both ends are left out");
+    ends_at(8, 10, 13, 12, 14, 13);
+    seen(0, 0, 0, 0, "an edge of the first is touched");
+    ends_at(7, 9, 11, 12, 14, 16);
+    seen(0, 0, 0, 0, "a corner of the first is touched");
+    ends_at(10, 11, 13, 10, 11, 13);
+    seen(0, 0, 0, 0, "the same voxel at both ends");
+    before.words[0][root + 6] = 9;
+    seen(0, 0, 0, 0, "the same, and no cell is entered");
+    ends_at(10, 11, 13, 11, 10, 14);
+    seen(0, 0, 0, 0, "ends that touch, and no cell is entered");
+    change(whole("scene", 0));
+    ends_at(0, 0, 0, 3, 2, 1);
+    seen(0, 0, 0, 0, "the empty scene, of depth 2");
 }
 
 static void try_cell(void)
@@ -868,6 +943,7 @@ int main(int argc, char **argv)
     try_new();
     try_add();
     try_voxel();
+    try_sight();
     try_cell();
     try_box();
     try_kept();

@@ -26,6 +26,10 @@ fn main() -> Result<(), Refusal> {
     println!("voxel 7 0 0: {}", if voxel.solid { "solid" } else { "empty" });
     let voxel = rooms::voxel(&store, scene, 0, 5, 0)?;
     println!("voxel 0 5 0: {}, height {}", if voxel.solid { "solid" } else { "empty" }, voxel.height);
+    match rooms::sight(&store, scene, [0, 0, 0], [7, 0, 0])? {
+        Some([x, y, z]) => println!("sight line 0 0 0 to 7 0 0: blocked at {x} {y} {z}"),
+        None => println!("sight line 0 0 0 to 7 0 0: clear"),
+    }
     let full = rooms::cell(&store, scene, 2, 0, 1, 0)?;
     println!("cell of height 2 at 0 1 0: {}", if full { "non-empty" } else { "empty" });
     println!("solid in the whole room: {}", rooms::box_count(&store, scene, [0, 0, 0], [8, 8, 8])?);

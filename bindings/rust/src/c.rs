@@ -1,4 +1,4 @@
-//! The thirteen C calls of include/rooms.h over slices: the answer's number is returned, values go to out parameters,
+//! The fourteen C calls of include/rooms.h over slices: the answer's number is returned, values go to out parameters,
 //! zeros on a refusal. Each is safe: a slice and a reference are all that the library asks for, of any content and length, and
 //! `&mut` overlaps with nothing. The only `unsafe` of this crate is here.
 
@@ -17,6 +17,21 @@ pub mod declared {
             z: u32,
             solid: *mut u32,
             height: *mut u32,
+        ) -> u32;
+        pub fn rooms_sight(
+            store: *const u32,
+            store_words: usize,
+            scene: u32,
+            from_x: u32,
+            from_y: u32,
+            from_z: u32,
+            to_x: u32,
+            to_y: u32,
+            to_z: u32,
+            blocked: *mut u32,
+            x: *mut u32,
+            y: *mut u32,
+            z: *mut u32,
         ) -> u32;
         pub fn rooms_cell(store: *const u32, store_words: usize, scene: u32, height: u32, x: u32, y: u32, z: u32, full: *mut u32) -> u32;
         pub fn rooms_box(
@@ -81,6 +96,11 @@ pub fn rooms_add(store: &mut [u32], file: &[u8], scene: &mut u32) -> u32 {
 
 pub fn rooms_voxel(store: &[u32], scene: u32, x: u32, y: u32, z: u32, solid: &mut u32, height: &mut u32) -> u32 {
     unsafe { declared::rooms_voxel(store.as_ptr(), store.len(), scene, x, y, z, solid, height) }
+}
+
+pub fn rooms_sight(store: &[u32], scene: u32, from: [u32; 3], to: [u32; 3], blocked: &mut u32, at: &mut [u32; 3]) -> u32 {
+    let [x, y, z] = at;
+    unsafe { declared::rooms_sight(store.as_ptr(), store.len(), scene, from[0], from[1], from[2], to[0], to[1], to[2], blocked, x, y, z) }
 }
 
 pub fn rooms_cell(store: &[u32], scene: u32, height: u32, x: u32, y: u32, z: u32, full: &mut u32) -> u32 {

@@ -75,6 +75,17 @@ pub fn voxel(store: &[u32], scene: u32, x: u32, y: u32, z: u32) -> Result<Voxel,
     accepted(number, Voxel { solid: solid == 1, height })
 }
 
+/// Sight line from one voxel's centre to another's: the first solid voxel that the segment meets, the two ends left out; `None` where it is
+/// clear. A voxel is met where the segment has a point strictly inside it: a touch at a face, an edge or a corner does not block. The
+/// ends are never tested, solid or not. No rounding takes part.
+/// Refusals, in order: `DamagedStore` (header), `NoScene`, `DamagedStore` (the scene's two words), `Outside` (either end), `DamagedStore`
+/// (where `voxel` gives it at a voxel met before the answer, the ends left out).
+pub fn sight(store: &[u32], scene: u32, from: [u32; 3], to: [u32; 3]) -> Result<Option<[u32; 3]>, Refusal> {
+    let (mut blocked, mut at) = (0, [0; 3]);
+    let number = c::rooms_sight(store, scene, from, to, &mut blocked, &mut at);
+    accepted(number, (blocked == 1).then_some(at))
+}
+
 /// Whether a cell of a height, 0 to D, is non-empty; x, y and z are counted in cells of that height. Refusals: as for a voxel.
 pub fn cell(store: &[u32], scene: u32, height: u32, x: u32, y: u32, z: u32) -> Result<bool, Refusal> {
     let mut full = 0;

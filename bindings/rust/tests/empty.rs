@@ -10,7 +10,7 @@ fn null_pointers_of_length_0() {
     rooms::new_store(&mut store, 1).unwrap();
     rooms::add(&mut store, &[0x11, 0, 0, 0, 6, 2]).unwrap();
     let empty_scene = [0x21, 0, 0, 0, 7, 2, 8];
-    let (mut a, mut b, mut c) = (9, 9, 9);
+    let (mut a, mut b, mut c, mut d) = (9, 9, 9, 9);
     let store = store.as_mut_ptr();
     let file = empty_scene.as_ptr();
     unsafe {
@@ -18,6 +18,9 @@ fn null_pointers_of_length_0() {
         assert_eq!((rooms_add(null_mut(), 0, null(), 0, &mut a), a), (2, 0));
         assert_eq!((rooms_add(store, words, null(), 0, &mut a), a), (3, 0));
         assert_eq!((rooms_voxel(null(), 0, 0, 0, 0, 0, &mut a, &mut b), a, b), (2, 0, 0));
+        b = 9;
+        let sight = rooms_sight(null(), 0, 0, 0, 0, 0, 1, 1, 1, &mut a, &mut b, &mut c, &mut d);
+        assert_eq!((sight, a, b, c, d), (2, 0, 0, 0, 0));
         assert_eq!((rooms_cell(null(), 0, 0, 2, 0, 0, 0, &mut a), a), (2, 0));
         let mut count = 9;
         assert_eq!((rooms_box(null(), 0, 0, 0, 0, 0, 1, 1, 1, &mut count), count), (2, 0));
@@ -26,7 +29,7 @@ fn null_pointers_of_length_0() {
         assert_eq!((rooms_pack(store, words, 0, null_mut(), 0, null_mut(), 0, &mut a), a), (11, 0));
         assert_eq!((rooms_check(null(), 0, null_mut(), 0, &mut a), a), (3, 0));
         assert_eq!((rooms_check(file, 7, null_mut(), 0, &mut a), a), (11, 0));
-        b = 9;
+        (b, c) = (9, 9);
         assert_eq!((rooms_packed_voxel(null(), 0, 0, 0, 0, &mut a, &mut b, &mut c), a, b, c), (3, 0, 0, 0));
         assert_eq!(rooms_open(null(), 0, null_mut(), 0), 3);
         assert_eq!(rooms_open(file, 7, null_mut(), 0), 12);

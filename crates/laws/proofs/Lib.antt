@@ -75,6 +75,15 @@ pub mod Emptiness
 pub mod RoomAnswers
 pub mod RunClaims
 pub mod WalkClaim
+-- lines
+pub mod LineMoments
+pub mod LineSteps
+pub mod LineMeeting
+pub mod LineTested
+pub mod FirstFailing
+pub mod LineBetween
+pub mod LineSkipping
+pub mod SightClaim
 -- packed files
 pub mod OpenClaim
 pub mod PackedLists

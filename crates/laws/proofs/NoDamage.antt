@@ -1,15 +1,19 @@
 -- No call answers 2 on a store that only the calls wrote: its header, its scenes and the whole of it pass the tests, and no walk meets a bad
 -- pointer. Call by call, by the tests of its order. Assumes nothing.
-use mathlib.Core.Path.{_≡_, sym, _∙_, ap}
+use mathlib.Core.Path.{_≡_, refl, sym, _∙_, ap}
 use mathlib.Core.Bool.{Bool, false, not}
 use mathlib.Core.List.{List, []}
+use mathlib.Core.Option.{Option, some}
+use mathlib.Core.Option as O
 use Prim.Native.Nat.{ℕ}
+use borrow.Author.Tests.{ne-eqb}
 use Rattle.paper.specs.Rooms.{Point}
 use Rattle.paper.specs.Store.{keptOf, sceneDepth, sceneRoot, headerOk, storeOk}
 use Rattle.paper.specs.Order.{firstOf, settled}
 use Rattle.paper.specs.Detail.{detailOrder, detailOutcome}
 use Rattle.paper.specs.Calls.{newOrder, newOutcome, addOutcome, noScene, questionOrder, voxelOutside, voxelDamaged, voxelOutcome, cellOutside, cellDamaged, cellOutcome, boxOutside, boxDamaged, boxOutcome, keptOutcome, outlineOutcome, packOutcome, checkOrder, checkOutcome, packedVoxelOrder, packedVoxelOutcome, openOrder, openOutcome, askOrder, askOutcome}
-use Rattle.paper.specs.Runs.{StoreQuestion, voxel, cell, box, kept, outline, pack, FileQuestion, check, packedVoxel, opening, ask, detail, Call, new, add, ofStore, ofFile, Held, storeAnswer, fileAnswer, outcomeOf}
+use Rattle.paper.specs.Sight.{decider, givesTwo, sightDamaged, sightOutside, sightOutcome}
+use Rattle.paper.specs.Runs.{StoreQuestion, voxel, sight, cell, box, kept, outline, pack, FileQuestion, check, packedVoxel, opening, ask, detail, Call, new, add, ofStore, ofFile, Held, storeAnswer, fileAnswer, outcomeOf}
 use Rattle.laws.proofs.Tests.{T-true}
 use Rattle.laws.proofs.Refusals.{settled-number, never-2, sound-never-2, question-never-2}
 use Rattle.laws.proofs.Walks.{voxel-clear, cell-clear, box-clear}
@@ -53,9 +57,23 @@ module _ {ws : List ℕ} {held : Held} (s : Holds ws held) where
       question-never-2 ws n outside walk (header-ok s) (λ q. (scene-ok s n (there-below s n q), clear q))
       (sym (settled-number (firstOf (questionOrder ws n outside walk)) vs [] []) ∙ e)
 
+  voxel-never-2 : (n : ℕ) (v : Point) → voxelOutcome ws n v .number ≡ 2 → ⊥
+  unfolding voxelOutcome
+  voxel-never-2 n v = question-sound n (voxelOutside ws n v) (voxelDamaged ws n v) _ (voxel-undamaged n v)
+
+  -- so no voxel that decides a sight line gives it
+  pub sight-undamaged : (n : ℕ) (a b : Point) → sightDamaged ws n a b ≡ false
+  unfolding sightDamaged
+  sight-undamaged n a b = go (decider ws n a b)
+    where
+      go : (o : Option Point) → givesTwo ws n o ≡ false
+      go O.none = refl
+      go (some v) = ne-eqb (voxelOutcome ws n v .number) 2 (voxel-never-2 n v)
+
   store-undamaged : (q : StoreQuestion) → storeAnswer ws q .number ≡ 2 → ⊥
-  unfolding voxelOutcome cellOutcome boxOutcome keptOutcome outlineOutcome packOutcome
-  store-undamaged (voxel n v) = question-sound n (voxelOutside ws n v) (voxelDamaged ws n v) _ (voxel-undamaged n v)
+  unfolding sightOutcome cellOutcome boxOutcome keptOutcome outlineOutcome packOutcome
+  store-undamaged (voxel n v) = voxel-never-2 n v
+  store-undamaged (sight n a b) = question-sound n (sightOutside ws n a b) (sightDamaged ws n a b) _ (λ e. sight-undamaged n a b)
   store-undamaged (cell n h c) = question-sound n (cellOutside ws n h c) (cellDamaged ws n h c) _ (cell-undamaged n h c)
   store-undamaged (box n low high) = question-sound n (boxOutside ws n low high) (boxDamaged ws n low high) _ (box-undamaged n low high)
   store-undamaged (kept h) = sound-never-2 _ _ _ _ _ sound-header tt

@@ -3,6 +3,8 @@
 use mathlib.Core.Path.{_≡_, refl, sym, ap, ap₂, _∙_}
 use mathlib.Core.Bool.{Bool, true, false, cond, not, _||_}
 use mathlib.Core.List.{List, [], _∷_, _++_, map}
+use mathlib.Core.Option.{Option, some}
+use mathlib.Core.Option as O
 use Prim.Native.Nat.{ℕ, _-_, _<_, _≤_, _^_}
 use lib.Dec.{T, eqb, leb, ltb}
 use lib.ListN.{length}
@@ -18,6 +20,8 @@ use Rattle.paper.specs.Answers.{Outcome, told, outcome}
 use Rattle.paper.specs.Order.{when, firstOf, settled}
 use Rattle.paper.specs.Calls.{over, cleared, noScene, ofScene, axisOutside, voxelOutside, voxelDamaged, voxelOutcome, cellOutside, cellDamaged, cellOutcome, boxOutside, boxDamaged, boxOutcome}
 use Rattle.paper.specs.Calls.{keptOutcome, outShort, outlineBytes, outlineShort, outlineOutcome, packScratch, packBytes, packShort, packOutcome}
+use Rattle.paper.specs.Lines.{tested, firstFailing}
+use Rattle.paper.specs.Sight.{saysEmpty, decider, givesTwo, sightDamaged, sightOutside, blockedAt, sightOutcome}
 use Rattle.laws.proofs.Undamaged.{fine-header, depth-low, store-header, there-held, held-placed}
 use Rattle.laws.proofs.UnseenWords.{capacity-unseen, number-unseen, count-unseen, header-unseen, kept-unseen, depth-unseen, root-unseen, scene-unseen, undamaged-unseen}
 
@@ -104,6 +108,24 @@ module _ (f r : List ℕ) (whole : used (capacityOf f) ≤ length f) where
   pub voxel-unseen : (n : ℕ) (v : Point) → voxelOutcome (f ++ r) n v ≡ voxelOutcome f n v
   unfolding voxelOutcome voxelOutside voxelDamaged
   voxel-unseen n v = question-unseen n (λ K D p. not (inside (2 ^ D) v)) (λ K D p. isDamaged (voxelWalk K D p v .end)) (λ K D p. bitFor (solidAt (voxelWalk K D p v .end)) ∷ emptyHeight (voxelWalk K D p v .end) ∷ []) (0 ∷ 0 ∷ []) (λ K D p. refl)
+
+  -- the same voxel decides, and gives the same
+  decider-unseen : (n : ℕ) (a b : Point) → decider (f ++ r) n a b ≡ decider f n a b
+  unfolding decider
+  decider-unseen n a b = λ i. firstFailing (λ v. saysEmpty (voxel-unseen n v i)) (tested a b)
+
+  gives-unseen : (n : ℕ) (o : Option Point) → givesTwo (f ++ r) n o ≡ givesTwo f n o
+  gives-unseen n O.none = refl
+  gives-unseen n (some v) = ap (λ (o : Outcome). eqb (o .number) 2) (voxel-unseen n v)
+
+  pub sight-unseen : (n : ℕ) (a b : Point) → sightOutcome (f ++ r) n a b ≡ sightOutcome f n a b
+  unfolding sightOutcome sightOutside sightDamaged voxelOutside
+  sight-unseen n a b =
+      let o : Option Point = decider f n a b in
+      let out : List (List Cell) → ℕ → ℕ → Bool = λ K D p. not (inside (2 ^ D) a) || not (inside (2 ^ D) b) in
+      let at : Option Point → Bool → Outcome = λ x w. question (headerOk (f ++ r)) (noScene (f ++ r) n) (sceneOk (f ++ r) n) (ofScene out (f ++ r) n) w (blockedAt x) in
+      ap₂ at (decider-unseen n a b) (ap (givesTwo (f ++ r) n) (decider-unseen n a b) ∙ gives-unseen n o)
+      ∙ question-unseen n out (λ K D p. givesTwo f n o) (λ K D p. blockedAt o) (zerosFor (blockedAt o)) (λ K D p. refl)
 
   pub cell-unseen : (n h : ℕ) (c : Point) → cellOutcome (f ++ r) n h c ≡ cellOutcome f n h c
   unfolding cellOutcome cellOutside cellDamaged

@@ -65,7 +65,7 @@ low-unless : (b : Bool) (w : Walk) (h : ℕ) → unless b w .end ≡ absent h �
 low-unless true w h e = e
 low-unless false w h e = absurd (false≢true (sym (ap isDamaged e)))
 
-root-low : (R : Reading) (D : ℕ) → T (depthOk D) → (c : Child) (v : Point) (h : ℕ) → rootWalk R D c v .end ≡ absent h → h ≤ D
+pub root-low : (R : Reading) (D : ℕ) → T (depthOk D) → (c : Child) (v : Point) (h : ℕ) → rootWalk R D c v .end ≡ absent h → h ≤ D
 root-low R D deep none v h e = omega (arith, ap emptyHeight e)
 root-low R D deep wrong v h e = absurd (false≢true (sym (ap isDamaged e)))
 root-low R D deep (to t p) v h e = omega (arith, absent-low R (D - 2) p t v h e, depth-two D deep)
@@ -73,7 +73,7 @@ root-low R D deep (to t p) v h e = omega (arith, absent-low R (D - 2) p t v h e,
 module _ (W : Point → Walk) (D : ℕ) (one : (v w : Point) (h : ℕ) → Inside (2 ^ D) v → W v .end ≡ absent h → OneCell h v w → W w ≡ W v)
     (low : (v : Point) (h : ℕ) → W v .end ≡ absent h → h ≤ D) (v w : Point) (l : Inside (2 ^ D) v) where
   -- of the height that the walk tells, if it isn't damaged: the same walk, and inside too
-  walk-shared : isDamaged (W v .end) ≡ false → OneCell (emptyHeight (W v .end)) v w → (W w ≡ W v) × Inside (2 ^ D) w
+  pub walk-shared : isDamaged (W v .end) ≡ false → OneCell (emptyHeight (W v .end)) v w → (W w ≡ W v) × Inside (2 ^ D) w
   walk-shared sound s = go (W v .end) refl
     where
       go : (e : End) → W v .end ≡ e → (W w ≡ W v) × Inside (2 ^ D) w

@@ -1,3 +1,4 @@
 -- Definitions that several crates' contracts cite.
 pub mod Boxes
 pub mod Symmetries
+pub mod Lines

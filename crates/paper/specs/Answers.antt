@@ -16,6 +16,7 @@ use Rattle.paper.specs.declared.Checked.{Checked}
 use Rattle.paper.specs.declared.Found.{Found}
 use Rattle.paper.specs.declared.Chosen.{Chosen}
 use Rattle.paper.specs.declared.Opening.{Opening}
+use Rattle.paper.specs.declared.Sighted.{Sighted}
 
 -- the number and the values of an answer
 pub record Told : Type 0 where
@@ -56,6 +57,12 @@ abbrev pub seen : Seen → Told
 seen Seen.Solid = told 0 (1 ∷ 0 ∷ [])
 seen (Seen.Empty h) = told 0 (0 ∷ h ∷ [])
 seen (Seen.Refused r) = told (numberOf r) (0 ∷ 0 ∷ [])
+
+-- sight line (document 02, request 3): 1 where it is blocked, then the voxel that blocks it
+abbrev pub sighted : Sighted → Told
+sighted Sighted.Clear = told 0 (0 ∷ 0 ∷ 0 ∷ 0 ∷ [])
+sighted (Sighted.Blocked x y z) = told 0 (1 ∷ x ∷ y ∷ z ∷ [])
+sighted (Sighted.Refused r) = told (numberOf r) (0 ∷ 0 ∷ 0 ∷ 0 ∷ [])
 
 -- cell: 1 for non-empty, 0 for empty
 abbrev pub occupied : Occupied → Told

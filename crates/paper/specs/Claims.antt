@@ -1,4 +1,4 @@
--- The claims C1 to C12, the demands of documents 01 and 02, as types. This file states all and proves none; docs/READING.md says where each is proved.
+-- The claims C1 to C13, the demands of documents 01 and 02, as types. This file states all and proves none; docs/READING.md says where each is proved.
 -- A claim that speaks of a call speaks of its outcome function (Calls, Detail); the promise of the call ties the code to that function.
 use mathlib.Core.Bool.{true, false, cond}
 use mathlib.Core.List.{List, [], _∷_}
@@ -13,7 +13,7 @@ use lib.Ieee.Exact.{HasValue}
 use lib.Ieee.Positive.{num, den}
 use lib.ListN.{length, take, drop, getD}
 use Rattle.paper.specs.Numbers.{allIn, bitFor, isIn}
-use Rattle.paper.specs.Rooms.{Point, Room, deepest, depthOk, Inside, cellOf, OneCell, cellAround, childRoom, mirror, mirrored, Same, Image, NonEmpty, boxCount, nonEmpty, emptyAt}
+use Rattle.paper.specs.Rooms.{Point, point, Room, deepest, depthOk, Inside, cellOf, OneCell, cellAround, childRoom, mirror, mirrored, Same, Image, NonEmpty, boxCount, nonEmpty, emptyAt}
 use Rattle.paper.specs.Outline.{edge, IsOutline, outlineOf, fileDepth, fileRoom}
 use Rattle.paper.specs.Store.{Cell, leafNo, tagOf, cellNo, anyBad, capacityOf, isHeld, keptOf, cellsAt, cellAt}
 use Rattle.paper.specs.Meaning.{cellVoxel, rootRoom}
@@ -25,6 +25,8 @@ use Rattle.paper.specs.Order.{firstOf}
 use Rattle.paper.specs.Detail.{factorOk, distanceOk, reaches, doubled}
 use Rattle.paper.specs.Calls.{over, cleared, nextScene, scenesFull, outlineOrder, ofScene, addOutcome, voxelOutcome, cellOutcome, boxOutcome, keptOutcome, outlineOutcome, scratchFor, packBytes, packOutcome, checkOutcome, packedVoxelOutcome, openOutcome, askOutcome}
 use Rattle.paper.specs.Runs.{Call, Bytes, Given, outcomeOf, wordsAfter, besides, Scene, sceneOf, holding, alone, State, Reached, Occurs, Outnumbered, Number, keptRoom, usedBy}
+use Rattle.paper.specs.Lines.{Before, Between, tested}
+use Rattle.paper.specs.Sight.{sightOutcome}
 use Rattle.paper.specs.Samples.{samples, holds}
 
 -- ---- C1, mirror laws, once over the edge
@@ -281,3 +283,31 @@ pub record C12 : Type 0 where
   pub empty : (D : ℕ) (r : Room) (v : Point) → r v ≡ false → ¬ NonEmpty (2 ^ emptyAt D r v) (cellAround r (emptyAt D r v) v)
   -- and from height 2 up it is the greatest: the cell one height up around v, unless the height is the depth, is non-empty
   pub greatest : (D : ℕ) (r : Room) (v : Point) → ¬ (emptyAt D r v ≡ 0) → emptyAt D r v < D → NonEmpty (2 ^ suc (emptyAt D r v)) (cellAround r (suc (emptyAt D r v)) v)
+
+-- ---- C13, sight lines (document 02, request 3)
+
+-- v is the first voxel of a room that blocks the line from a to b: solid, met, no end, and every other such voxel comes after it
+pub record FirstBlock (r : Room) (a b v : Point) : Type 0 where
+  pub between : Between a b v
+  pub solid : r v ≡ true
+  pub first : (w : Point) → Between a b w → r w ≡ true → ¬ (w ≡ v) → Before a b v w
+
+-- the voxels tested between a and b, in their order; v is one of them
+abbrev pub testedAt : Point → Point → ℕ → Point
+testedAt a b i = getD (tested a b) i (point 0 0 0)
+
+abbrev pub IsTested : Point → Point → Point → Type 0
+IsTested a b v = (i : ℕ) × (i < length (tested a b)) × (testedAt a b i ≡ v)
+
+pub record C13 : Type 0 where
+  -- the voxels tested are those met but for the ends, each once, in their order along the segment
+  pub testedMet : (a b v : Point) → IsTested a b v ↔ Between a b v
+  pub ordered : (a b : Point) (i j : ℕ) → i < j → j < length (tested a b) → Before a b (testedAt a b i) (testedAt a b j)
+  -- on stores that only the calls wrote, blocked at v exactly where v is the first that blocks, clear exactly where none does
+  pub blocked : (s : State) → Reached s → (n : ℕ) (sc : Scene) (a b v : Point) → s .held n ≡ some sc → Inside (2 ^ sc .depth) a → Inside (2 ^ sc .depth) b
+      → (sightOutcome (s .words) n a b ≡ outcome (told 0 (1 ∷ v .x ∷ v .y ∷ v .z ∷ [])) []) ↔ FirstBlock (sc .room) a b v
+  pub clear : (s : State) → Reached s → (n : ℕ) (sc : Scene) (a b : Point) → s .held n ≡ some sc → Inside (2 ^ sc .depth) a → Inside (2 ^ sc .depth) b
+      → (sightOutcome (s .words) n a b ≡ outcome (told 0 (0 ∷ 0 ∷ 0 ∷ 0 ∷ [])) []) ↔ ((v : Point) → Between a b v → sc .room v ≡ false)
+  -- on any words the line is clear from a to b exactly where it is from b to a
+  pub bothWays : (ws : List ℕ) (n : ℕ) (a b : Point)
+      → (sightOutcome ws n a b ≡ outcome (told 0 (0 ∷ 0 ∷ 0 ∷ 0 ∷ [])) []) ↔ (sightOutcome ws n b a ≡ outcome (told 0 (0 ∷ 0 ∷ 0 ∷ 0 ∷ [])) [])

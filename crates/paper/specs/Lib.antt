@@ -13,7 +13,11 @@ pub mod Pack
 pub mod Answers
 pub mod Order
 pub mod Detail
+-- document 02, request 3
+pub mod Lines
+-- document 01's calls, samples and claims
 pub mod Calls
+pub mod Sight
 pub mod Promises
 pub mod Samples
 pub mod Runs

@@ -4,12 +4,14 @@ use mathlib.Core.Path.{_≡_}
 use mathlib.Core.List.{List, [], _∷_}
 use Prim.Native.Nat.{ℕ}
 use Rattle.paper.specs.Rooms.{Point}
-use Rattle.paper.specs.Answers.{outcome, started, added, seen, occupied, counted, kept, written, checked, found, chosen, opened, holds}
+use Rattle.paper.specs.Answers.{outcome, started, added, seen, sighted, occupied, counted, kept, written, checked, found, chosen, opened, holds}
 use Rattle.paper.specs.Calls.{newOutcome, addOutcome, voxelOutcome, cellOutcome, boxOutcome, keptOutcome, outlineOutcome, packOutcome, checkOutcome, packedVoxelOutcome, openOutcome, askOutcome}
 use Rattle.paper.specs.Detail.{detailOutcome}
+use Rattle.paper.specs.Sight.{sightOutcome}
 use Rattle.paper.specs.declared.Started.{Started}
 use Rattle.paper.specs.declared.Added.{Added}
 use Rattle.paper.specs.declared.Seen.{Seen}
+use Rattle.paper.specs.declared.Sighted.{Sighted}
 use Rattle.paper.specs.declared.Occupied.{Occupied}
 use Rattle.paper.specs.declared.Counted.{Counted}
 use Rattle.paper.specs.declared.Kept.{Kept}
@@ -31,6 +33,10 @@ AddPromise ws file r ws′ = outcome (added r) (ws′ ∷ []) ≡ addOutcome ws 
 -- the store's words, the scene, the point
 abbrev pub VoxelPromise : List ℕ → ℕ → Point → Seen → Type 0
 VoxelPromise ws n v r = outcome (seen r) [] ≡ voxelOutcome ws n v
+
+-- the store's words, the scene, the two ends
+abbrev pub SightPromise : List ℕ → ℕ → Point → Point → Sighted → Type 0
+SightPromise ws n a b r = outcome (sighted r) [] ≡ sightOutcome ws n a b
 
 -- the store's words, the scene, the height, the cell
 abbrev pub CellPromise : List ℕ → ℕ → ℕ → Point → Occupied → Type 0

@@ -14,6 +14,7 @@ use Rattle.paper.specs.Meaning.{cellVoxel}
 use Rattle.paper.specs.Answers.{Outcome}
 use Rattle.paper.specs.Detail.{detailOutcome}
 use Rattle.paper.specs.Calls.{newOutcome, addOutcome, voxelOutcome, cellOutcome, boxOutcome, keptOutcome, outlineOutcome, packOutcome, checkOutcome, packedVoxelOutcome, openOutcome, askOutcome}
+use Rattle.paper.specs.Sight.{sightOutcome}
 use Rattle.paper.specs.declared.Wish.{Wish}
 
 -- ---- calls
@@ -21,6 +22,7 @@ use Rattle.paper.specs.declared.Wish.{Wish}
 -- a question on a store, with its arguments and what is lent to it beside the store: it reads the words and changes none
 pub data StoreQuestion : Type 0 where
   voxel : ℕ → Point → StoreQuestion
+  sight : ℕ → Point → Point → StoreQuestion
   cell : ℕ → ℕ → Point → StoreQuestion
   box : ℕ → Point → Point → StoreQuestion
   kept : ℕ → StoreQuestion
@@ -56,6 +58,7 @@ Given (ofFile q) = Unit {0}
 -- what a question answers on these words
 abbrev pub storeAnswer : List ℕ → StoreQuestion → Outcome
 storeAnswer ws (voxel n v) = voxelOutcome ws n v
+storeAnswer ws (sight n a b) = sightOutcome ws n a b
 storeAnswer ws (cell n h c) = cellOutcome ws n h c
 storeAnswer ws (box n low high) = boxOutcome ws n low high
 storeAnswer ws (kept h) = keptOutcome ws h

@@ -3,7 +3,7 @@
 
 ghost use mathlib.Core.Path.{_≡_};
 ghost use lib.ListN.{getD};
-ghost use Rattle.paper.specs.Answers.{numberOf, started, added, seen, occupied, counted, kept, written, checked, found, chosen};
+ghost use Rattle.paper.specs.Answers.{numberOf, started, added, seen, occupied, counted, kept, written, checked, found, chosen, sighted};
 
 // The refusals of document 01's table, in its order: 1 to 13.
 pub enum Refusal {
@@ -129,6 +129,68 @@ impl Seen {
             Seen::Solid => 0,
             Seen::Empty(h) => h,
             Seen::Refused(_) => 0,
+        }
+    }
+}
+
+// Sight line: clear, or the first voxel that blocks it.
+pub enum Sighted {
+    Clear,
+    Blocked(u32, u32, u32),
+    Refused(Refusal),
+}
+
+impl Sighted {
+    // Its number: 0 where the call is accepted, else the refusal's.
+    pub fn number(self) -> u32
+        ensures { λ r. ⌜ r ≡ sighted self .number ⌝ }
+    {
+        match self {
+            Sighted::Clear => 0,
+            Sighted::Blocked(_, _, _) => 0,
+            Sighted::Refused(why) => why.number(),
+        }
+    }
+
+    // 1 where it is blocked, else 0.
+    pub fn value(self) -> u32
+        ensures { λ r. ⌜ r ≡ getD (sighted self .values) 0 0 ⌝ }
+    {
+        match self {
+            Sighted::Clear => 0,
+            Sighted::Blocked(_, _, _) => 1,
+            Sighted::Refused(_) => 0,
+        }
+    }
+
+    // The voxel that blocks it, 0 where there is none.
+    pub fn x(self) -> u32
+        ensures { λ r. ⌜ r ≡ getD (sighted self .values) 1 0 ⌝ }
+    {
+        match self {
+            Sighted::Clear => 0,
+            Sighted::Blocked(x, _, _) => x,
+            Sighted::Refused(_) => 0,
+        }
+    }
+
+    pub fn y(self) -> u32
+        ensures { λ r. ⌜ r ≡ getD (sighted self .values) 2 0 ⌝ }
+    {
+        match self {
+            Sighted::Clear => 0,
+            Sighted::Blocked(_, y, _) => y,
+            Sighted::Refused(_) => 0,
+        }
+    }
+
+    pub fn z(self) -> u32
+        ensures { λ r. ⌜ r ≡ getD (sighted self .values) 3 0 ⌝ }
+    {
+        match self {
+            Sighted::Clear => 0,
+            Sighted::Blocked(_, _, z) => z,
+            Sighted::Refused(_) => 0,
         }
     }
 }

@@ -31,6 +31,7 @@ fn main() {
     play(b"long.script");
     play(b"stop.script");
     play(b"emptiness.script");
+    play(b"sight.script");
     play(b"questions.script");
     play(b"adding.script");
     play(b"packing.script");

@@ -1,6 +1,6 @@
 -- One outcome: for each public call, two results that meet its promise on the same input are equal, the answer and every slice lent for writing.
 -- The promise is the one that the call's `ensures` cites. An answer can be read back from its number and values, so that equal outcomes come from
--- equal answers; the thirteen theorems follow in the order of the calls. Assumes nothing.
+-- equal answers; the theorems follow in the order of the calls. Assumes nothing.
 use mathlib.Core.Path.{_≡_, refl, sym, ap, _∙_}
 use mathlib.Core.List.{List, [], _∷_}
 use Prim.Native.Nat.{ℕ, zero, suc}
@@ -8,6 +8,7 @@ use lib.ListN.{getD}
 use Rattle.paper.specs.declared.Started.{Started}
 use Rattle.paper.specs.declared.Added.{Added}
 use Rattle.paper.specs.declared.Seen.{Seen}
+use Rattle.paper.specs.declared.Sighted.{Sighted}
 use Rattle.paper.specs.declared.Occupied.{Occupied}
 use Rattle.paper.specs.declared.Counted.{Counted}
 use Rattle.paper.specs.declared.Kept.{Kept}
@@ -18,8 +19,8 @@ use Rattle.paper.specs.declared.Chosen.{Chosen}
 use Rattle.paper.specs.declared.Opening.{Opening}
 use Rattle.paper.specs.declared.Wish.{Wish}
 use Rattle.paper.specs.Rooms.{Point}
-use Rattle.paper.specs.Answers.{Outcome, Told, outcome, started, added, seen, occupied, counted, kept, written, checked, found, chosen, opened, holds}
-use Rattle.paper.specs.Promises.{NewStorePromise, AddPromise, VoxelPromise, CellPromise, BoxPromise, KeptPromise, OutlinePromise, PackPromise, CheckPromise, PackedVoxelPromise, OpenPromise, AskPromise, DetailPromise}
+use Rattle.paper.specs.Answers.{Outcome, Told, outcome, started, added, seen, sighted, occupied, counted, kept, written, checked, found, chosen, opened, holds}
+use Rattle.paper.specs.Promises.{NewStorePromise, AddPromise, VoxelPromise, SightPromise, CellPromise, BoxPromise, KeptPromise, OutlinePromise, PackPromise, CheckPromise, PackedVoxelPromise, OpenPromise, AskPromise, DetailPromise}
 use Rattle.laws.proofs.RefusalNumbers.{answerOf, refused-back}
 
 -- ---- each answer from its number and values
@@ -53,6 +54,14 @@ seen-back : (r : Seen) (ls : List (List ℕ)) → seenOf (outcome (seen r) ls) �
 seen-back Seen.Solid ls = refl
 seen-back (Seen.Empty h) ls = refl
 seen-back (Seen.Refused r) ls = refused-back (Seen.Empty 0) Seen.Refused r
+
+abbrev sightedOf : Outcome → Sighted
+sightedOf o = answerOf (pick Sighted.Clear (Sighted.Blocked (getD (o .values) 1 0) (getD (o .values) 2 0) (getD (o .values) 3 0)) (value o)) Sighted.Refused (o .number)
+
+sighted-back : (r : Sighted) (ls : List (List ℕ)) → sightedOf (outcome (sighted r) ls) ≡ r
+sighted-back Sighted.Clear ls = refl
+sighted-back (Sighted.Blocked x y z) ls = refl
+sighted-back (Sighted.Refused r) ls = refused-back Sighted.Clear Sighted.Refused r
 
 abbrev occupiedOf : Outcome → Occupied
 occupiedOf o = answerOf (pick Occupied.Empty Occupied.NonEmpty (value o)) Occupied.Refused (o .number)
@@ -117,7 +126,7 @@ same-lent a b = ap (λ (o : Outcome). o .lent) (a ∙ sym b)
 abbrev lent-at : ℕ → List (List ℕ) → List ℕ
 lent-at i ls = getD ls i []
 
--- ---- the thirteen calls
+-- ---- the calls
 
 pub new-store : (C : ℕ) (ws : List ℕ) {r s : Started} {xs ys : List ℕ} → NewStorePromise C ws r xs → NewStorePromise C ws s ys → (r ≡ s) × (xs ≡ ys)
 new-store C ws a b = (same-answer started startedOf started-back a b, ap (lent-at 0) (same-lent a b))
@@ -127,6 +136,9 @@ add ws file a b = (same-answer added addedOf added-back a b, ap (lent-at 0) (sam
 
 pub voxel : (ws : List ℕ) (n : ℕ) (v : Point) {r s : Seen} → VoxelPromise ws n v r → VoxelPromise ws n v s → r ≡ s
 voxel ws n v a b = same-answer seen seenOf seen-back a b
+
+pub sight : (ws : List ℕ) (n : ℕ) (a b : Point) {r s : Sighted} → SightPromise ws n a b r → SightPromise ws n a b s → r ≡ s
+sight ws n a b p q = same-answer sighted sightedOf sighted-back p q
 
 pub cell : (ws : List ℕ) (n h : ℕ) (c : Point) {r s : Occupied} → CellPromise ws n h c r → CellPromise ws n h c s → r ≡ s
 cell ws n h c a b = same-answer occupied occupiedOf occupied-back a b

@@ -1,8 +1,9 @@
 // The public calls of the room store. Each promise stands in `paper`, by name, as one equation: the outcome read from the answer
 // is document 01's. No call asks anything of its caller.
 ghost use Rattle.paper.specs.Rooms.{point};
-ghost use Rattle.paper.specs.Promises.{NewStorePromise, AddPromise, VoxelPromise, CellPromise, BoxPromise, KeptPromise, OutlinePromise, PackPromise, CheckPromise, PackedVoxelPromise, DetailPromise};
+ghost use Rattle.paper.specs.Promises.{NewStorePromise, AddPromise, VoxelPromise, SightPromise, CellPromise, BoxPromise, KeptPromise, OutlinePromise, PackPromise, CheckPromise, PackedVoxelPromise, DetailPromise};
 use boxes::Corner;
+use lines::Axes;
 use paper::Added;
 use paper::Checked;
 use paper::Chosen;
@@ -11,6 +12,7 @@ use paper::Found;
 use paper::Kept;
 use paper::Occupied;
 use paper::Seen;
+use paper::Sighted;
 use paper::Started;
 use paper::Wish;
 use paper::Written;
@@ -39,6 +41,33 @@ pub fn voxel(store: &[u32], scene: u32, x: u32, y: u32, z: u32) -> Seen
     ensures { λ r. ⌜ VoxelPromise (now (store .entry)) scene (point x y z) r ⌝ }
 {
     walk::voxel(store, scene, x, y, z)
+}
+
+// Sight line: clear, or the first voxel that blocks it between two others' centres; refused by 2 (header), 9, 2 (the scene's two words), 10
+// (either end), 2 (before the answer).
+pub fn sight(
+    store: &[u32],
+    scene: u32,
+    fromx: u32,
+    fromy: u32,
+    fromz: u32,
+    tox: u32,
+    toy: u32,
+    toz: u32,
+) -> Sighted
+    ensures { λ r. ⌜ SightPromise (now (store .entry)) scene (point fromx fromy fromz) (point tox toy toz) r ⌝ }
+{
+    let from = Axes {
+        x: fromx,
+        y: fromy,
+        z: fromz,
+    };
+    let to = Axes {
+        x: tox,
+        y: toy,
+        z: toz,
+    };
+    sight::sight(store, scene, from, to)
 }
 
 // Cell: non-empty or empty, x, y and z counted in cells of its height; refused as voxel.

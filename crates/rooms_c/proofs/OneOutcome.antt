@@ -1,4 +1,4 @@
--- One outcome: for each of the thirteen exports, two results that meet its promise on the same input are equal: the number, every value written and
+-- One outcome: for each export, two results that meet its promise on the same input are equal: the number, every value written and
 -- every slice lent for writing. The promise is the one that the export's `ensures` cites. They are parts of an outcome, and both outcomes are the one that the promise names. Assumes nothing.
 use mathlib.Core.Path.{_≡_, sym, ap, _∙_}
 use mathlib.Core.List.{List, [], _∷_}
@@ -7,7 +7,7 @@ use lib.Ieee.{Float}
 use lib.ListN.{getD}
 use Rattle.paper.specs.Rooms.{Point}
 use Rattle.paper.specs.Answers.{Outcome, told, outcome}
-use Rattle.rooms_c.specs.Exports.{RoomsNewPromise, RoomsAddPromise, RoomsVoxelPromise, RoomsCellPromise, RoomsBoxPromise, RoomsKeptPromise, RoomsOutlinePromise, RoomsPackPromise, RoomsCheckPromise, RoomsPackedVoxelPromise, RoomsOpenPromise, RoomsAskPromise, RoomsDetailPromise}
+use Rattle.rooms_c.specs.Exports.{RoomsNewPromise, RoomsAddPromise, RoomsVoxelPromise, RoomsSightPromise, RoomsCellPromise, RoomsBoxPromise, RoomsKeptPromise, RoomsOutlinePromise, RoomsPackPromise, RoomsCheckPromise, RoomsPackedVoxelPromise, RoomsOpenPromise, RoomsAskPromise, RoomsDetailPromise}
 
 -- ---- the parts of equal outcomes
 
@@ -43,7 +43,12 @@ three-values : {n m v w s t x y : ℕ} {o : Outcome} → outcome (told n (v ∷ 
     → (n ≡ m) × (v ≡ w) × (s ≡ t) × (x ≡ y)
 three-values a b = (same-number a b, same-value a b 0, same-value a b 1, same-value a b 2)
 
--- ---- the thirteen exports
+-- four values
+four-values : {n m v w s t x y k l : ℕ} {o : Outcome} → outcome (told n (v ∷ s ∷ x ∷ k ∷ [])) [] ≡ o → outcome (told m (w ∷ t ∷ y ∷ l ∷ [])) [] ≡ o
+    → (n ≡ m) × (v ≡ w) × (s ≡ t) × (x ≡ y) × (k ≡ l)
+four-values a b = (same-number a b, same-value a b 0, same-value a b 1, same-value a b 2, same-value a b 3)
+
+-- ---- the exports
 
 pub rooms-new : (C : ℕ) (ws : List ℕ) {n m : ℕ} {xs ys : List ℕ} → RoomsNewPromise C ws n xs → RoomsNewPromise C ws m ys → (n ≡ m) × (xs ≡ ys)
 rooms-new C ws a b = slice-only a b
@@ -55,6 +60,10 @@ rooms-add ws file a b = one-slice a b
 pub rooms-voxel : (ws : List ℕ) (scene : ℕ) (v : Point) {n m solid solid′ height height′ : ℕ} → RoomsVoxelPromise ws scene v n solid height
     → RoomsVoxelPromise ws scene v m solid′ height′ → (n ≡ m) × (solid ≡ solid′) × (height ≡ height′)
 rooms-voxel ws scene v a b = two-values a b
+
+pub rooms-sight : (ws : List ℕ) (scene : ℕ) (p q : Point) {n m blocked blocked′ x x′ y y′ z z′ : ℕ} → RoomsSightPromise ws scene p q n blocked x y z
+    → RoomsSightPromise ws scene p q m blocked′ x′ y′ z′ → (n ≡ m) × (blocked ≡ blocked′) × (x ≡ x′) × (y ≡ y′) × (z ≡ z′)
+rooms-sight ws scene p q a b = four-values a b
 
 pub rooms-cell : (ws : List ℕ) (scene h : ℕ) (c : Point) {n m full full′ : ℕ} → RoomsCellPromise ws scene h c n full → RoomsCellPromise ws scene h c m full′
     → (n ≡ m) × (full ≡ full′)

@@ -1,5 +1,5 @@
 -- An answer told by its number and values apart is the answer: an export that returns the number of what a call of `rooms` answers, and writes its
--- values, has that call's outcome. One law for each type of answer, by its cases; then one for a call with no value, one, two and three. Assumes nothing.
+-- values, has that call's outcome. One law for each type of answer, by its cases; then one for a call with no value, one, two, three and four. Assumes nothing.
 use mathlib.Core.Path.{_≡_, refl, ap, ap₂, _∙_}
 use mathlib.Core.List.{List, [], _∷_}
 use Prim.Native.Nat.{ℕ}
@@ -7,6 +7,7 @@ use lib.ListN.{getD}
 use Rattle.paper.specs.declared.Started.{Started}
 use Rattle.paper.specs.declared.Added.{Added}
 use Rattle.paper.specs.declared.Seen.{Seen}
+use Rattle.paper.specs.declared.Sighted.{Sighted}
 use Rattle.paper.specs.declared.Occupied.{Occupied}
 use Rattle.paper.specs.declared.Counted.{Counted}
 use Rattle.paper.specs.declared.Kept.{Kept}
@@ -14,7 +15,7 @@ use Rattle.paper.specs.declared.Written.{Written}
 use Rattle.paper.specs.declared.Checked.{Checked}
 use Rattle.paper.specs.declared.Found.{Found}
 use Rattle.paper.specs.declared.Chosen.{Chosen}
-use Rattle.paper.specs.Answers.{Outcome, Told, told, outcome, started, added, seen, occupied, counted, kept, written, checked, found, chosen}
+use Rattle.paper.specs.Answers.{Outcome, Told, told, outcome, started, added, seen, sighted, occupied, counted, kept, written, checked, found, chosen}
 
 -- ---- each answer has as many values, whether it is accepted or refused
 
@@ -30,6 +31,9 @@ Two {A} tell = (a : A) → told (tell a .number) (getD (tell a .values) 0 0 ∷ 
 abbrev Three : {A : Type 0} → (A → Told) → Type 0
 Three {A} tell = (a : A) → told (tell a .number) (getD (tell a .values) 0 0 ∷ getD (tell a .values) 1 0 ∷ getD (tell a .values) 2 0 ∷ []) ≡ tell a
 
+abbrev Four : {A : Type 0} → (A → Told) → Type 0
+Four {A} tell = (a : A) → told (tell a .number) (getD (tell a .values) 0 0 ∷ getD (tell a .values) 1 0 ∷ getD (tell a .values) 2 0 ∷ getD (tell a .values) 3 0 ∷ []) ≡ tell a
+
 pub started-told : None started
 started-told Started.Ready = refl
 started-told (Started.Refused r) = refl
@@ -42,6 +46,11 @@ pub seen-told : Two seen
 seen-told Seen.Solid = refl
 seen-told (Seen.Empty h) = refl
 seen-told (Seen.Refused r) = refl
+
+pub sighted-told : Four sighted
+sighted-told Sighted.Clear = refl
+sighted-told (Sighted.Blocked x y z) = refl
+sighted-told (Sighted.Refused r) = refl
 
 pub occupied-told : One occupied
 occupied-told Occupied.NonEmpty = refl
@@ -94,3 +103,7 @@ module _ {A : Type 0} (tell : A → Told) where
   tells-three is a {n} {v} {w} {u} {ls} e f g h p =
       ap₂ (λ (m x : ℕ). outcome (told m (x ∷ w ∷ u ∷ [])) ls) e f ∙ ap₂ (λ (y z : ℕ). outcome (told (tell a .number) (getD (tell a .values) 0 0 ∷ y ∷ z ∷ [])) ls) g h
       ∙ ap (λ (t : Told). outcome t ls) (is a) ∙ p
+
+  pub tells-four : Four tell → (a : A) {n v w x y : ℕ} {o : Outcome} → n ≡ tell a .number → v ≡ getD (tell a .values) 0 0 → w ≡ getD (tell a .values) 1 0 → x ≡ getD (tell a .values) 2 0
+      → y ≡ getD (tell a .values) 3 0 → outcome (tell a) [] ≡ o → outcome (told n (v ∷ w ∷ x ∷ y ∷ [])) [] ≡ o
+  tells-four is a {n} {v} {w} {x} {y} e f g h i p = (λ j. outcome (told (e j) (f j ∷ g j ∷ h j ∷ i j ∷ [])) []) ∙ ap (λ (t : Told). outcome t []) (is a) ∙ p

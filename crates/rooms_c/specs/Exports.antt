@@ -13,6 +13,7 @@ use Rattle.paper.specs.Answers.{Outcome, told, outcome}
 use Rattle.paper.specs.Order.{Test, when, firstOf, settled}
 use Rattle.paper.specs.Calls.{over, newOutcome, addOutcome, voxelOutcome, cellOutcome, boxOutcome, keptOutcome, outlineOutcome, packOutcome, checkOutcome, packedVoxelOutcome, openOutcome, askOutcome}
 use Rattle.paper.specs.Detail.{detailOutcome}
+use Rattle.paper.specs.Sight.{sightOutcome}
 use Rattle.paper.specs.declared.Wish.{Wish}
 use Rattle.paper.specs.declared.Wish.the-variants.{EveryVoxel, WidestEdge, Distance}
 
@@ -87,6 +88,9 @@ RoomsAddPromise ws file r scene ws′ = outcome (told r (scene ∷ [])) (ws′ �
 
 abbrev pub RoomsVoxelPromise : List ℕ → ℕ → Point → ℕ → ℕ → ℕ → Type 0
 RoomsVoxelPromise ws n v r solid height = outcome (told r (solid ∷ height ∷ [])) [] ≡ voxelOutcome ws n v
+
+abbrev pub RoomsSightPromise : List ℕ → ℕ → Point → Point → ℕ → ℕ → ℕ → ℕ → ℕ → Type 0
+RoomsSightPromise ws n a b r blocked x y z = outcome (told r (blocked ∷ x ∷ y ∷ z ∷ [])) [] ≡ sightOutcome ws n a b
 
 abbrev pub RoomsCellPromise : List ℕ → ℕ → ℕ → Point → ℕ → ℕ → Type 0
 RoomsCellPromise ws n h c r full = outcome (told r (full ∷ [])) [] ≡ cellOutcome ws n h c

@@ -8,7 +8,7 @@ ghost use Prim.Native.Nat.{_≤_};
 ghost use lib.ListN.{length};
 ghost use Rattle.paper.specs.Rooms.{point};
 ghost use Rattle.paper.specs.Calls.{over};
-ghost use Rattle.rooms_c.specs.Exports.{openedNumbers, startsHeld, wishGiven, RoomsNewPromise, RoomsAddPromise, RoomsVoxelPromise, RoomsCellPromise, RoomsBoxPromise, RoomsKeptPromise, RoomsOutlinePromise, RoomsPackPromise, RoomsCheckPromise, RoomsPackedVoxelPromise, RoomsOpenPromise, RoomsAskPromise, RoomsDetailPromise};
+ghost use Rattle.rooms_c.specs.Exports.{openedNumbers, startsHeld, wishGiven, RoomsNewPromise, RoomsAddPromise, RoomsVoxelPromise, RoomsSightPromise, RoomsCellPromise, RoomsBoxPromise, RoomsKeptPromise, RoomsOutlinePromise, RoomsPackPromise, RoomsCheckPromise, RoomsPackedVoxelPromise, RoomsOpenPromise, RoomsAskPromise, RoomsDetailPromise};
 use paper::DistanceFactor;
 use paper::Wish;
 
@@ -52,6 +52,32 @@ pub extern "C" fn rooms_voxel(
     let answer = rooms::voxel(store, scene, x, y, z);
     *solid = answer.value();
     *height = answer.height();
+    answer.number()
+}
+
+// Sight line: 1 where it is blocked, and the voxel that blocks it.
+#[no_mangle]
+pub extern "C" fn rooms_sight(
+    store: &[u32],
+    scene: u32,
+    fromx: u32,
+    fromy: u32,
+    fromz: u32,
+    tox: u32,
+    toy: u32,
+    toz: u32,
+    blocked: &mut u32,
+    x: &mut u32,
+    y: &mut u32,
+    z: &mut u32,
+) -> u32
+    ensures { λ r. ⌜ RoomsSightPromise (now (store .entry)) scene (point fromx fromy fromz) (point tox toy toz) r (now (blocked .exit)) (now (x .exit)) (now (y .exit)) (now (z .exit)) ⌝ }
+{
+    let answer = rooms::sight(store, scene, fromx, fromy, fromz, tox, toy, toz);
+    *blocked = answer.value();
+    *x = answer.x();
+    *y = answer.y();
+    *z = answer.z();
     answer.number()
 }
 

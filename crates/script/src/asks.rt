@@ -40,6 +40,7 @@ fn front(code: u8, given: &[u8]) -> usize
         b'N' => 9,
         b'A' => 5,
         b'V' => 17,
+        b'S' => 29,
         b'C' => 21,
         b'B' => 29,
         b'K' => 5,

@@ -26,6 +26,26 @@ fn voxel(given: &[u8], store: &[u32]) -> [u64; 6] {
     ]
 }
 
+// `S`: sight line.
+fn sight(given: &[u8], store: &[u32]) -> [u64; 6] {
+    let scene = word(given, 0);
+    let fromx = word(given, 4);
+    let fromy = word(given, 8);
+    let fromz = word(given, 12);
+    let tox = word(given, 16);
+    let toy = word(given, 20);
+    let toz = word(given, 24);
+    let line = rooms::sight(store, scene, fromx, fromy, fromz, tox, toy, toz);
+    [
+        line.number() as u64,
+        line.value() as u64,
+        line.x() as u64,
+        line.y() as u64,
+        line.z() as u64,
+        0,
+    ]
+}
+
 // `C`: cell.
 fn cell(given: &[u8], store: &[u32]) -> [u64; 6] {
     let scene = word(given, 0);
@@ -93,6 +113,7 @@ fn pack(given: &[u8], store: &[u32], scratch: &mut [u32], out: &mut [u8]) -> [u6
 pub fn ask(code: u8, given: &[u8], store: &[u32], scratch: &mut [u32], out: &mut [u8]) -> [u64; 6] {
     match code {
         b'V' => voxel(given, store),
+        b'S' => sight(given, store),
         b'C' => cell(given, store),
         b'B' => box_count(given, store),
         b'K' => kept(given, store),

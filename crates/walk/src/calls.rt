@@ -21,7 +21,7 @@ use points::outside;
 use store::leaf_at;
 
 // The voxel at which a walk ended; an empty one in a leaf has height 0.
-fn voxel_at(store: &[u32], end: Ended, x: u32, y: u32, z: u32) -> Seen
+pub fn voxel_at(store: &[u32], end: Ended, x: u32, y: u32, z: u32) -> Seen
     requires { ⌜ T (headerOk (now store)) ⌝ }
     requires { ⌜ AtKept (keptOf (now store)) end ⌝ }
     ensures { λ r. ⌜ seen r ≡ endTold (endOf (keptOf (now (store .entry))) (point x y z) end) ⌝ }

@@ -5,6 +5,8 @@ mod leaves; // a cell of height 1 in a leaf seen under a mirror
 mod walks; // the walk from a cell down to a list, and from a root to a voxel
 
 pub use calls::voxel;
+pub use calls::voxel_at;
 pub use cell_call::cell;
 pub use walks::Ended;
 pub use walks::voxel_walk;
+pub use walks::walk_to;

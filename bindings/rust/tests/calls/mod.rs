@@ -1,4 +1,4 @@
-//! The thirteen calls as C has them: the number returned, values in out parameters. `Twin` is document 01 once more, `library::Library` the
+//! The fourteen calls as C has them: the number returned, values in out parameters. `Twin` is document 01 once more, `library::Library` the
 //! proved library; the tests run both on the same memory.
 
 use crate::twin::{self, Answer};
@@ -7,6 +7,7 @@ pub trait Calls {
     fn new_store(&mut self, store: &mut [u32], capacity: u32) -> u32;
     fn add(&mut self, store: &mut [u32], file: &[u8], scene: &mut u32) -> u32;
     fn voxel(&mut self, store: &[u32], scene: u32, at: [u32; 3], solid: &mut u32, height: &mut u32) -> u32;
+    fn sight(&mut self, store: &[u32], scene: u32, from: [u32; 3], to: [u32; 3], blocked: &mut u32, at: &mut [u32; 3]) -> u32;
     fn cell(&mut self, store: &[u32], scene: u32, height: u32, at: [u32; 3], full: &mut u32) -> u32;
     fn box_count(&mut self, store: &[u32], scene: u32, low: [u32; 3], high: [u32; 3], count: &mut u64) -> u32;
     fn kept(&mut self, store: &[u32], height: u32, count: &mut u32) -> u32;
@@ -62,6 +63,13 @@ impl Calls for Twin {
         let mut both = (0, 0);
         let number = self.tell(twin::voxel(store, scene, x, y, z), &mut both);
         (*solid, *height) = both;
+        number
+    }
+    fn sight(&mut self, store: &[u32], scene: u32, from: [u32; 3], to: [u32; 3], blocked: &mut u32, at: &mut [u32; 3]) -> u32 {
+        let mut first = None;
+        let number = self.tell(twin::sight(store, scene, from, to), &mut first);
+        *blocked = first.is_some() as u32;
+        *at = first.unwrap_or_default();
         number
     }
     fn cell(&mut self, store: &[u32], scene: u32, height: u32, [x, y, z]: [u32; 3], full: &mut u32) -> u32 {

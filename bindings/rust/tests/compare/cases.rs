@@ -161,6 +161,41 @@ impl Compare {
         number
     }
 
+    /// Answers whether the line is clear.
+    fn sight(&mut self, store: &Lent<u32>, scene: u32, from: [u32; 3], to: [u32; 3]) -> bool {
+        let mine = store.clone();
+        let mut noise = || (self.random.word(), [self.random.word(), 7, 8]);
+        let (mut a, mut b) = (noise(), noise());
+        let here = self.library.sight(mine.slice(), scene, from, to, &mut a.0, &mut a.1);
+        let there = self.twin.sight(store.slice(), scene, from, to, &mut b.0, &mut b.1);
+        let number = self.judge("sight", (here, a), (there, b), mine == *store, || {
+            format!("store {}\nscene {scene} from {from:?} to {to:?}", hex(store.slice()))
+        });
+        let beside = (0..3).all(|axis| from[axis].abs_diff(to[axis]) < 2);
+        self.note(
+            "sight",
+            number,
+            match (a.0, beside) {
+                (1, _) => "blocked",
+                (_, false) => "clear",
+                (_, true) => "clear, the ends the same or touching",
+            },
+        );
+        self.agree("sight", number, (a.0 == 1).then_some(a.1), rooms::sight(store.slice(), scene, from, to));
+        number == 0 && a.0 == 0
+    }
+
+    /// A line there and back: clear both ways or neither.
+    pub fn sight_both(&mut self, store: &Lent<u32>, scene: u32, from: [u32; 3], to: [u32; 3]) {
+        let there = self.sight(store, scene, from, to);
+        let back = self.sight(store, scene, to, from);
+        if there != back {
+            println!("DIFFERENCE between a line there and back: from {from:?} to {to:?} clear {there}, the other way {back}");
+            println!("seed {} episode {}", self.seed, self.episode);
+            std::process::exit(1);
+        }
+    }
+
     pub fn cell(&mut self, store: &Lent<u32>, scene: u32, height: u32, at: [u32; 3]) -> u32 {
         let mine = store.clone();
         let (mut a, mut b) = (self.random.word(), self.random.word());

@@ -124,6 +124,9 @@ impl Compare {
             }
             let mut one = self.lend_words(&words);
             self.ask_store(&one, 2);
+            for _ in 0..3 {
+                self.ask_sight(&one);
+            }
             self.ask_kept(&one);
             self.ask_outline(&one);
             self.ask_pack(&one);
@@ -169,6 +172,8 @@ impl Compare {
                 let at = self.random.point(depth);
                 self.voxel(&store, n, at);
                 self.cell(&store, n, 2, at.map(|c| c / 4));
+                let to = self.random.point(depth);
+                self.sight_both(&store, n, at, to);
             }
             self.outline(&store, n, 30_000);
             let room = self.random.from_to(100, 400);
@@ -275,6 +280,54 @@ impl Compare {
         }
     }
 
+    /// Lines through rooms in which a pointer or two are bad: before the answer, behind it, beside the line, on the walk to an end.
+    fn lines(&mut self) {
+        let mut store = self.fresh(90);
+        for _ in 0..3 {
+            let file = room(&mut self.random, 40).outline();
+            self.add(&mut store, &file);
+        }
+        for _ in 0..10 {
+            let mut words = store.slice().to_vec();
+            for _ in 0..self.random.below(3) {
+                stores::bad_pointer(&mut self.random, &mut words);
+            }
+            let one = self.lend_words(&words);
+            for _ in 0..8 {
+                self.ask_sight(&one);
+            }
+        }
+    }
+
+    /// Deep rooms with little in them: lines from end to end, and long ones through something solid.
+    fn long_lines(&mut self) {
+        let mut store = self.fresh(60);
+        for _ in 0..3 {
+            let mut next = room(&mut self.random, 3);
+            while next.depth < 12 {
+                next = room(&mut self.random, 3);
+            }
+            let edge = 1 << next.depth;
+            if self.add(&mut store, &next.outline()) != 0 {
+                continue;
+            }
+            let scene = store.slice()[1] - 1;
+            let end = |random: &mut Random| random.pick(&[0, 1, edge / 2, edge - 2, edge - 1]);
+            let (from, to) = ([(); 3].map(|_| end(&mut self.random)), [(); 3].map(|_| end(&mut self.random)));
+            self.sight_both(&store, scene, from, to);
+            let (depth, root) = stores::scene(store.slice(), scene).unwrap();
+            let Some(solid) = stores::solid(&mut self.random, store.slice(), depth as usize, root) else { continue };
+            for most in [edge / 5, edge / 50] {
+                // by the same steps from the solid voxel in both directions, as far as the room goes
+                let step = [(); 3].map(|_| self.random.below(2 * most as usize + 1) as i64 - most as i64);
+                let after = |n: i64| -> [i64; 3] { std::array::from_fn(|axis| solid[axis] as i64 + n * step[axis]) };
+                let inside = |n: &i64| after(*n).iter().all(|c| (0..edge as i64).contains(c));
+                let (back, forth) = ((-50..=0).find(inside).unwrap(), (0..=50).rev().find(inside).unwrap());
+                self.sight_both(&store, scene, after(back).map(|c| c as u32), after(forth).map(|c| c as u32));
+            }
+        }
+    }
+
     /// Rooms with hundreds of cells.
     fn large(&mut self) {
         let capacity = self.random.pick(&[60, 150, 400]);
@@ -334,7 +387,7 @@ impl Compare {
             let depth =
                 if self.random.once_in(8) { self.random.pick(&[0, 1, 17, 18, 255, u32::MAX]) } else { self.random.from_to(2, 16) as u32 };
             let kind = if self.random.once_in(20) { self.random.pick(&[3, 4, 256, u32::MAX]) } else { self.random.below(3) as u32 };
-            let (a, b) = self.random.sight();
+            let (a, b) = self.random.wish();
             self.detail(depth, kind, a, b);
         }
     }
@@ -346,12 +399,14 @@ impl Compare {
         match episode {
             0 => self.greatest(),
             _ if episode % 300 == 1 => self.far(),
+            _ if episode % 300 == 2 => self.long_lines(),
             _ => match self.random.below(40) {
                 0..=9 => self.rooms(),
                 10..=11 => self.many(),
                 12..=14 => self.outlines(),
                 15..=20 => self.damaged_stores(),
-                21..=25 => self.by_hand(),
+                21..=24 => self.by_hand(),
+                25 => self.lines(),
                 26 => self.full(),
                 27..=28 => self.noise(),
                 29..=35 => self.packed_files(),

@@ -6,6 +6,9 @@ use crate::generator::{stores, Random};
 use crate::lent::Lent;
 use crate::Compare;
 
+/// Lines are so long on an axis, but for a few: the twin tests every voxel.
+const LONGEST: u32 = 300;
+
 /// Boxes that walk more cells than this are left out: they cost time and show nothing else.
 const MOST_CELLS: u64 = 6_000;
 
@@ -38,6 +41,45 @@ impl Compare {
         let scene = self.some_scene(store);
         let at = self.some_voxel(store, scene);
         self.voxel(store, scene, at);
+    }
+
+    /// A sight line there and back: at something solid or past it, along axes and diagonals, between ends that are the same or touch, some
+    /// outside.
+    pub fn ask_sight(&mut self, store: &Lent<u32>) {
+        let scene = self.some_scene(store);
+        let depth = stores::scene(store.slice(), scene).map_or(4, |(d, _)| d);
+        let edge = 1u32 << depth;
+        let (from, other) = (self.some_voxel(store, scene), self.some_voxel(store, scene));
+        let mut to = match self.random.below(12) {
+            // about a voxel, so that this one lies in the middle, or the middle on a face, an edge or a corner of it
+            0..=3 => {
+                let beside = self.random.once_in(2);
+                let off = [(); 3].map(|_| if beside { self.random.below(3) as u32 } else { 1 });
+                std::array::from_fn(|axis| (2 * other[axis].min(edge) + off[axis]).saturating_sub(from[axis].min(edge) + 1).min(edge - 1))
+            }
+            // along one axis, two or three, by the same number of voxels
+            4..=6 => {
+                let by = self.random.below(edge as usize) as u32;
+                let axes = self.random.from_to(1, 7);
+                std::array::from_fn(|axis| match (axes >> axis & 1, from[axis] < edge / 2) {
+                    (0, _) => from[axis],
+                    (_, true) => (from[axis] + by).min(edge - 1),
+                    (_, false) => from[axis].saturating_sub(by),
+                })
+            }
+            // a few voxels away
+            7 => from.map(|c| c.saturating_add(self.random.below(7) as u32).saturating_sub(3)),
+            // touching, or the same
+            8 => from.map(|c| c.saturating_add(self.random.below(3) as u32).saturating_sub(1)),
+            _ => other,
+        };
+        if !self.random.once_in(300) {
+            to = std::array::from_fn(|axis| to[axis].clamp(from[axis].saturating_sub(LONGEST), from[axis].saturating_add(LONGEST)));
+        }
+        if self.random.once_in(24) {
+            to[self.random.below(3)] = self.random.pick(&[edge, edge + 1, 2 * edge, 1 << 31, u32::MAX]);
+        }
+        self.sight_both(store, scene, from, to);
     }
 
     pub fn ask_cell(&mut self, store: &Lent<u32>) {
@@ -131,6 +173,7 @@ impl Compare {
             self.ask_voxel(store);
             self.ask_cell(store);
             self.ask_box(store);
+            self.ask_sight(store);
             self.ask_voxel(store);
             self.ask_cell(store);
             if self.random.once_in(3) {

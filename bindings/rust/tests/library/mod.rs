@@ -14,6 +14,9 @@ impl Calls for Library {
     fn voxel(&mut self, store: &[u32], scene: u32, [x, y, z]: [u32; 3], solid: &mut u32, height: &mut u32) -> u32 {
         rooms::c::rooms_voxel(store, scene, x, y, z, solid, height)
     }
+    fn sight(&mut self, store: &[u32], scene: u32, from: [u32; 3], to: [u32; 3], blocked: &mut u32, at: &mut [u32; 3]) -> u32 {
+        rooms::c::rooms_sight(store, scene, from, to, blocked, at)
+    }
     fn cell(&mut self, store: &[u32], scene: u32, height: u32, [x, y, z]: [u32; 3], full: &mut u32) -> u32 {
         rooms::c::rooms_cell(store, scene, height, x, y, z, full)
     }

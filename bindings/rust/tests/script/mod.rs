@@ -87,6 +87,12 @@ fn commands(script: &mut Script, calls: &mut impl Calls, out: &mut String) -> Op
                 let number = calls.voxel(&store, script.word()?, script.point()?, &mut value, &mut height);
                 writeln!(out, "voxel {number} {value} {height}").unwrap();
             }
+            b'S' => {
+                let mut at = [u32::MAX; 3];
+                let number = calls.sight(&store, script.word()?, script.point()?, script.point()?, &mut value, &mut at);
+                let [x, y, z] = at;
+                writeln!(out, "sight {number} {value} {x} {y} {z}").unwrap();
+            }
             b'C' => {
                 let number = calls.cell(&store, script.word()?, script.word()?, script.point()?, &mut value);
                 writeln!(out, "cell {number} {value}").unwrap();

@@ -1,5 +1,6 @@
-//! Document 01 written once more, in plain Rust, slow and clear: the thirteen calls on slices, with what document 02 adds to them
-//! (its request 2: the height of the empty cell). It shares no code with the proved store; the tests compare the two.
+//! Document 01 written once more, in plain Rust, slow and clear: its thirteen calls on slices, with what document 02 adds to them
+//! (its request 2: the height of the empty cell; its request 3: sight lines). It shares no code with the proved store; the tests
+//! compare the two.
 //!
 //! A call answers its values, or a refusal: its number and which clause of document 01 it was. Lent memory is changed as the
 //! page says. Where the page's words would take for ever (does a cell match itself, how many voxels has a whole cell), what was
@@ -233,6 +234,54 @@ pub fn voxel(w: &Words, n: u32, x: u32, y: u32, z: u32) -> Answer<(u32, u32)> {
     let v = [x as u64, y as u64, z as u64];
     need(v.iter().all(|&c| c < 1 << d), 10, "point")?;
     voxel_under(w, d, p, v)
+}
+
+/// The voxels that the segment between two voxels' centres meets, one after another, both ends among them.
+///
+/// On the doubled grid centres are odd and faces even. With a distance of n between its ends on an axis, the segment crosses n faces there, at
+/// the odd multiples of 1 / 2n of its length; with a length of twice the product of the distances that are not 0 each crossing lies at a
+/// whole number. There the segment lies on a face, so in no voxel. From one crossing to the next it lies in one voxel, that of the
+/// point halfway.
+fn met(from: Point, to: Point) -> impl Iterator<Item = Point> {
+    let distances: [i128; 3] = std::array::from_fn(|axis| from[axis].abs_diff(to[axis]) as i128);
+    let length = 2 * distances.iter().filter(|&&n| n > 0).product::<i128>();
+    let crossing_after = move |moment: i128| {
+        let on_axis = |&n: &i128| {
+            let part = length / (2 * n);
+            let multiple = moment / part + 1;
+            part * (multiple + (multiple + 1) % 2)
+        };
+        distances.iter().filter(|&&n| n > 0).map(on_axis).min().unwrap_or(length)
+    };
+    let voxel_at = move |moment: i128, length: i128| -> Point {
+        std::array::from_fn(|axis| {
+            let (a, b) = (from[axis] as i128, to[axis] as i128);
+            (((2 * a + 1) * length + 2 * (b - a) * moment) / (2 * length)) as u64
+        })
+    };
+    let mut moment = 0;
+    std::iter::from_fn(move || {
+        if moment == length {
+            return None;
+        }
+        let before = moment;
+        moment = crossing_after(moment).min(length);
+        Some(voxel_at(before + moment, 2 * length))
+    })
+}
+
+/// Sight line: the first solid voxel that the segment meets, the ends left out.
+pub fn sight(w: &Words, n: u32, from: [u32; 3], to: [u32; 3]) -> Answer<Option<[u32; 3]>> {
+    let (d, p) = asked(w, n)?;
+    let (from, to) = (from.map(u64::from), to.map(u64::from));
+    need(from.iter().all(|&c| c < 1 << d), 10, "from")?;
+    need(to.iter().all(|&c| c < 1 << d), 10, "to")?;
+    for v in met(from, to).filter(|&v| v != from && v != to) {
+        if voxel_under(w, d, p, v)?.0 == 1 {
+            return Ok(Some(v.map(|c| c as u32)));
+        }
+    }
+    Ok(None)
 }
 
 /// The cube of height `stop` with this low corner, under a pointer of height h.

@@ -129,7 +129,7 @@ impl Random {
     }
 
     /// A wish's two floats, the first often just at 2^h times the second.
-    pub fn sight(&mut self) -> (f64, f64) {
+    pub fn wish(&mut self) -> (f64, f64) {
         let b = if self.once_in(3) {
             self.float()
         } else {

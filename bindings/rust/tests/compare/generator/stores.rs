@@ -125,6 +125,18 @@ pub fn damage(random: &mut Random, w: &mut [u32]) {
     };
 }
 
+/// A pointer of a kept cell, most often of a low one, made bad.
+pub fn bad_pointer(random: &mut Random, w: &mut [u32]) {
+    let heights: Vec<usize> = (3..=16).filter(|&h| w[h] > 0).collect();
+    if heights.is_empty() {
+        return;
+    }
+    let height = heights[random.below(heights.len()).min(random.below(heights.len()))];
+    let at = place(w[0] as usize, height, random.below(w[height] as usize)) + random.below(8);
+    let past = w[height - 1] + random.from_to(1, 3) as u32;
+    w[at] = random.pick(&[past, 5 << 29 | past, 1 << 29, 7 << 29]);
+}
+
 /// A kept cell's words, or a leaf's, made zero.
 pub fn empty_a_cell(random: &mut Random, w: &mut [u32]) {
     let capacity = w[0] as usize;

@@ -1,0 +1,2 @@
+-- what the functions on lines promise, beside the paper's definitions
+pub mod Cells
