@@ -1,5 +1,6 @@
 -- tests and lists, numbers and their bits and bytes
 pub mod Tests
+pub mod CodeTests
 pub mod Lists
 pub mod Bits
 pub mod Bytes

@@ -1,6 +1,5 @@
--- Laws that belong to no one function: tests in loops, words that are zero, the header, where cells lie, usable cells, the calls, words stored in
+-- Laws that belong to no one function: words that are zero, the header, where cells lie, usable cells, the calls, words stored in
 -- place, mirrored cells.
-pub mod Tests
 pub mod Blank
 pub mod HeaderFacts
 pub mod Positions

@@ -6,7 +6,7 @@ use lib.Dec.{T}
 use Rattle.paper.specs.Store.{isHeld, headerOk, sceneOk}
 use Rattle.entry.specs.declared.Entry.the-variants.{Root}
 use Rattle.entry.proofs.Settled.{held-fits}
-use Rattle.store.proofs.Tests.{passed-T, failed-T}
+use Rattle.laws.proofs.CodeTests.{passed-T, failed-T}
 use Rattle.entry.proofs.Entries.{entry-header, entry-scene, entry-words, entry-root}
 use borrow.Author.Needs.{needs}
 use Rattle.entry.proofs.enter.Statement.{statement}

@@ -11,7 +11,7 @@ use Rattle.paper.specs.Numbers.{allBelow}
 use Rattle.laws.proofs.Eight.{xor8-lt}
 use Rattle.laws.specs.Symmetries.{symmetryMatch}
 use Rattle.seek.specs.Sought.{symmetriesUnder}
-use Rattle.store.proofs.Tests.{passed, failed, all-still, all-stop, all-end}
+use Rattle.laws.proofs.CodeTests.{passed, failed, all-still, all-stop, all-end}
 use Rattle.seek.proofs.SymmetryWays.{pair, pairAt, match-pairs}
 use Rattle.seek.proofs.SymmetryImage.{symmetry-at}
 use Rattle.seek.proofs.symmetries.same_cell.Statement.{statement}

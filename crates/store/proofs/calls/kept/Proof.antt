@@ -11,7 +11,7 @@ use Rattle.paper.specs.Answers.{outcome, kept}
 use Rattle.paper.specs.declared.Kept.the-variants.{Cells}
 use Rattle.laws.proofs.StoreFacts.{depth-range}
 use Rattle.laws.proofs.Tests.{true-T}
-use Rattle.store.proofs.Tests.{passed, failed, passed-T}
+use Rattle.laws.proofs.CodeTests.{passed, failed, passed-T}
 use Rattle.store.proofs.Ways.{kept-damaged, kept-outside, kept-answered}
 use borrow.Author.Needs.{needs}
 use Rattle.store.proofs.calls.kept.Statement.{statement}

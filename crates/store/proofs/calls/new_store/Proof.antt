@@ -5,7 +5,7 @@ use mathlib.Core.Bool.{true}
 use Prim.Native.Nat.{ℕ}
 use native.Mathlib.Omega.{arith}
 use Rattle.paper.specs.Calls.{cleared}
-use Rattle.store.proofs.Tests.{passed, failed}
+use Rattle.laws.proofs.CodeTests.{passed, failed}
 use Rattle.store.proofs.Ways.{fits, fits-capacity, fits-room, new-refused, new-made}
 use borrow.Author.Needs.{needs}
 use Rattle.store.proofs.calls.new_store.Statement.{statement}

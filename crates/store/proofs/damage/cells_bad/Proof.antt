@@ -8,7 +8,7 @@ use lib.ListN.{length, drop}
 use Rattle.paper.specs.Numbers.{allIn}
 use Rattle.paper.specs.Store.{keptOf, cellsAt, cellUsable, listUsable}
 use Rattle.laws.proofs.Kept.{kept-length}
-use Rattle.store.proofs.Tests.{passed, failed}
+use Rattle.laws.proofs.CodeTests.{passed, failed}
 use Rattle.store.proofs.Usable.{in-still, in-stop, in-end, list-cells}
 use borrow.Author.Needs.{needs}
 use Rattle.store.proofs.damage.cells_bad.Statement.{statement}

@@ -6,7 +6,7 @@ use Prim.Native.Nat.{_≤_}
 use native.Mathlib.Omega.{arith}
 use Rattle.paper.specs.Numbers.{allBelow}
 use Rattle.paper.specs.Store.{heights, keptOf, listUsable}
-use Rattle.store.proofs.Tests.{passed, failed, all-still, all-stop, all-one}
+use Rattle.laws.proofs.CodeTests.{passed, failed, all-still, all-stop, all-one}
 use borrow.Author.Needs.{needs}
 use Rattle.store.proofs.damage.lists_bad.Statement.{statement}
 use Rattle.store.proofs.damage.lists_bad.Tie as tie

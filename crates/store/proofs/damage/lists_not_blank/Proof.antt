@@ -5,7 +5,7 @@ use mathlib.Core.Bool.{not}
 use Prim.Native.Nat.{_≤_}
 use Rattle.paper.specs.Numbers.{allBelow}
 use Rattle.paper.specs.Store.{heights, listBlank}
-use Rattle.store.proofs.Tests.{passed, failed, all-still, all-stop, all-end}
+use Rattle.laws.proofs.CodeTests.{passed, failed, all-still, all-stop, all-end}
 use borrow.Author.Needs.{needs}
 use Rattle.store.proofs.damage.lists_not_blank.Statement.{statement}
 use Rattle.store.proofs.damage.lists_not_blank.Tie as tie

@@ -4,7 +4,7 @@ use mathlib.Core.Path.{_≡_, sym, ap, _∙_}
 use mathlib.Core.Bool.{true, not}
 use Rattle.laws.proofs.Tests.{true-T}
 use Rattle.paper.specs.Store.{headerOk}
-use Rattle.store.proofs.Tests.{passed, failed}
+use Rattle.laws.proofs.CodeTests.{passed, failed}
 use Rattle.laws.proofs.UnseenWords.{no-header}
 use Rattle.store.proofs.Usable.{store-scenes, store-unusable, store-rest}
 use borrow.Author.Needs.{needs}

@@ -8,7 +8,7 @@ use native.Mathlib.Nat.{le-antisymm}
 use lib.Dec.{leb}
 use Rattle.paper.specs.Numbers.{allBelow}
 use Rattle.paper.specs.Store.{heights, capacityOf, keptCount}
-use Rattle.store.proofs.Tests.{all-gathered}
+use Rattle.laws.proofs.CodeTests.{all-gathered}
 use Rattle.laws.proofs.Tests.{ltb-not}
 use borrow.Author.Needs.{needs}
 use Rattle.store.proofs.header.counts_bad.Statement.{statement}

@@ -2,7 +2,7 @@
 -- Each way is one of the ways through the header's test. Assumes nothing.
 use mathlib.Core.Path.{sym, ap, _∙_}
 use mathlib.Core.Bool.{not}
-use Rattle.store.proofs.Tests.{passed, failed}
+use Rattle.laws.proofs.CodeTests.{passed, failed}
 use Rattle.store.proofs.HeaderFacts.{header-short, header-unsized, header-crowded, header-overfull, header-zeros}
 use borrow.Author.Needs.{needs}
 use Rattle.store.proofs.header.header_bad.Statement.{statement}

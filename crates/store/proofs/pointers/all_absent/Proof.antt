@@ -8,7 +8,7 @@ use lib.Dec.{eqb}
 use lib.ListN.{getD}
 use borrow.Author.Tests.{eq-eqb, ne-eqb}
 use Rattle.paper.specs.Numbers.{allBelow}
-use Rattle.store.proofs.Tests.{all-still, all-stop, all-end}
+use Rattle.laws.proofs.CodeTests.{all-still, all-stop, all-end}
 use borrow.Author.Needs.{needs}
 use Rattle.store.proofs.pointers.all_absent.Statement.{statement}
 use Rattle.store.proofs.pointers.all_absent.Tie as tie

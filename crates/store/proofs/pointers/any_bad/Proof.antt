@@ -8,7 +8,7 @@ use native.Mathlib.Nat.{le-antisymm}
 use lib.ListN.{getD}
 use Rattle.paper.specs.Store.{badPointer}
 use Rattle.paper.specs.Numbers.{anyBelow}
-use Rattle.store.proofs.Tests.{any-gathered}
+use Rattle.laws.proofs.CodeTests.{any-gathered}
 use borrow.Author.Needs.{needs}
 use Rattle.store.proofs.pointers.any_bad.Statement.{statement}
 use Rattle.store.proofs.pointers.any_bad.Tie as tie

@@ -5,7 +5,7 @@ use mathlib.Core.Bool.{Bool, true, false, not, _&&_, _||_}
 use Prim.Native.Nat.{ℕ}
 use lib.Dec.{eqb}
 use Rattle.paper.specs.Store.{sceneDepth, sceneRoot}
-use Rattle.store.proofs.Tests.{passed, failed}
+use Rattle.laws.proofs.CodeTests.{passed, failed}
 use Rattle.store.proofs.Usable.{place-held, place-free}
 use borrow.Author.Needs.{needs}
 use Rattle.store.proofs.scenes.place_bad.Statement.{statement}

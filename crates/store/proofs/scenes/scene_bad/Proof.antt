@@ -7,7 +7,7 @@ use Rattle.paper.specs.Rooms.{depthOk}
 use Rattle.paper.specs.Store.{sceneRoot, badPointer}
 use Rattle.laws.proofs.StoreFacts.{depth-range}
 use Rattle.laws.proofs.Tests.{true-T}
-use Rattle.store.proofs.Tests.{passed, failed}
+use Rattle.laws.proofs.CodeTests.{passed, failed}
 use Rattle.store.proofs.Usable.{scene-shallow, scene-rooted}
 use borrow.Author.Needs.{needs}
 use Rattle.store.proofs.scenes.scene_bad.Statement.{statement}

@@ -6,7 +6,7 @@ use Prim.Native.Nat.{_≤_}
 use native.Mathlib.Omega.{arith}
 use Rattle.paper.specs.Numbers.{allBelow}
 use Rattle.paper.specs.Store.{mostScenes, placeOk}
-use Rattle.store.proofs.Tests.{passed, failed, all-still, all-stop, all-end}
+use Rattle.laws.proofs.CodeTests.{passed, failed, all-still, all-stop, all-end}
 use borrow.Author.Needs.{needs}
 use Rattle.store.proofs.scenes.scenes_bad.Statement.{statement}
 use Rattle.store.proofs.scenes.scenes_bad.Tie as tie

@@ -6,7 +6,7 @@ use lib.Dec.{T}
 use Rattle.paper.specs.Rooms.{point, inside}
 use Rattle.paper.specs.Store.{keptOf}
 use Rattle.walk.specs.Walk.{endTold}
-use Rattle.store.proofs.Tests.{passed-T, failed-T}
+use Rattle.laws.proofs.CodeTests.{passed-T, failed-T}
 use Rattle.walk.proofs.Voxels.{voxel-outside, voxel-inside}
 use Rattle.laws.proofs.StoreFacts.{depth-range}
 use Rattle.walk.proofs.calls.voxel_from.Statement.{statement}

@@ -6,7 +6,7 @@ use denote.Ref.{now}
 use lib.Dec.{T}
 use Rattle.paper.specs.Rooms.{point, inside}
 use Rattle.paper.specs.Store.{keptOf}
-use Rattle.store.proofs.Tests.{passed-T, failed-T}
+use Rattle.laws.proofs.CodeTests.{passed-T, failed-T}
 use Rattle.laws.proofs.StoreFacts.{depth-range}
 use Rattle.walk.proofs.CellTests.{cell-above, cell-past, cell-none, cell-inside}
 use Rattle.walk.proofs.cell_call.cell_from.Statement.{statement}
