@@ -14,16 +14,16 @@ ghost use Rattle.boxes.specs.Box.{at, hasVoxel, Upto, isWhole, seenBit, 
 use limits::CHILDREN;
 use limits::LEAF_HEIGHT;
 use numbers::wider;
+use pointers::any_bad;
+use pointers::bad_pointer;
+use pointers::cell_number;
+use pointers::tag;
 use points::edge_of;
-use store::any_bad;
-use store::bad_pointer;
 use store::cell_at;
-use store::cell_number;
 use store::kept_count;
 use store::leaf_at;
 use store::scene_depth;
 use store::scene_root;
-use store::tag;
 
 // A leaf has this edge and so many bits.
 const LEAF_EDGE: u32 = 4;

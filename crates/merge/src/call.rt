@@ -21,7 +21,7 @@ use paper::Added;
 use paper::Refusal;
 use store::MOST_SCENES;
 use store::scenes_held;
-use store::store_bad;
+use whole::store_bad;
 
 // The root's record, or none for an empty scene.
 fn add_root(file: &[u8], store: &mut [u32]) -> RecordAdded

@@ -9,13 +9,13 @@ use keeping::keep_cell;
 use keeping::keep_leaf;
 use keeping::leaf_words;
 use leaf::leaf_symmetry;
+use pointers::pointer;
 use seek::Sought;
 use seek::cell_symmetry;
 use seek::find_cell;
 use seek::find_leaf;
 use store::capacity;
 use store::kept_count;
-use store::pointer;
 
 // Where a cell is: its pointer, with its symmetry, the mirrors under which it matches itself; or its height is full.
 pub enum CellAdded {

@@ -9,8 +9,8 @@ ghost use Rattle.outline_out.specs.Limit.{upTo};
 ghost use Rattle.outline_out.specs.Record.{measureAt, childrenMeasure};
 use limits::CHILDREN;
 use limits::LEAF_BYTES;
+use pointers::cell_number;
 use store::cell_at;
-use store::cell_number;
 
 // The length of a leaf's record.
 const LEAF_LENGTH: u64 = LEAF_BYTES as u64;

@@ -14,10 +14,10 @@ use leaf::mirror_leaf;
 use limits::CHILDREN;
 use limits::LEAF_BYTES;
 use numbers::write_number;
+use pointers::cell_number;
+use pointers::tag;
 use store::cell_at;
-use store::cell_number;
 use store::leaf_at;
-use store::tag;
 
 // A child's number, or its tag, under a mirror besides: their exclusive or.
 fn mirrored_number(x: u32, mirror: u32) -> u32

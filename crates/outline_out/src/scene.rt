@@ -19,12 +19,12 @@ use limits::OUTLINE_VERSION;
 use numbers::write_head;
 use paper::Refusal;
 use paper::Written;
-use store::cell_number;
+use pointers::cell_number;
+use pointers::tag;
 use store::not_held;
 use store::scene_depth;
 use store::scene_root;
-use store::store_bad;
-use store::tag;
+use whole::store_bad;
 
 // The bytes before the root's record.
 const HEAD: u64 = OUTLINE_HEAD as u64;

@@ -11,12 +11,12 @@ ghost use Rattle.scratch.specs.Parts.{Room, placesIn};
 ghost use Rattle.placing.specs.Placing.{digits, span, placedList, placed, placedLists, Below, Kept};
 use limits::CHILDREN;
 use packed::code_for;
+use pointers::cell_number;
 use scratch::ordered;
 use scratch::place;
 use scratch::put_place;
 use store::capacity;
 use store::cell_at;
-use store::cell_number;
 
 // A pointer's code is its half-words: to base 1 the codes of a cell are counted together.
 const COUNTED: u32 = 1;

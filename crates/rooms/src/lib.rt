@@ -26,7 +26,7 @@ pub use opened::open;
 pub fn new_store(store: &mut [u32], capacity: u32) -> Started
     ensures { λ r. ⌜ NewStorePromise capacity (now (store .entry)) r (now (store .exit)) ⌝ }
 {
-    store::new_store(store, capacity)
+    store_calls::new_store(store, capacity)
 }
 
 // Add: the scene of an outline, its cells merged into those kept; answers its number. Refused by 2, 3, 4, 5, 6, 7, 8.
@@ -107,7 +107,7 @@ pub fn box_count(
 pub fn kept(store: &[u32], height: u32) -> Kept
     ensures { λ r. ⌜ KeptPromise (now (store .entry)) height r ⌝ }
 {
-    store::kept(store, height)
+    store_calls::kept(store, height)
 }
 
 // Outline out: the outline of a scene; answers its length. Refused by 2, 9, 12.

@@ -17,7 +17,7 @@ use Rattle.laws.proofs.Places.{leaf-fits}
 use Rattle.laws.proofs.AddingTrees.{leaf-words}
 use Rattle.laws.proofs.StoreFacts.{Words}
 use Rattle.laws.specs.Symmetries.{symmetryMatch}
-use Rattle.store.specs.Mirrored.{mirroredCell}
+use Rattle.pointers.specs.Mirrored.{mirroredCell}
 use Rattle.seek.specs.Sought.{firstBelow, symmetriesUnder}
 use Rattle.seek.proofs.SymmetryImage.{symmetry-image}
 use Rattle.seek.proofs.FindFirst.{First, first-is, first-agree}

@@ -20,8 +20,8 @@ use Rattle.laws.proofs.Matching.{tag-lt}
 use Rattle.laws.proofs.AddingTrees.{leaf-words}
 use Rattle.laws.specs.Symmetries.{symmetryFor, marked, symmetryMatch, symmetryOf}
 use Rattle.laws.proofs.Symmetries.{symmetry-same}
-use Rattle.store.specs.Mirrored.{mirroredPointer, mirroredCell}
-use Rattle.store.proofs.MirroredCells.{mirroredPointer-none, mirroredPointer-some, tag-mirrored, number-mirrored, mirrored-child}
+use Rattle.pointers.specs.Mirrored.{mirroredPointer, mirroredCell}
+use Rattle.pointers.proofs.MirroredCells.{mirroredPointer-none, mirroredPointer-some, tag-mirrored, number-mirrored, mirrored-child}
 use Rattle.seek.specs.Sought.{symmetriesUnder}
 
 -- ---- one pointer

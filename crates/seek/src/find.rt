@@ -10,11 +10,11 @@ ghost use Rattle.seek.specs.Sought.{symmetriesUnder, sought, firstBelow,
 use crate::symmetries::same_cell;
 use leaf::mirror_leaf;
 use limits::MIRRORS;
+use pointers::mirrored;
+use pointers::pointer;
 use store::cell_at;
 use store::kept_count;
 use store::leaf_at;
-use store::mirrored;
-use store::pointer;
 
 // The pointer found, or none.
 pub enum Sought {

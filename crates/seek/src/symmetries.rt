@@ -10,9 +10,9 @@ ghost use Rattle.laws.specs.Symmetries.{symmetryFor, marked, symmetryMatch};
 ghost use Rattle.seek.specs.Sought.{symmetriesUnder};
 use limits::CHILDREN;
 use limits::MIRRORS;
-use store::cell_number;
-use store::mirrored;
-use store::tag;
+use pointers::cell_number;
+use pointers::mirrored;
+use pointers::tag;
 
 // Whether two pointers don't match under mirror 0, `symmetry` being that of the cell that p names.
 fn pointers_differ(p: u32, q: u32, symmetry: u8) -> bool

@@ -21,8 +21,8 @@ use lines::voxel_at;
 use paper::Refusal;
 use paper::Seen;
 use paper::Sighted;
-use store::cell_number;
-use store::tag;
+use pointers::cell_number;
+use pointers::tag;
 
 // The list of the last cell that a walk entered which ended in an empty voxel with this height: a leaf, or the one whose child is absent.
 fn lowest(height: u32) -> u32

@@ -1,9 +1,6 @@
--- Laws that belong to no one function: words that are zero, the header, where cells lie, usable cells, the calls, words stored in
--- place, mirrored cells.
+-- Laws that belong to no one function: words that are zero, the header, a scene's test, where cells lie, words stored in place.
 pub mod Blank
 pub mod HeaderFacts
+pub mod SceneTests
 pub mod Positions
-pub mod Usable
-pub mod Ways
 pub mod InPlace
-pub mod MirroredCells

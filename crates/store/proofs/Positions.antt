@@ -11,7 +11,7 @@ use lib.ListN.{length, take, drop, getD}
 use lib.Seq.{drop-cons, getD-take, getD-drop}
 use Rattle.laws.proofs.Kept.{kept-cell}
 use Rattle.paper.specs.Numbers.{tabulate}
-use Rattle.paper.specs.Store.{heights, used, capacityOf, keptCount, stride, listPosition, cellPosition, keptOf, cellAt, leafNo, blank, listBlank}
+use Rattle.paper.specs.Store.{heights, used, capacityOf, keptCount, stride, listPosition, cellPosition, keptOf, cellAt, leafNo}
 
 -- ---- room
 
@@ -71,15 +71,6 @@ module _ (ws : List ℕ) (n c at : ℕ) (e : c ≡ capacityOf ws) where
   pub cell-words : (k : ℕ) → 1 ≤ k → k < heights → n < keptCount ws k → at ≡ cellPosition c k n → take 8 (drop at ws) ≡ cellAt (keptOf ws) k n
   cell-words zero o h l p = absurd (omega arith)
   cell-words (suc k) o h l p = sym (kept-cell ws (suc k) n h l ∙ ap (λ (i : ℕ). take 8 (drop i ws)) (sym (p ∙ ap (λ (C : ℕ). cellPosition C (suc k) n) e)))
-
-  -- the words of list k past its kept cells
-  pub leaves-spare : (k : ℕ) → k ≡ 0 → n ≡ keptCount ws k → at ≡ cellPosition c k n → blank ws at (2 * (c - n)) ≡ listBlank ws k
-  leaves-spare zero z m p = ap₂ (blank ws) (p ∙ ap₂ (λ (C q : ℕ). cellPosition C 0 q) e m) (ap₂ (λ (C q : ℕ). 2 * (C - q)) e m)
-  leaves-spare (suc k) z m p = absurd (omega arith)
-
-  pub cells-spare : (k : ℕ) → (k ≡ 0 → ⊥) → n ≡ keptCount ws k → at ≡ cellPosition c k n → blank ws at (8 * (c - n)) ≡ listBlank ws k
-  cells-spare zero z m p = absurd (z refl)
-  cells-spare (suc k) z m p = ap₂ (blank ws) (p ∙ ap₂ (λ (C q : ℕ). cellPosition C (suc k) q) e m) (ap₂ (λ (C q : ℕ). 8 * (C - q)) e m)
 
 -- ---- a cell's place as the code computes it
 

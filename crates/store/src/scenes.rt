@@ -3,13 +3,10 @@ ghost use mathlib.Core.Path.{_≡_};
 ghost use mathlib.Core.Bool.{not};
 ghost use Prim.Native.Nat.{_≤_, _<_};
 ghost use lib.Dec.{T};
-ghost use Rattle.paper.specs.Numbers.{allBelow};
-ghost use Rattle.paper.specs.Store.{mostScenes, scenePosition, sceneDepth, sceneRoot, headerOk, sceneOk, placeOk};
-use crate::header::MOST_SCENES;
+ghost use Rattle.paper.specs.Store.{mostScenes, scenePosition, sceneDepth, sceneRoot, headerOk, sceneOk};
 use crate::header::kept_count;
-use crate::header::not_held;
-use crate::pointers::bad_pointer;
 use limits::LEAF_HEIGHT;
+use pointers::bad_pointer;
 use points::depth_bad;
 
 // Scene 0's place, and the words of a scene.
@@ -54,31 +51,4 @@ pub fn scene_bad(store: &[u32], n: u32) -> bool
         return true;
     }
     bad_pointer(kept_count(store, depth - LEAF_HEIGHT), scene_root(store, n))
-}
-
-// Whether place n is damaged: a place that holds no scene is not two zeros, or the scene held is bad.
-fn place_bad(store: &[u32], n: u32) -> bool
-    requires { ⌜ T (headerOk (now store)) ⌝ }
-    requires { ⌜ n < mostScenes ⌝ }
-    ensures { λ r. ⌜ r ≡ not (placeOk (now (store .entry)) n) ⌝ }
-{
-    if not_held(store, n) {
-        return (scene_depth(store, n) != 0) | (scene_root(store, n) != 0);
-    }
-    scene_bad(store, n)
-}
-
-// Whether one of the places of scenes is damaged.
-pub fn scenes_bad(store: &[u32]) -> bool
-    requires { ⌜ T (headerOk (now store)) ⌝ }
-    ensures { λ r. ⌜ r ≡ not (allBelow mostScenes (placeOk (now (store .entry)))) ⌝ }
-{
-    let mut n = MOST_SCENES;
-    while n != 0 {
-        n -= 1;
-        if place_bad(store, n) {
-            return true;
-        }
-    }
-    false
 }

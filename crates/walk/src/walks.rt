@@ -9,12 +9,12 @@ ghost use Rattle.paper.specs.Questions.{voxelWalk};
 ghost use Rattle.paper.specs.Store.{badPointer, cellNo, heights, headerOk, keptCount, keptOf, tagOf};
 ghost use Rattle.walk.specs.Walk.{AtKept, endOf, walkTo};
 use limits::LEAF_HEIGHT;
+use pointers::any_bad;
+use pointers::cell_number;
+use pointers::tag;
 use points::child_number;
-use store::any_bad;
 use store::cell_at;
-use store::cell_number;
 use store::kept_count;
-use store::tag;
 
 // How a walk from a cell down to a list ends.
 pub enum Ended {

@@ -21,13 +21,13 @@ use limits::SHORT_PLACES;
 use numbers::wider;
 use numbers::write_number;
 use placing::codes_of;
+use pointers::cell_number;
+use pointers::tag;
 use scratch::ordered;
 use scratch::place;
 use store::capacity;
 use store::cell_at;
-use store::cell_number;
 use store::leaf_at;
-use store::tag;
 
 // The bytes of a short and of a long pointer, of a record's header and of a list's size.
 const SHORT_BYTES: usize = HALF_BYTES;

@@ -34,9 +34,9 @@ use Rattle.boxes.proofs.count.+count_box+count_children+count_pointer.L
 use Rattle.store.proofs.cell_at.Reads as cell-at-reads
 use Rattle.store.proofs.leaf_at.Reads as leaf-at-reads
 use Rattle.store.proofs.kept_count.Reads as kept-count-reads
-use Rattle.store.proofs.bad_pointer.Reads as bad-pointer-reads
-use Rattle.store.proofs.cell_number.Reads as cell-number-reads
-use Rattle.store.proofs.tag.Reads as tag-reads
+use Rattle.pointers.proofs.bad_pointer.Reads as bad-pointer-reads
+use Rattle.pointers.proofs.cell_number.Reads as cell-number-reads
+use Rattle.pointers.proofs.tag.Reads as tag-reads
 use Rattle.boxes.proofs.count.clipped.Reads as clipped-reads
 use Rattle.boxes.proofs.count.count_leaf.Reads as count-leaf-reads
 use Rattle.boxes.proofs.count.count_whole.Reads as count-whole-reads

@@ -27,8 +27,8 @@ use Rattle.boxes.proofs.count.+count_whole+count_wholes.Lts-count_whole
 use Rattle.store.proofs.cell_at.Reads as cell-at-reads
 use Rattle.store.proofs.leaf_at.Reads as leaf-at-reads
 use Rattle.store.proofs.kept_count.Reads as kept-count-reads
-use Rattle.store.proofs.any_bad.Reads as any-bad-reads
-use Rattle.store.proofs.cell_number.Reads as cell-number-reads
+use Rattle.pointers.proofs.any_bad.Reads as any-bad-reads
+use Rattle.pointers.proofs.cell_number.Reads as cell-number-reads
 use Rattle.boxes.proofs.count.whole_leaf.Reads as whole-leaf-reads
 use Rattle.boxes.proofs.count.count_leaves.Reads as count-leaves-reads
 use Rattle.boxes.proofs.count.times_named.Reads as times-named-reads

@@ -21,7 +21,7 @@ use Rattle.outline_out.proofs.measure.measure_children.Reads as measure
 use Rattle.outline_out.proofs.measure.measure_children.Kinds as measure-children-kinds
 use Rattle.outline_out.proofs.measure.+measure+measure_children.Lts-measure_children as measure-children-lts
 use Rattle.store.proofs.cell_at.Reads as cell-at-reads
-use Rattle.store.proofs.cell_number.Reads as cell-number-reads
+use Rattle.pointers.proofs.cell_number.Reads as cell-number-reads
 use Rattle.outline_out.proofs.measure.+measure+measure_children.{statement}
 use Rattle.outline_out.proofs.measure.+measure+measure_children.Tie.{close}
 

@@ -32,8 +32,8 @@ use Rattle.outline_out.proofs.record.mirrored_number.Reads as mirrored-
 use Rattle.numbers.proofs.write_number.Reads as write-number-reads
 use Rattle.store.proofs.cell_at.Reads as cell-at-reads
 use Rattle.store.proofs.leaf_at.Reads as leaf-at-reads
-use Rattle.store.proofs.cell_number.Reads as cell-number-reads
-use Rattle.store.proofs.tag.Reads as tag-reads
+use Rattle.pointers.proofs.cell_number.Reads as cell-number-reads
+use Rattle.pointers.proofs.tag.Reads as tag-reads
 use Rattle.outline_out.proofs.record.+write_children+write_record.{statement}
 use Rattle.outline_out.proofs.record.+write_children+write_record.Tie.{close}
 

@@ -7,7 +7,7 @@ use Rattle.paper.specs.Rooms.{inside}
 use Rattle.paper.specs.Store.{keptOf}
 use Rattle.laws.proofs.CellPoints.{is-inside}
 use Rattle.laws.proofs.StoreFacts.{depth-range}
-use Rattle.store.proofs.Tests.{passed-T, failed-T}
+use Rattle.laws.proofs.CodeTests.{passed-T, failed-T}
 use Rattle.lines.specs.Cells.{at}
 use Rattle.sight.proofs.Sighting.{from-outside, to-outside, ends-inside, none-clear}
 use Rattle.sight.proofs.call.sight_from.Statement.{statement}

@@ -1,0 +1,3 @@
+-- Laws that belong to no one function: a cell's test, mirrored cells.
+pub mod Usable
+pub mod MirroredCells
