@@ -4,10 +4,13 @@
 //!     bench count KEPT TIMES [ROOMS]   the same work, to be run under callgrind, but for what took long by the clock
 //!     bench gather DUMPS            callgrind's dumps as lines; the functions' shares go to DUMPS/shares.txt
 //!     bench table TIMES COUNTS SVG  the tables and the picture
+//!     bench asked WHAT WHICH TIMES KEPT ROOM   asks one kind of question (voxels, near, small, large, whole) of the store, a packed file or the
+//!                                   plain graph, TIMES times: for a counter of a whole program's instructions
 //!     bench lines WHICH TIMES KEPT ROOM   asks for all sight lines of a room, TIMES times: for a counter of a whole program's
 //!                                   instructions (src/sight.rs)
 //!
 //! KEPT is a folder for the words of the stores.
+mod asked;
 mod bitmap;
 mod boxes;
 mod callgrind;
@@ -69,7 +72,10 @@ fn main() {
         ["lines", which, times, kept, room] => {
             sight::repeat(which, times.parse().unwrap(), Path::new(kept), room)
         }
-        _ => panic!("bench times | count | gather | table | lines: see src/main.rs"),
+        ["asked", what, which, times, kept, room] => {
+            asked::repeat(what, which, times.parse().unwrap(), Path::new(kept), room)
+        }
+        _ => panic!("bench times | count | gather | table | lines | asked: see src/main.rs"),
     }
 }
 

@@ -1,10 +1,10 @@
--- A box question's tests as code meets them: a side outside, a box outside, a box that ends inside the room; and the whole outcome of a scene that
--- can be asked. By cases on the tests. Assumes nothing.
-use mathlib.Core.Path.{_≡_, refl, sym, ap, ap₂, _∙_, subst}
+-- A box question's tests as code meets them: a box that lies not outside ends inside the room; and the whole outcome of a scene that can be asked.
+-- By cases on the tests. Assumes nothing.
+use mathlib.Core.Path.{_≡_, refl, ap, _∙_, subst}
 use mathlib.Core.Bool.{Bool, true, false, cond, not, _||_}
 use mathlib.Core.List.{List, [], _∷_}
-use Prim.Native.Nat.{ℕ, _<_, _≤_}
-use borrow.Author.Tests.{lt-ltb, le-ltb, ltb-false}
+use Prim.Native.Nat.{ℕ, _≤_}
+use borrow.Author.Tests.{ltb-false}
 use lib.Dec.{T, ltb}
 use Rattle.paper.specs.Rooms.{Point}
 use Rattle.paper.specs.Answers.{told, outcome, numberOf}
@@ -12,20 +12,15 @@ use Rattle.paper.specs.Questions.{boxSolid}
 use Rattle.paper.specs.Calls.{ofScene, axisOutside, boxOutside, boxDamaged, boxOutcome}
 use Rattle.paper.specs.declared.Refusal.{Refusal}
 use Rattle.laws.proofs.Tests.{true-T}
-use Rattle.boxes.specs.Box.{Upto, sceneBox, tallyTold, boxTold}
-use Rattle.boxes.specs.declared.count.Tally.the-variants.{Solid, Damaged}
-use Rattle.entry.specs.declared.Entry.the-variants.{Refused}
-use Rattle.entry.specs.Entry.{pastEntry}
-use Rattle.entry.proofs.Asked.{refusedBy}
-use Rattle.entry.proofs.Entries.{Entered, Says, past-outside, past-inside, past-settled}
+use Rattle.boxes_parts.specs.Parts.{Upto}
+use Rattle.boxes.specs.Box.{sceneBox, tallyTold, boxTold}
+use Rattle.boxes_whole.specs.declared.Tally.the-variants.{Solid, Damaged}
+use Rattle.store_entry.specs.declared.Entry.the-variants.{Refused}
+use Rattle.store_entry.specs.Entry.{pastEntry}
+use Rattle.store_entry.proofs.Asked.{refusedBy}
+use Rattle.store_entry.proofs.Entries.{Entered, Says, past-outside, past-inside, past-settled}
 
 -- ---- a side
-
-pub side-backwards : (S low high : ℕ) → high < low → true ≡ axisOutside S low high
-side-backwards S low high h = ap (λ (b : Bool). b || ltb S high) (sym (lt-ltb high low h))
-
-pub side-past : (S low high : ℕ) → low ≤ high → ltb S high ≡ axisOutside S low high
-side-past S low high h = ap (λ (b : Bool). b || ltb S high) (sym (le-ltb high low h))
 
 side-within : (S low high : ℕ) → axisOutside S low high ≡ false → high ≤ S
 side-within S low high e = ltb-false S high (right (ltb high low) (ltb S high) e)
@@ -35,16 +30,6 @@ side-within S low high e = ltb-false S high (right (ltb high low) (ltb S high) e
     right false b e = e
 
 -- ---- the three sides
-
-pub any-first : (a b c : Bool) → a ≡ true → true ≡ (a || b || c)
-any-first a b c e = ap (λ (x : Bool). x || b || c) (sym e)
-
-pub any-second : (a b c : Bool) → b ≡ true → true ≡ (a || b || c)
-any-second true b c e = refl
-any-second false b c e = ap (λ (x : Bool). x || c) (sym e)
-
-pub any-third : (a b c : Bool) → a ≡ false → b ≡ false → c ≡ (a || b || c)
-any-third a b c e f = ap₂ (λ (x y : Bool). x || y || c) (sym e) (sym f)
 
 either : (a b c : Bool) → (a || b || c) ≡ false → (a ≡ false) × (b ≡ false) × (c ≡ false)
 either true b c e = absurd (subst T e tt)

@@ -1,7 +1,5 @@
--- tallies of a cell, of its children, of whole children, of a leaf
-pub mod Tallies
-pub mod Wholes
-pub mod LeafBoxes
--- the ways through the counting, and through the call
-pub mod BoxWays
+-- what is counted of a box, and a scene's box
+pub mod Parts
+pub mod Scenes
+-- the ways through the call
 pub mod BoxTests

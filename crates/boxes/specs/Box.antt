@@ -1,137 +1,72 @@
--- What a box of a cell holds, as paper means it: the cell is seen under a mirror, the box lies in its cube. The same of a pointer, and of the
--- children of a cell, so many of them, found voxels added. Definitions only.
-use mathlib.Core.Bool.{Bool, true, false, cond, not, _&&_}
+-- What is counted of a box in a cell, by its first voxel and its last; what paper's box question finds, and tells. Definitions only.
+use mathlib.Core.Bool.{cond}
 use mathlib.Core.List.{List, [], _∷_}
-use mathlib.Core.Path.{_≡_}
-use Prim.Native.Nat.{ℕ, _+_, _^_, _<_, _≤_}
+use Prim.Native.Nat.{ℕ, suc, _<_, _≤_}
 use lib.Bits.{bitXor}
-use lib.Dec.{eqb, ltb}
-use lib.ListN.{length, getD}
-use Rattle.paper.specs.Numbers.{sum, bitFor}
-use Rattle.paper.specs.Rooms.{Point, point, Room, mirror, inBox, boxCount}
-use Rattle.paper.specs.Leaf.{bitOf, voxelOf, leafVoxel}
+use lib.ListN.{getD}
+use Rattle.paper.specs.Rooms.{Point, inChild}
 use Rattle.paper.specs.Outline.{edge}
-use Rattle.paper.specs.Store.{Cell, cellsAt, cellAt, tagOf, cellNo, badPointer}
-use Rattle.paper.specs.Meaning.{cellVoxel}
-use Rattle.paper.specs.Questions.{takenBad, boxSolid}
+use Rattle.paper.specs.Store.{Cell, cellAt, heights, keptCount}
+use Rattle.paper.specs.Questions.{boxSolid}
 use Rattle.paper.specs.Calls.{boxOutside, ofScene, boxDamaged}
 use Rattle.paper.specs.Answers.{Told, told}
-use Rattle.laws.specs.Boxes.{origin, far, clipped}
-use Rattle.entry.specs.Entry.{pastEntry}
-use Rattle.boxes.specs.declared.count.Tally.{Tally}
-use Rattle.boxes.specs.declared.count.Tally.the-variants.{Solid, Damaged}
-use Rattle.boxes.specs.declared.count.Corner.{Corner}
+use Rattle.points.specs.Seeing.{childNoAt}
+use Rattle.store_entry.specs.Entry.{pastEntry}
+use Rattle.boxes_parts.specs.Parts.{Spans, pastIn}
+use Rattle.boxes_whole.specs.Tallies.{boxIn, pointerIn}
+use Rattle.boxes_whole.specs.declared.Tally.{Tally}
+use Rattle.boxes_whole.specs.declared.Tally.the-variants.{Solid as Counted, Damaged as Unsound}
+use Rattle.boxes.specs.declared.count.Ended.{Ended}
+use Rattle.boxes.specs.declared.count.Ended.the-variants.{Absent, Damaged, At}
 
--- a corner as a point
-abbrev pub at : Corner → Point
-at c = point (c .x) (c .y) (c .z)
+-- ---- by its first voxel and its last, in a cell
 
--- the tally of so many voxels behind a bad pointer, and so many solid ones
-abbrev pub tallied : ℕ → ℕ → Tally
-tallied bad solid = cond (ltb 0 bad) Damaged (Solid solid)
+-- what counting in a cell of list k seen under mirror m asks for
+pub record InCell (k m : ℕ) (low last : Point) : Type 0 where
+  pub listed : k < heights
+  pub mirrors : m < 8
+  pub spans : Spans (edge k) low last
 
--- ---- boxes
+-- the pointer of cell n of list k + 1, seen under m, to the child that holds v
+abbrev pub childTaken : List (List Cell) → ℕ → ℕ → ℕ → Point → ℕ
+childTaken K k n m v = getD (cellAt K (suc k) n) (bitXor (childNoAt k v) m) 0
 
--- no room has more voxels
-abbrev pub mostSolid : ℕ
-mostSolid = 2 ^ 48
+-- ---- what is counted of it
 
--- a box has a voxel
-abbrev pub hasVoxel : Point → Point → Bool
-hasVoxel low high = ltb (low .x) (high .x) && ltb (low .y) (high .y) && ltb (low .z) (high .z)
+-- in cell n of list k seen under m, and in what pointer p stands for
+abbrev pub cellPart : List (List Cell) → ℕ → ℕ → ℕ → Point → Point → Tally
+cellPart K k n m low last = boxIn K k n m (inChild (edge k) low) (pastIn (edge k) last)
 
--- it ends in a cube of edge S
-pub record Upto (S : ℕ) (high : Point) : Type 0 where
-  pub uptoX : high .x ≤ S
-  pub uptoY : high .y ≤ S
-  pub uptoZ : high .z ≤ S
+abbrev pub pointerPart : List (List Cell) → ℕ → ℕ → ℕ → Point → Point → Tally
+pointerPart K k p m low last = pointerIn K k p m (inChild (edge k) low) (pastIn (edge k) last)
 
--- it is that cube
-abbrev pub isWhole : ℕ → Point → Point → Bool
-isWhole S low high = eqb (low .x) 0 && eqb (low .y) 0 && eqb (low .z) 0 && eqb (high .x) S && eqb (high .y) S && eqb (high .z) S
+-- where the way down ended
+abbrev pub tallyAt : List (List Cell) → Point → Point → Ended → Tally
+tallyAt K low last Absent = Counted 0
+tallyAt K low last Damaged = Unsound
+tallyAt K low last (At k n m) = cellPart K k n m low last
 
--- the bit of a leaf that stands for bit j under mirror m
-abbrev pub seenBit : ℕ → ℕ → ℕ
-seenBit m j = bitOf (mirror m 4 (voxelOf j))
+-- a cell where it ends is kept, at list k or below
+pub record Kept (ws : List ℕ) (k : ℕ) (low last : Point) (list n m : ℕ) : Type 0 where
+  pub under : list ≤ k
+  pub kept : n < keptCount ws list
+  pub within : InCell list m low last
 
--- the voxel of bit j of a leaf seen under mirror m, where it lies in the box
-unfoldable pub leafCount : ℕ → ℕ → Point → Point → ℕ → ℕ
-leafCount leaf m low high j = cond (inBox low high (voxelOf j)) (bitFor (leafVoxel leaf (mirror m 4 (voxelOf j)))) 0
-
--- ---- a cell of list k, and a pointer to one
-
--- cell n seen under mirror m: is voxel u solid, and is a pointer on the way to it bad
-abbrev pub solidSeen : List (List Cell) → ℕ → ℕ → ℕ → Room
-solidSeen K k n m u = cellVoxel K k (cellAt K k n) (mirror m (edge k) u)
-
-abbrev pub badSeen : List (List Cell) → ℕ → ℕ → ℕ → Room
-badSeen K k n m u = takenBad K k (cellAt K k n) (mirror m (edge k) u)
-
-unfoldable pub boxIn : List (List Cell) → ℕ → ℕ → ℕ → Point → Point → Tally
-boxIn K k n m low high = tallied (boxCount (edge k) (badSeen K k n m) low high) (boxCount (edge k) (solidSeen K k n m) low high)
-
--- all of cell n
-abbrev pub wholeIn : List (List Cell) → ℕ → ℕ → Tally
-wholeIn K k n = boxIn K k n 0 origin (far (edge k))
-
--- the same of pointer p: its tag joins the mirror; a bad pointer is on the way to each voxel
-abbrev pub pointerSolid : List (List Cell) → ℕ → ℕ → ℕ → Room
-pointerSolid K k p m u = cond (eqb p 0) false (solidSeen K k (cellNo p) (bitXor (tagOf p) m) u)
-
-abbrev pub pointerBad : List (List Cell) → ℕ → ℕ → ℕ → Room
-pointerBad K k p m u =
-    cond (badPointer (length (cellsAt K k)) p) true (cond (eqb p 0) false (badSeen K k (cellNo p) (bitXor (tagOf p) m) u))
-
-unfoldable pub pointerIn : List (List Cell) → ℕ → ℕ → ℕ → Point → Point → Tally
-pointerIn K k p m low high = tallied (boxCount (edge k) (pointerBad K k p m) low high) (boxCount (edge k) (pointerSolid K k p m) low high)
-
--- ---- the first children of a cell c of list k + 1, seen under m: child i is the pointer (i xor m), the box cut to it
-
-abbrev pub ofChildren : (ℕ → ℕ → Room) → ℕ → Cell → ℕ → ℕ → Point → Point → ℕ
-ofChildren room k c m left low high =
-    sum left (λ i. boxCount (edge k) (room (getD c (bitXor i m) 0) m) (clipped (edge k) i low) (clipped (edge k) i high))
-
-unfoldable pub childrenSolid : List (List Cell) → ℕ → Cell → ℕ → ℕ → Point → Point → ℕ
-childrenSolid K k = ofChildren (pointerSolid K k) k
-
-unfoldable pub childrenBad : List (List Cell) → ℕ → Cell → ℕ → ℕ → Point → Point → ℕ
-childrenBad K k = ofChildren (pointerBad K k) k
-
--- their tally, found voxels added
-abbrev pub childrenIn : List (List Cell) → ℕ → Cell → ℕ → ℕ → Point → Point → ℕ → Tally
-childrenIn K k c m left low high found = tallied (childrenBad K k c m left low high) (found + childrenSolid K k c m left low high)
-
--- ---- the first children of a cell c of list k + 1, each whole
-
-unfoldable pub wholesSolid : List (List Cell) → ℕ → Cell → ℕ → ℕ
-wholesSolid K k c left = sum left (λ i. boxCount (edge k) (pointerSolid K k (getD c i 0) 0) origin (far (edge k)))
-
-unfoldable pub wholesBad : List (List Cell) → ℕ → Cell → ℕ → ℕ
-wholesBad K k c left = sum left (λ i. boxCount (edge k) (pointerBad K k (getD c i 0) 0) origin (far (edge k)))
-
-abbrev pub wholesIn : List (List Cell) → ℕ → Cell → ℕ → ℕ → Tally
-wholesIn K k c left found = tallied (wholesBad K k c left) (found + wholesSolid K k c left)
-
--- pointer p names cell n, whatever its tag; how many of the first do; the cell with those made absent
-abbrev pub names : ℕ → ℕ → Bool
-names n p = not (eqb p 0) && eqb (cellNo p) n
-
-unfoldable pub timesNamed : Cell → ℕ → ℕ → ℕ
-timesNamed c left n = sum left (λ i. bitFor (names n (getD c i 0)))
-
-abbrev pub Without : Cell → ℕ → Cell → Type 0
-Without c n r = (i : ℕ) → i < 8 → getD r i 0 ≡ cond (names n (getD c i 0)) 0 (getD c i 0)
+abbrev pub AtKept : List ℕ → ℕ → Point → Point → Ended → Type 0
+AtKept ws k low last Absent = Unit {0}
+AtKept ws k low last Damaged = Unit {0}
+AtKept ws k low last (At list n m) = Kept ws k low last list n m
 
 -- ---- a scene
 
 -- what paper's box question finds, past its refusals but the walk's
 unfoldable pub sceneBox : List ℕ → ℕ → Point → Point → Tally
-sceneBox ws n low high = cond (boxDamaged ws n low high) Damaged (Solid (ofScene boxSolid ws n low high))
+sceneBox ws n low high = cond (boxDamaged ws n low high) Unsound (Counted (ofScene boxSolid ws n low high))
 
 -- a tally as an answer's number and value
 abbrev pub tallyTold : Tally → Told
-tallyTold (Solid n) = told 0 (n ∷ [])
-tallyTold Damaged = told 2 (0 ∷ [])
+tallyTold (Counted n) = told 0 (n ∷ [])
+tallyTold Unsound = told 2 (0 ∷ [])
 
 -- a box question past the scene's tests
 abbrev pub boxTold : List ℕ → ℕ → Point → Point → Told

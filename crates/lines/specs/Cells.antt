@@ -1,16 +1,12 @@
 -- A line and the aligned cells that it crosses: the cell that holds a voxel, and the most steps on each axis that stay in it. Definitions only.
 use mathlib.Core.Bool.{cond}
-use Prim.Native.Nat.{ℕ, _+_, _-_, _/_, _%_, _^_, _<_}
+use Prim.Native.Nat.{ℕ, _+_, _-_, _*_, _/_, _%_, _^_, _<_, _≤_}
 use lib.Dec.{leb}
-use Rattle.paper.specs.Rooms.{Point, point}
-use Rattle.laws.specs.Lines.{moment}
+use Rattle.paper.specs.Rooms.{Point, point, Inside, deepest}
+use Rattle.paper.specs.Lines.{distance, distances}
+use Rattle.laws.specs.Lines.{AtMost, moment}
 use Rattle.laws.specs.Lines as laws
-use Rattle.lines.specs.declared.Axes.{Axes}
 use Rattle.lines.specs.declared.Moment.{Moment}
-
--- three numbers as a point, or as steps
-abbrev pub at : Axes → Point
-at a = point (a .x) (a .y) (a .z)
 
 abbrev pub momentOf : Moment → laws.Moment
 momentOf t = moment (t .halves) (t .parts)
@@ -19,6 +15,27 @@ momentOf t = moment (t .halves) (t .parts)
 pub record Small (t : laws.Moment) : Type 0 where
   pub fewHalves : t .halves < 2 ^ 33
   pub fewParts : t .parts < 2 ^ 16
+
+-- a moment up to the end of the line, and a distance that it may be asked of
+pub record Timely (t : laws.Moment) (d : ℕ) : Type 0 where
+  pub small : Small t
+  pub parted : 0 < t .parts
+  pub inTime : t .halves ≤ 2 * t .parts
+  pub few : d < 2 ^ deepest
+
+-- i steps on one axis from a towards b, to a cell of height h
+pub record Along (a b i h : ℕ) : Type 0 where
+  pub most : i ≤ distance a b
+  pub low : h ≤ deepest
+  pub fromIn : a < 2 ^ deepest
+  pub toIn : b < 2 ^ deepest
+
+-- steps s on each axis from a towards b, to a cell of height h
+pub record Stepped (a b s : Point) (h : ℕ) : Type 0 where
+  pub most : AtMost s (distances a b)
+  pub low : h ≤ deepest
+  pub fromIn : Inside (2 ^ deepest) a
+  pub toIn : Inside (2 ^ deepest) b
 
 -- the cell of height h that holds v, counted in cells of that height
 abbrev pub cellHolding : ℕ → Point → Point

@@ -1,19 +1,14 @@
 // A line from the centre of one voxel to that of another, by steps: how many faces it crosses on each axis, which voxel lies so many steps on, how far a
 // cell reaches, and with which steps the line leaves it. Whole numbers only, and no store: coordinates are below 65,536, so no product passes 64 bits.
 ghost use mathlib.Core.Path.{_≡_};
-ghost use Prim.Native.Nat.{_*_, _^_, _≤_, _<_};
+ghost use Prim.Native.Nat.{_^_, _≤_, _<_};
 ghost use Rattle.paper.specs.Rooms.{Inside, deepest};
 ghost use Rattle.paper.specs.Lines.{distance as distance-of, along as along-of, distances as distances-of, voxelAt, samePoint};
 ghost use Rattle.laws.specs.Lines.{AtMost, crossing as crossing-of, earlier as earlier-of, leaving as leaving-of, passed as passed-of, leaveOf};
-ghost use Rattle.lines.specs.Cells.{at, momentOf, Small, lastIn, lastOf};
+ghost use Rattle.points.specs.Points.{at};
+ghost use Rattle.lines.specs.Cells.{Along, Small, Stepped, Timely, momentOf, lastIn, lastOf};
+use points::Point;
 use points::edge_of;
-
-// A number for each axis: a point, or steps.
-pub struct Axes {
-    pub x: u32,
-    pub y: u32,
-    pub z: u32,
-}
 
 // How far along the line: halves / (2 * parts) of the way.
 pub struct Moment {
@@ -22,7 +17,7 @@ pub struct Moment {
 }
 
 // Whether two are the same on each axis: a line is at its end where its steps are its distances.
-pub fn same(a: Axes, b: Axes) -> bool
+pub fn same(a: Point, b: Point) -> bool
     ensures { λ r. ⌜ r ≡ samePoint (at a) (at b) ⌝ }
 {
     (a.x == b.x) & (a.y == b.y) & (a.z == b.z)
@@ -36,13 +31,13 @@ fn distance(from: u32, to: u32) -> u32
 }
 
 // How many faces the line crosses on each axis: the steps at its end.
-pub fn distances(from: Axes, to: Axes) -> Axes
+pub fn distances(from: Point, to: Point) -> Point
     ensures { λ r. ⌜ at r ≡ distances-of (at from) (at to) ⌝ }
 {
     let x = distance(from.x, to.x);
     let y = distance(from.y, to.y);
     let z = distance(from.z, to.z);
-    Axes { x: x, y: y, z: z }
+    Point { x: x, y: y, z: z }
 }
 
 // The coordinate so many steps on.
@@ -58,19 +53,19 @@ fn along(from: u32, to: u32, steps: u32) -> u32
 }
 
 // The voxel so many steps on.
-pub fn voxel_at(from: Axes, to: Axes, steps: Axes) -> Axes
+pub fn voxel_at(from: Point, to: Point, steps: Point) -> Point
     requires { ⌜ AtMost (at steps) (distances-of (at from) (at to)) ⌝ }
     ensures { λ r. ⌜ at r ≡ voxelAt (at from) (at to) (at steps) ⌝ }
 {
     let x = along(from.x, to.x, steps.x);
     let y = along(from.y, to.y, steps.y);
     let z = along(from.z, to.z, steps.z);
-    Axes { x: x, y: y, z: z }
+    Point { x: x, y: y, z: z }
 }
 
 // On one axis, the most steps that stay in the cell of this height that is reached after so many steps.
 fn last_in(from: u32, to: u32, steps: u32, height: u32) -> u32
-    requires { ⌜ (steps ≤ distance-of from to) × (height ≤ deepest) × (from < 2 ^ deepest) × (to < 2 ^ deepest) ⌝ }
+    requires { ⌜ Along from to steps height ⌝ }
     ensures { λ r. ⌜ r ≡ lastIn height from to steps ⌝ }
 {
     let edge = edge_of(height);
@@ -83,14 +78,14 @@ fn last_in(from: u32, to: u32, steps: u32, height: u32) -> u32
 }
 
 // The most steps on each axis that stay in that cell.
-pub fn last_of(from: Axes, to: Axes, steps: Axes, height: u32) -> Axes
-    requires { ⌜ AtMost (at steps) (distances-of (at from) (at to)) × (height ≤ deepest) × Inside (2 ^ deepest) (at from) × Inside (2 ^ deepest) (at to) ⌝ }
+pub fn last_of(from: Point, to: Point, steps: Point, height: u32) -> Point
+    requires { ⌜ Stepped (at from) (at to) (at steps) height ⌝ }
     ensures { λ r. ⌜ at r ≡ lastOf height (at from) (at to) (at steps) ⌝ }
 {
     let x = last_in(from.x, to.x, steps.x, height);
     let y = last_in(from.y, to.y, steps.y, height);
     let z = last_in(from.z, to.z, steps.z, height);
-    Axes { x: x, y: y, z: z }
+    Point { x: x, y: y, z: z }
 }
 
 // Where an axis of this distance crosses the next face after so many steps.
@@ -116,7 +111,7 @@ fn earlier(t: Moment, u: Moment) -> Moment
 }
 
 // When the line leaves the cell in which these are the last steps, or ends.
-fn leaving(d: Axes, last: Axes) -> Moment
+fn leaving(d: Point, last: Point) -> Moment
     requires { ⌜ Inside (2 ^ deepest) (at d) ⌝ }
     ensures { λ r. ⌜ (momentOf r ≡ leaving-of (at d) (at last)) × Small (momentOf r) ⌝ }
 {
@@ -134,14 +129,14 @@ fn leaving(d: Axes, last: Axes) -> Moment
 
 // The steps on an axis of this distance up to a moment.
 fn passed(t: Moment, distance: u32) -> u32
-    requires { ⌜ Small (momentOf t) × (0 < t .parts) × (t .halves ≤ 2 * t .parts) × (distance < 2 ^ deepest) ⌝ }
+    requires { ⌜ Timely (momentOf t) distance ⌝ }
     ensures { λ r. ⌜ r ≡ passed-of (momentOf t) distance ⌝ }
 {
     ((t.halves * (distance as u64) + t.parts) / (2 * t.parts)) as u32
 }
 
 // The steps with which the line leaves the cell in which these are the last steps; the end where it doesn't.
-pub fn leave(d: Axes, last: Axes) -> Axes
+pub fn leave(d: Point, last: Point) -> Point
     requires { ⌜ Inside (2 ^ deepest) (at d) ⌝ }
     ensures { λ r. ⌜ at r ≡ leaveOf (at d) (at last) ⌝ }
 {
@@ -149,5 +144,5 @@ pub fn leave(d: Axes, last: Axes) -> Axes
     let x = passed(t, d.x);
     let y = passed(t, d.y);
     let z = passed(t, d.z);
-    Axes { x: x, y: y, z: z }
+    Point { x: x, y: y, z: z }
 }

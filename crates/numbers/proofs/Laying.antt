@@ -10,7 +10,7 @@ use lib.Seq.{length-take-le, take-suc, set-at, set-split, take-at, drop-at, drop
 use Rattle.paper.specs.Numbers.{bytes}
 use Rattle.paper.specs.Calls.{over}
 use Rattle.laws.proofs.Bytes.{bytes-length}
-use Rattle.numbers.specs.Laid.{laid, reached, writing, headOf}
+use Rattle.numbers.specs.Laid.{laid, reached, writing}
 
 -- laid over nothing, and one byte
 pub laid-none : (at : ℕ) (l : List ℕ) → laid [] at l ≡ l
@@ -123,27 +123,3 @@ module _ (a : List ℕ) (at n : ℕ) (l l′ : List ℕ) (e : reached n l′ ≡
       let q : at + length a + length b ≡ at + length (a ++ b) = rw (length-append a b) (omega arith) in
       ap₂ (λ (x : ℕ) (y : List ℕ). reached (x + length b) (laid b x y)) reached-at reached-list
       ∙ ap₂ reached q (laid-then a b at l h)
-
--- ---- a file's head
-
-pub head-length : (version n D : ℕ) → length (headOf version n D) ≡ 6
-head-length version n D = ap suc (length-append (bytes 4 n) (D ∷ []) ∙ ap (λ (x : ℕ). x + 1) (bytes-length 4 n))
-
--- the version byte, the length, the depth
-module _ (version total D : ℕ) (l l′ : List ℕ) (room : 6 ≤ length l) (put : l′ ≡ laid (bytes 4 total) 1 (set l 0 version)) where
-  abbrev five : List ℕ
-  five = version ∷ bytes 4 total
-
-  fits : 0 + length five ≤ length l
-  fits = omega (arith, bytes-length 4 total)
-
-  put-five : reached 5 l′ ≡ writing five 0 l
-  put-five =
-      let one : reached 1 (set l 0 version) ≡ writing (version ∷ []) 0 l = writing-one version 0 l (omega arith) in
-      writing-number 4 total 1 (set l 0 version) l′ put ∙ writing-then (version ∷ []) 0 1 l (set l 0 version) one (bytes 4 total) (omega arith)
-
-  pub head-long : length l′ ≡ length l
-  head-long = reached-length five 0 5 l l′ put-five fits
-
-  pub head-written : reached 6 (set l′ 5 D) ≡ writing (headOf version total D) 0 l
-  head-written = writing-one D 5 l′ (omega (arith, head-long)) ∙ writing-then five 0 5 l l′ put-five (D ∷ []) fits

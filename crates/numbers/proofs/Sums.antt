@@ -1,8 +1,9 @@
--- The number that four bytes of a list write is their sum, each times its power of 256; eight bytes write two such numbers.
+-- The number that two or four bytes of a list write is their sum, each times its power of 256; eight bytes write two such numbers.
 -- By taking one byte after another off the list. Assumes nothing.
 use mathlib.Core.Path.{_≡_, ap, _∙_}
-use mathlib.Core.List.{List}
+use mathlib.Core.List.{List, _∷_}
 use Prim.Native.Nat.{ℕ, suc, _+_, _*_, _<_, _≤_}
+use native.Mathlib.Numerals.{add-one}
 use native.Mathlib.Omega.{arith}
 use lib.ListN.{length, take, drop, getD}
 use lib.Seq.{drop-cons}
@@ -35,3 +36,11 @@ module _ (s : List ℕ) where
   eight-bytes at h =
       let e : num 8 (drop at s) ≡ sum4 s at * 4294967296 + sum4 s (at + 4) = four-join 4 0 at (omega arith) ∙ four-join 0 (0 * 4294967296 + sum4 s at) (at + 4) (omega arith) ∙ omega arith in
       rw (four-bytes at (omega arith), four-bytes (at + 4) (omega arith)) e
+
+-- two bytes
+pub num-two : (s : List ℕ) (at : ℕ) → at + 2 ≤ length s → num 2 (drop at s) ≡ getD s at 0 * 256 + getD s (at + 1) 0
+unfolding be
+num-two s at h =
+    let a : drop at s ≡ getD s at 0 ∷ drop (suc at) s = drop-cons s at 0 (omega arith) in
+    let b : drop (suc at) s ≡ getD s (suc at) 0 ∷ drop (suc (suc at)) s = drop-cons s (suc at) 0 (omega arith) in
+    rw (a, b, add-one at) (omega arith)

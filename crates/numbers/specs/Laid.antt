@@ -1,8 +1,7 @@
--- Bytes laid over others, and the head of a file. Definitions only.
-use mathlib.Core.List.{List, [], _∷_, _++_}
+-- Bytes laid over others. Definitions only.
+use mathlib.Core.List.{List, _++_}
 use Prim.Native.Nat.{ℕ, _+_}
 use lib.ListN.{length, take, drop}
-use Rattle.paper.specs.Numbers.{bytes}
 
 -- these bytes over a list, from `at` on
 unfoldable pub laid : List ℕ → ℕ → List ℕ → List ℕ
@@ -15,7 +14,3 @@ pub data Reached : Type 0 where
 -- what writing these bytes from `at` on comes to
 unfoldable pub writing : List ℕ → ℕ → List ℕ → Reached
 writing bs at l = reached (at + length bs) (laid bs at l)
-
--- a file's version byte, its length and its depth
-abbrev pub headOf : ℕ → ℕ → ℕ → List ℕ
-headOf version n D = version ∷ bytes 4 n ++ (D ∷ [])

@@ -1,13 +1,9 @@
-// 'big-endian': the numbers that a file's bytes write, and numbers laid over an output, and the head that
-// every file begins with.
+// 'big-endian': the numbers that a file's bytes write, and numbers laid over an output.
 ghost use mathlib.Core.Path.{_≡_};
 ghost use Prim.Native.Nat.{_+_, _^_, _≤_, _<_};
 ghost use lib.ListN.{length, drop};
 ghost use Rattle.paper.specs.Numbers.{num, bytes};
-ghost use Rattle.numbers.specs.Laid.{laid, reached, writing, headOf};
-use limits::DEPTH_POSITION;
-use limits::LENGTH_BYTES;
-use limits::LENGTH_POSITION;
+ghost use Rattle.numbers.specs.Laid.{laid, reached, writing};
 
 // A byte as a wider number.
 pub fn wide(x: u8) -> u32
@@ -21,6 +17,16 @@ pub fn wider(x: u32) -> u64
     ensures { λ r. ⌜ (r ≡ x) × (r < 2 ^ 32) ⌝ }
 {
     x as u64
+}
+
+// The number that the two bytes from a position on write.
+pub fn be16(bytes: &[u8], at: usize) -> u32
+    requires { ⌜ at + 2 ≤ length (now bytes) ⌝ }
+    ensures { λ r. ⌜ (r ≡ num 2 (drop at (now (bytes .entry)))) × (r < 65536) ⌝ }
+{
+    let a = wide(bytes[at]);
+    let b = wide(bytes[at + 1]);
+    a * 256 + b
 }
 
 // The number that the four bytes from a position on write.
@@ -66,15 +72,4 @@ pub fn write_number(out: &mut [u8], at: usize, n: usize, number: u64) -> usize
 {
     put_number(out, at, n, number);
     at + n
-}
-
-// Writes a file's version byte, length and depth; answers the position after them.
-pub fn write_head(out: &mut [u8], version: u8, total: u64, depth: u32) -> usize
-    requires { ⌜ (6 ≤ length (now out)) × (depth < 256) ⌝ }
-    ensures { λ r. ⌜ reached r (now (out .exit)) ≡ writing (headOf version total depth) 0 (now (out .entry)) ⌝ }
-{
-    out[0] = version;
-    put_number(out, LENGTH_POSITION, LENGTH_BYTES, total);
-    out[DEPTH_POSITION] = depth as u8;
-    DEPTH_POSITION + 1
 }

@@ -1,4 +1,3 @@
--- Laws that belong to no one function: openings, what a struct holds, and walks over structs that hold a slice.
-pub mod Openings
+-- Laws that belong to no one function: what a struct holds, and walks over structs that hold a slice.
 pub mod Walk
 pub mod Held

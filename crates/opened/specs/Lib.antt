@@ -1,2 +1,2 @@
--- Definitions that the contracts cite: what an opening tells and holds.
-pub mod Opens
+-- Definitions that the contracts cite: a question on what an opening leaves.
+pub mod Asked

@@ -1,7 +1,8 @@
 // Samples of opened scenes: a line for each question on a scene opened for it, with the refusal's number (0 where accepted),
 // 1 for solid or 0 for empty, the records read, and the height of the emptiness.
 ghost use Prim.Native.Nat.{_<_};
-use paper::Found;
+use rooms::Found;
+use rooms::Point;
 
 // One line of output.
 fn line(number: u32, solid: u32, records: u32, height: u32) {
@@ -28,7 +29,7 @@ fn show(answer: Found) {
 
 // Opens, asks, and shows the answer.
 fn sample(file: &[u8], x: u32, y: u32, z: u32) {
-    show(opened::open_and_ask(file, x, y, z));
+    show(rooms::open_and_ask(file, Point { x: x, y: y, z: z }));
 }
 
 // S1's packed room.
@@ -90,7 +91,7 @@ fn beside(depth: u32, top: u32, leaves: u32, other: u32) {
     starts[0] = leaves;
     starts[1] = top;
     starts[14] = other;
-    show(opened::ask_bytes(&file, depth, starts, 7, 0, 0));
+    show(rooms::ask_bytes(&file, depth, starts, Point { x: 7, y: 0, z: 0 }));
 }
 
 // Every sample, line by line.

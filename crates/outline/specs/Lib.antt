@@ -1,3 +1,2 @@
--- Definitions that the contracts cite: records by position, and the tests of a file's first bytes.
+-- Definitions that the contracts cite: records by position.
 pub mod Positions
-pub mod Heads

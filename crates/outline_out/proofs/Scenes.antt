@@ -1,51 +1,51 @@
--- A scene's file: what a scene held says of its two words, the file's header and root record, and its length. By the tests of an undamaged store
--- and whether the root is there. Assumes nothing.
-use mathlib.Core.Path.{_≡_, sym, ap, _∙_}
-use mathlib.Core.Bool.{Bool, false, cond}
-use mathlib.Core.List.{List, [], _++_, append-nil}
+-- A scene's file in its parts, in the code's words: what a scene held says of its two words, a root's record, and the head with the record behind it. By
+-- the tests of an undamaged store and whether the root is there. Assumes nothing.
+use mathlib.Core.Path.{_≡_, refl, sym, ap, ap₂, _∙_}
+use mathlib.Core.Bool.{Bool, cond}
+use mathlib.Core.List.{List, [], _++_}
 use Prim.Native.Nat.{ℕ, _+_, _-_, _≤_, _<_}
 use native.Mathlib.Omega.{arith}
-use lib.Dec.{T}
 use lib.ListN.{length, length-append}
 use borrow.Author.Tests.{eq-eqb, ne-eqb}
-use Rattle.paper.specs.Rooms.{least, deepest}
 use Rattle.paper.specs.Outline.{outlineVersion, outlineHead}
-use Rattle.paper.specs.Store.{Cell, mostScenes, isHeld, keptCount, tagOf, cellNo, badPointer, sceneDepth, sceneRoot, storeOk}
+use Rattle.paper.specs.Store.{Cell, mostScenes, keptCount, keptOf, tagOf, cellNo, sceneDepth, sceneRoot}
 use Rattle.laws.proofs.StoreFacts.{scene-sound, names-kept, depth-range}
 use Rattle.laws.proofs.Undamaged.{store-header, held-placed}
 use Rattle.laws.proofs.Matching.{tag-lt}
 use Rattle.store.proofs.HeaderFacts.{header}
-use Rattle.numbers.specs.Laid.{headOf}
-use Rattle.outline_out.specs.Record.{recordAt, measureAt, rootAt, fileAt}
-use Rattle.numbers.proofs.Laying.{head-length}
-use Rattle.outline_out.proofs.Pointers.{record-length}
+use Rattle.file_head.specs.Heads.{headOf}
+use Rattle.file_head.proofs.HeadWritten.{head-length}
+use Rattle.outline_measure.specs.Measure.{Kept, measureAt}
+use Rattle.outline_record.specs.Record.{recordAt}
+use Rattle.outline_record.proofs.Lengths.{record-length}
+use Rattle.outline_out.specs.File.{Root, Scene, rootAt, fileAt, sceneFile}
 
--- ---- a scene held
+-- ---- a root
 
-pub record Held (ws : List ℕ) (n : ℕ) : Type 0 where
-  pub few : n < mostScenes
-  pub low : least ≤ sceneDepth ws n
-  pub high : sceneDepth ws n ≤ deepest
-  pub sound : badPointer (keptCount ws (sceneDepth ws n - 2)) (sceneRoot ws n) ≡ false
+pub root-low : {ws : List ℕ} {D p : ℕ} → Root ws D p → 2 ≤ D
+root-low {D} r = depth-range D (r .deep) .0
 
-pub held : (ws : List ℕ) (n : ℕ) → T (storeOk ws) → T (isHeld ws n) → Held ws n
-held ws n ok h =
-    let s = scene-sound ws ok n h in
-    let range = depth-range (sceneDepth ws n) (s .0) in
-    record {
-      few = held-placed ws n (header ws (store-header ws ok) .scenes) h;
-      low = range .0;
-      high = range .1;
-      sound = s .1;
-    }
+pub root-high : {ws : List ℕ} {D p : ℕ} → Root ws D p → D ≤ 16
+root-high {D} r = depth-range D (r .deep) .1
 
 -- a root that is there names a kept cell
-pub root-kept : (ws : List ℕ) (n p q : ℕ) → Held ws n → p ≡ sceneRoot ws n → (p ≡ 0 → ⊥) → q ≡ cellNo p → q < keptCount ws (sceneDepth ws n - 2)
-root-kept ws n p q h e z f = rw (f, e) (names-kept (keptCount ws (sceneDepth ws n - 2)) (sceneRoot ws n) (h .sound) (ne-eqb (sceneRoot ws n) 0 (rw e at z)))
+pub root-kept : (ws : List ℕ) (D p q : ℕ) → Root ws D p → (p ≡ 0 → ⊥) → q ≡ cellNo p → Kept ws (D - 2) q
+root-kept ws D p q r z e =
+    rw e (record { whole = r .whole; list = omega (arith, root-low r, root-high r); number = names-kept (keptCount ws (D - 2)) p (r .sound) (ne-eqb p 0 z) })
 
--- ---- its file
-
+-- its record
 module _ (K : List (List Cell)) (D p : ℕ) where
+  pub root-none : p ≡ 0 → rootAt K D p ≡ []
+  unfolding rootAt
+  root-none e = ap (λ (b : Bool). cond b [] (recordAt K (D - 2) (cellNo p) (tagOf p))) (eq-eqb p 0 e)
+
+  pub root-there : (q s : ℕ) → (p ≡ 0 → ⊥) → q ≡ cellNo p → s ≡ tagOf p → rootAt K D p ≡ recordAt K (D - 2) q s
+  unfolding rootAt
+  root-there q s z e f = ap (λ (b : Bool). cond b [] (recordAt K (D - 2) (cellNo p) (tagOf p))) (ne-eqb p 0 z) ∙ sym (ap₂ (recordAt K (D - 2)) e f)
+
+  pub root-length : (q : ℕ) → (p ≡ 0 → ⊥) → q ≡ cellNo p → length (rootAt K D p) ≡ measureAt K (D - 2) q
+  root-length q z e = ap length (root-there q (tagOf p) z e refl) ∙ record-length K (D - 2) q (tagOf p) (tag-lt p)
+
   long : length (fileAt K D p) ≡ outlineHead + length (rootAt K D p)
   unfolding fileAt
   long =
@@ -56,32 +56,20 @@ module _ (K : List (List Cell)) (D p : ℕ) where
   unfolding fileAt
   parts = ap (λ (n : ℕ). headOf outlineVersion n D ++ rootAt K D p) (sym long)
 
-  root-none : p ≡ 0 → rootAt K D p ≡ []
-  unfolding rootAt
-  root-none e = ap (λ (b : Bool). cond b [] (recordAt K (D - 2) (cellNo p) (tagOf p))) (eq-eqb p 0 e)
+-- ---- a scene held
 
-  root-there : (p ≡ 0 → ⊥) → rootAt K D p ≡ recordAt K (D - 2) (cellNo p) (tagOf p)
-  unfolding rootAt
-  root-there z = ap (λ (b : Bool). cond b [] (recordAt K (D - 2) (cellNo p) (tagOf p))) (ne-eqb p 0 z)
+pub scene-few : (ws : List ℕ) (n : ℕ) → Scene ws n → n < mostScenes
+scene-few ws n s = held-placed ws n (header ws (store-header ws (s .whole)) .scenes) (s .held)
 
-  -- no root: the header is the file
-  pub none-length : p ≡ 0 → length (fileAt K D p) ≡ outlineHead
-  none-length e = long ∙ ap (λ (l : List ℕ). outlineHead + length l) (root-none e)
+module _ (ws : List ℕ) (n D p : ℕ) (deep : D ≡ sceneDepth ws n) (names : p ≡ sceneRoot ws n) where
+  pub scene-root : Scene ws n → Root ws D p
+  scene-root s =
+      let h = scene-sound ws (s .whole) n (s .held) in
+      rw (deep, names) (record { whole = s .whole; deep = h .0; sound = h .1 })
 
-  pub none-file : p ≡ 0 → headOf outlineVersion (length (fileAt K D p)) D ≡ fileAt K D p
-  none-file e = sym (append-nil (headOf outlineVersion (length (fileAt K D p)) D)) ∙ ap (λ (l : List ℕ). headOf outlineVersion (length (fileAt K D p)) D ++ l) (sym (root-none e)) ∙ sym parts
+  -- its file: the head, and the root's record
+  pub file-length : length (sceneFile ws n) ≡ outlineHead + length (rootAt (keptOf ws) D p)
+  file-length = rw (deep, names) (long (keptOf ws) (sceneDepth ws n) (sceneRoot ws n))
 
-  -- a root: its record follows
-  pub there-length : (p ≡ 0 → ⊥) → length (fileAt K D p) ≡ outlineHead + measureAt K (D - 2) (cellNo p)
-  there-length z = long ∙ ap (λ (n : ℕ). outlineHead + n) (ap length (root-there z) ∙ record-length K (D - 2) (cellNo p) (tagOf p) (tag-lt p))
-
-  pub there-file : (p ≡ 0 → ⊥) → headOf outlineVersion (length (fileAt K D p)) D ++ recordAt K (D - 2) (cellNo p) (tagOf p) ≡ fileAt K D p
-  there-file z = ap (λ (l : List ℕ). headOf outlineVersion (length (fileAt K D p)) D ++ l) (sym (root-there z)) ∙ sym parts
-
-  -- the root's record under the names that code has for its parts
-  pub root-record : (d q s r : ℕ) → d ≡ D → r ≡ p → q ≡ cellNo r → s ≡ tagOf r → recordAt K (d - 2) q s ≡ recordAt K (D - 2) (cellNo p) (tagOf p)
-  root-record d q s r e f g h = λ i. recordAt K (e i - 2) ((g ∙ ap cellNo f) i) ((h ∙ ap tagOf f) i)
-
-  -- at least the header
-  pub file-least : outlineHead ≤ length (fileAt K D p)
-  file-least = omega (arith, long)
+  pub file-parts : (total : ℕ) → total ≡ length (sceneFile ws n) → sceneFile ws n ≡ headOf outlineVersion total D ++ rootAt (keptOf ws) D p
+  file-parts total e = rw (e, deep, names) (parts (keptOf ws) (sceneDepth ws n) (sceneRoot ws n))

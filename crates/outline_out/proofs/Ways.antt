@@ -5,17 +5,19 @@ use mathlib.Core.Bool.{Bool, true, false, not, _||_}
 use mathlib.Core.List.{List, [], _∷_}
 use Prim.Native.Nat.{ℕ, _≤_, _<_, min}
 use native.Mathlib.Omega.{arith}
-use lib.Dec.{T, ltb}
+use lib.Dec.{ltb}
 use lib.ListN.{length}
 use borrow.Author.Tests.{lt-ltb, le-ltb, ltb-false}
 use Rattle.paper.specs.Outline.{longest}
-use Rattle.paper.specs.Store.{isHeld, storeOk}
+use Rattle.paper.specs.Store.{storeOk}
 use Rattle.paper.specs.Answers.{Outcome, outcome, numberOf, written}
 use Rattle.paper.specs.Order.{when, firstOf, settled}
 use Rattle.paper.specs.Calls.{over, noScene, outlineBytes, outlineShort, outlineOutcome}
 use Rattle.paper.specs.declared.Refusal.the-variants.{DamagedStore, NoScene, OutputShort}
 use Rattle.paper.specs.declared.Written.the-variants.{Length, Refused}
+use Rattle.laws.proofs.Tests.{T-true}
 use Rattle.laws.proofs.Undamaged.{held-there}
+use Rattle.outline_out.specs.File.{Scene}
 
 -- one of two numbers is below a third exactly where the smaller one is
 either-below : (a b n : ℕ) → min a b < n → (ltb a n || ltb b n) ≡ true
@@ -47,9 +49,9 @@ module _ (ws : List ℕ) (n : ℕ) (out : List ℕ) where
   unfolding firstOf settled
   no-scene e h = ap₂ (λ (p q : Bool). by-tests p q (outlineShort ws n out)) (sym e) (sym h) ∙ whole
 
-  module _ (ok : storeOk ws ≡ true) (held : T (isHeld ws n)) where
+  module _ (scene : Scene ws n) where
     at-length : (s : Bool) → outlineShort ws n out ≡ s → by-tests true false s ≡ outlineOutcome ws n out
-    at-length s e = (λ i. by-tests (sym ok i) (sym (held-there ws n held) i) (sym e i)) ∙ whole
+    at-length s e = let ok : storeOk ws ≡ true = T-true (scene .whole) in (λ i. by-tests (sym ok i) (sym (held-there ws n (scene .held)) i) (sym e i)) ∙ whole
 
     pub too-short : min (length out) longest < length (outlineBytes ws n) → outcome (written (Refused OutputShort)) (out ∷ []) ≡ outlineOutcome ws n out
     unfolding firstOf settled outlineShort

@@ -1,3 +1,2 @@
--- Definitions that the contracts cite: a scene's outline by its pointers, and a length with a limit.
-pub mod Record
-pub mod Limit
+-- Definitions that the contracts cite: a scene's outline by its pointers, and what is known of a scene that is written.
+pub mod File

@@ -10,10 +10,10 @@ use Rattle.paper.specs.Packed.{packedVersion, packedHead}
 use Rattle.paper.specs.Pack.{emptyFile}
 use Rattle.laws.proofs.Bytes.{bytes-length}
 use Rattle.numbers.specs.Laid.{reached, writing}
-use Rattle.numbers.specs.Laid as file
+use Rattle.file_head.specs.Heads as file
 use Rattle.numbers.proofs.Laying.{writing-one, writing-then, reached-at, reached-length}
-use Rattle.numbers.proofs.Laying as begin
-use Rattle.writing.specs.Writing.{headOf}
+use Rattle.file_head.proofs.HeadWritten as begin
+use Rattle.pack_bytes.specs.Writing.{headOf}
 
 pub head-length : (n D m : ℕ) → length (headOf n D m) ≡ packedHead
 head-length n D m = ap suc (length-append (bytes 4 n) (D ∷ m ∷ []) ∙ ap (λ (x : ℕ). x + 2) (bytes-length 4 n))

@@ -19,16 +19,16 @@ use Rattle.paper.specs.Pack.{size, listBytes, sizeBytes, body, layout, emptyFil
 use Rattle.laws.proofs.PackedReachable.{numbers}
 use Rattle.laws.proofs.Layouts.{sizes-length}
 use Rattle.numbers.specs.Laid.{Reached, reached}
-use Rattle.scratch.specs.Parts.{orders, wordIn, Lent, Only, OnlyPart, orderIn}
-use Rattle.scratch.specs.Parts as part
-use Rattle.scratch.proofs.Words.{in-orders, in-places, only-none, only-then, only-more, only-lent, words-at, words-length}
-use Rattle.order.specs.OrderParts.{Ordered}
-use Rattle.placing.specs.Placing.{span, placing, placedList, Placed, placed, onto, listPlaced, placedLists, Kept}
-use Rattle.writing.specs.Writing.{recordIn, listIn, bodyIn, sizesIn, bodyLength, fileLength, headOf}
+use Rattle.pack_scratch.specs.Parts.{orders, wordIn, Lent, Only, OnlyPart, orderIn}
+use Rattle.pack_scratch.specs.Parts as part
+use Rattle.pack_scratch.proofs.Words.{in-orders, in-places, only-none, only-then, only-more, only-lent, words-at, words-length}
+use Rattle.pack_order.specs.OrderParts.{Ordered}
+use Rattle.pack_places.specs.Placing.{span, placing, placedList, Placed, placed, onto, listPlaced, placedLists, Kept}
+use Rattle.pack_bytes.specs.Writing.{recordIn, listIn, bodyIn, sizesIn, bodyLength, fileLength, headOf}
 use Rattle.pack.specs.Ready.{Ready}
 use Rattle.pack.proofs.Heads.{head-length}
-use Rattle.placing.proofs.Placings.{stop, words, total, placing-only, placing-stop, placing-at}
-use Rattle.placing.proofs.Runs.{Places, kept-still}
+use Rattle.pack_places.proofs.Placings.{stop, words, total, placing-only, placing-stop, placing-at}
+use Rattle.pack_places.proofs.Runs.{Places, kept-still}
 use Rattle.pack.proofs.Scenes.{Told, ListIs, list-is, choice, N-kept, N-below, N-few, size-small, list-bytes, leaf-bytes}
 
 -- the sizes and the words once lists are placed

@@ -14,7 +14,7 @@ use Rattle.paper.specs.Pack.{placeOf, code, pointerBytes, header, width, record
 use Rattle.laws.proofs.PackedReachable.{Listed, InList, none-renumbered, listed-some, listed-cell, listed-tag}
 use Rattle.laws.proofs.RecordSizes.{no-code, some-code, some-bytes}
 use Rattle.laws.proofs.RecordSizes.{no-bytes}
-use Rattle.placing.proofs.Placings.{total}
+use Rattle.pack_places.proofs.Placings.{total}
 
 -- ns: the store's numbers in their order; ps: their places in that order; table: the places by number
 module _ (ns : List ℕ) (few : length ns ≤ mostCapacity) (ps table : List ℕ) (told : (i : ℕ) → i < length ns → getD table (getD ns i 0) 0 ≡ getD ps i 0) where

@@ -26,13 +26,13 @@ use Rattle.laws.proofs.RecordSizes.{list-length, size-le}
 use Rattle.laws.proofs.PackedReachable.{Chosen, numbers, Pointing, chosen, listed}
 use Rattle.laws.proofs.PackedGraph.{graph-leaves, graph-inner}
 use Rattle.store.proofs.HeaderFacts.{header}
-use Rattle.scratch.specs.Parts.{wordIn, placesIn}
-use Rattle.scratch.specs.Parts as part
-use Rattle.scratch.proofs.Words.{words-at}
-use Rattle.placing.specs.Placing.{span}
-use Rattle.writing.specs.Writing.{recordIn}
-use Rattle.placing.proofs.Placings.{total}
-use Rattle.writing.proofs.KeptWords.{leaf-two, cell-eight}
+use Rattle.pack_scratch.specs.Parts.{wordIn, placesIn}
+use Rattle.pack_scratch.specs.Parts as part
+use Rattle.pack_scratch.proofs.Words.{words-at}
+use Rattle.pack_places.specs.Placing.{span}
+use Rattle.pack_bytes.specs.Writing.{recordIn}
+use Rattle.pack_places.proofs.Placings.{total}
+use Rattle.pack_bytes.proofs.KeptWords.{leaf-two, cell-eight}
 use Rattle.pack.proofs.Renumbering.{same-list, same-size, same-places}
 
 -- ---- lists

@@ -18,7 +18,7 @@ use Rattle.paper.specs.declared.Refusal.the-variants.{DamagedStore, NoScene, Sc
 use Rattle.paper.specs.declared.Written.{Written}
 use Rattle.paper.specs.declared.Written.the-variants.{Length, Refused}
 use Rattle.laws.proofs.Undamaged.{held-there}
-use Rattle.writing.specs.Writing.{fitted}
+use Rattle.pack_bytes.specs.Writing.{fitted}
 
 -- ---- an output
 

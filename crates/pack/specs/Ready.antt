@@ -6,11 +6,11 @@ use Prim.Native.Nat.{ℕ, suc, _+_, _^_, _<_, _≤_}
 use lib.ListN.{length, getD}
 use Rattle.paper.specs.Store.{capacityOf, keptOf, cellNo, tagOf}
 use Rattle.paper.specs.Pack.{places, size, reachable, sceneGraph, packedFile}
-use Rattle.scratch.specs.Parts.{wordIn, Room}
-use Rattle.scratch.specs.Parts as part
-use Rattle.order.specs.OrderParts.{Ordered}
-use Rattle.placing.specs.Placing.{Kept}
-use Rattle.writing.specs.Writing.{bodyIn, sizesIn, headOf}
+use Rattle.pack_scratch.specs.Parts.{wordIn, Room}
+use Rattle.pack_scratch.specs.Parts as part
+use Rattle.pack_order.specs.OrderParts.{Ordered}
+use Rattle.pack_places.specs.Placing.{Kept}
+use Rattle.pack_bytes.specs.Writing.{bodyIn, sizesIn, headOf}
 
 -- the scene under root p of list k of the store ws: scratch is t, and n the file's length
 pub record Ready (ws : List ℕ) (k p : ℕ) (counts sizes : List ℕ) (n : ℕ) (t : List ℕ) : Type 0 where

@@ -1,12 +1,12 @@
 -- The ways through a packed voxel question, in the code's words: refused by its first bytes, by 10, by 6, and the walk's end.
 -- Each by the value of the tests of `packedVoxelOrder`, at which the outcome computes. Assumes nothing.
-use mathlib.Core.Path.{_≡_, refl, sym, _∙_, ap, ap₂, subst}
+use mathlib.Core.Path.{_≡_, refl, sym, _∙_, ap, ap₂}
 use mathlib.Core.Bool.{Bool, true, false}
 use mathlib.Core.List.{List, [], _∷_}
-use Prim.Native.Nat.{ℕ, _^_, _<_}
-use lib.Dec.{eqb, leb, leb→le, eqb→eq}
-use lib.ListN.{length, drop}
-use Rattle.paper.specs.Numbers.{bitFor, num}
+use Prim.Native.Nat.{ℕ}
+use borrow.Author.Tests.{le-leb}
+use lib.ListN.{length}
+use Rattle.paper.specs.Numbers.{bitFor}
 use Rattle.paper.specs.Rooms.{Point, least, deepest}
 use Rattle.paper.specs.Outline.{fileDepth}
 use Rattle.paper.specs.Leaf.{leafVoxel}
@@ -15,35 +15,15 @@ use Rattle.paper.specs.Packed.{packedVersion, packedHead, headOk, fileWalk}
 use Rattle.paper.specs.Answers.{Outcome, told, outcome, numberOf, found}
 use Rattle.paper.specs.Order.{Test, when, firstOf, settled}
 use Rattle.paper.specs.Calls.{packedOutside, packedBroken, packedVoxelOrder, packedValues, packedVoxelOutcome}
-use Rattle.paper.specs.Runs.{Bytes}
 use Rattle.paper.specs.declared.Refusal.{Refusal}
 use Rattle.paper.specs.declared.Refusal.the-variants.{BrokenRules, Outside}
 use Rattle.paper.specs.declared.Found.{Found}
 use Rattle.paper.specs.declared.Found.the-variants.{Refused}
-use Rattle.laws.proofs.Tests.{true-T, and-left, and-right}
-use Rattle.laws.proofs.Bytes.{bytes-drop}
-use Rattle.laws.proofs.PackedLists.{num4-lt}
 use Rattle.laws.proofs.Refusals.{settled-refused}
-use Rattle.outline.specs.Heads.{headNumber}
-use Rattle.outline.proofs.HeadTests.{Headed, head-stops, head-goes-on}
-use Rattle.packed.specs.Header.{Tested}
-use Rattle.packed.specs.Walk.{solidOr, foundBy, endingOf, foundAt}
-
--- ---- what the first three tests say
-
-pub tested : (bs : List ℕ) → Bytes bs → Headed packedVersion packedHead bs → Tested bs
-tested bs h ok =
-    let a : Bool = leb packedHead (length bs) in
-    let b : Bool = eqb (num 4 (drop 1 bs)) (length bs) in
-    let f : num 4 (drop 1 bs) ≡ length bs = eqb→eq (num 4 (drop 1 bs)) (length bs) (and-right a b (true-T (ok .length-ok))) in
-    let low : Bool = leb least (fileDepth bs) in
-    let high : Bool = leb (fileDepth bs) deepest in
-    record {
-      long = leb→le packedHead (length bs) (and-left a b (true-T (ok .length-ok)));
-      short = subst (λ (n : ℕ). n < 2 ^ 32) f (num4-lt (drop 1 bs) (bytes-drop 1 bs h));
-      deep = leb→le least (fileDepth bs) (and-left low high (true-T (ok .depth-ok)));
-      flat = leb→le (fileDepth bs) deepest (and-right low high (true-T (ok .depth-ok)));
-    }
+use Rattle.file_head.specs.Heads.{headNumber}
+use Rattle.file_head.proofs.HeadTests.{Headed, head-stops, head-goes-on}
+use Rattle.packed.specs.Headers.{HeaderRead}
+use Rattle.packed_walk.specs.Walk.{solidOr, foundBy, endingOf, foundAt}
 
 -- ---- the outcome by the tests: outside; broken
 
@@ -59,6 +39,12 @@ end-found (inLeaf b u) n = go (leafVoxel b u)
     go : (t : Bool) → outcome (found (solidOr t n)) [] ≡ by-tests (bitFor t ∷ n ∷ 0 ∷ []) false false
     go true = refl
     go false = refl
+
+-- the first bytes of a file whose header is read
+pub header-known : {bs starts : List ℕ} → HeaderRead bs starts → Headed packedVersion packedHead bs
+header-known {bs = bs} h =
+    let D : ℕ = fileDepth bs in
+    record { version-ok = h .version; length-ok = h .size; depth-ok = rw (le-leb least D (h .opens .tested .deep), le-leb D deepest (h .opens .tested .flat)) refl }
 
 module _ (bs : List ℕ) (v : Point) where
   -- the tests after those of the first bytes

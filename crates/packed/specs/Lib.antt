@@ -1,4 +1,2 @@
--- Definitions that the contracts cite: the header, one record, the walk.
-pub mod Header
-pub mod Records
-pub mod Walk
+-- Definitions that the contracts cite: what is known of a file whose header is read.
+pub mod Headers

@@ -16,11 +16,11 @@ use Rattle.paper.specs.Calls.{cleared, packedOrder, checkOrder, checkScratchAft
 use Rattle.paper.specs.declared.Refusal.{Refusal}
 use Rattle.paper.specs.declared.Checked.the-variants.{Refused}
 use Rattle.laws.proofs.Refusals.{settled-refused}
-use Rattle.outline.specs.Heads.{headNumber}
-use Rattle.outline.proofs.HeadTests.{Headed, head-range, head-stops, head-goes-on}
-use Rattle.proper.specs.Places.{listRules, rootLow, rulesBy, packedBy}
-use Rattle.popular.specs.Places.{popularRules}
-use Rattle.proper.specs.Phases.{scratchAt}
+use Rattle.file_head.specs.Heads.{headNumber}
+use Rattle.file_head.proofs.HeadTests.{Headed, head-range, head-stops, head-goes-on}
+use Rattle.proper_popular.specs.Places.{popularRules}
+use Rattle.proper_lists.specs.Marking.{listRules, scratchAt}
+use Rattle.proper_rules.specs.Rules.{rootLow, markedBy, rulesBy, packedBy}
 
 module _ (file scratch : List ℕ) where
   abbrev later : List Test
@@ -74,24 +74,28 @@ pub head-rules : (bs : List ℕ) → headOk bs ≡ true → isEmpty bs ≡ false
 unfolding packedBy
 head-rules bs e z = rw (e, z)
 
--- ---- the four parts of the rules
+-- ---- the parts of the rules, in turn
 
 module _ (bs : List ℕ) where
-  pub lists-fail : allBelow (suc (topOf bs)) (listRules bs) ≡ false → rulesBy bs ≡ false
-  unfolding rulesBy
+  pub lists-fail : allBelow (suc (topOf bs)) (listRules bs) ≡ false → markedBy bs ≡ false
+  unfolding markedBy
   lists-fail e = rw e
 
-  pub top-fails : allBelow (suc (topOf bs)) (listRules bs) ≡ true → topOk bs ≡ false → rulesBy bs ≡ false
-  unfolding rulesBy
+  pub top-fails : allBelow (suc (topOf bs)) (listRules bs) ≡ true → topOk bs ≡ false → markedBy bs ≡ false
+  unfolding markedBy
   top-fails e f = rw (e, f)
 
-  pub root-fails : allBelow (suc (topOf bs)) (listRules bs) ≡ true → topOk bs ≡ true → rootLow bs ≡ false → rulesBy bs ≡ false
-  unfolding rulesBy
-  root-fails e f g = rw (e, f, g)
+  pub root-decides : allBelow (suc (topOf bs)) (listRules bs) ≡ true → topOk bs ≡ true → markedBy bs ≡ rootLow bs
+  unfolding markedBy
+  root-decides e f = rw (e, f)
 
-  pub rules-popular : allBelow (suc (topOf bs)) (listRules bs) ≡ true → topOk bs ≡ true → rootLow bs ≡ true → rulesBy bs ≡ allBelow (topOf bs) (popularRules bs)
+  pub marks-fail : markedBy bs ≡ false → rulesBy bs ≡ false
   unfolding rulesBy
-  rules-popular e f g = rw (e, f, g)
+  marks-fail e = rw e
+
+  pub popular-decides : markedBy bs ≡ true → rulesBy bs ≡ allBelow (topOf bs) (popularRules bs)
+  unfolding rulesBy
+  popular-decides e = rw e
 
 -- ---- zeros
 

@@ -1,10 +1,4 @@
--- Laws that belong to no one function: marks and starts, the rules by places as the paper's, groups of mirrors, the scratch, and the check.
-pub mod Marks
-pub mod Starting
-pub mod ByPlaces
-pub mod Rules
-pub mod Along
-pub mod Groups
-pub mod Checking
-pub mod Scratch
+-- Laws that belong to no one function: the top list, the root's mark, and the ways through a check.
 pub mod Top
+pub mod Root
+pub mod Checking

@@ -1,25 +1,23 @@
--- The top list of a file: whether it has exactly one record, by its bytes, and the root's mark in the scratch. By where the lists lie. Assumes nothing.
+-- The top list of a file: whether it has exactly one record, by its bytes. By where the lists lie. Assumes nothing.
 use mathlib.Core.Path.{_≡_, refl, sym, _∙_, ap, ap₂, subst}
 use mathlib.Core.Bool.{Bool, true, false, not}
 use mathlib.Core.List.{List}
 use Prim.Native.Nat.{ℕ, zero, suc, _+_, _-_, _*_, _%_, _<_, _≤_}
 use native.Mathlib.Omega.{arith}
-use borrow.Author.Tests.{eq-eqb, ne-eqb, eqb-false, ltb-false}
+use borrow.Author.Tests.{eq-eqb, ne-eqb, ltb-false}
 use lib.Dec.{T, eqb, ltb, eqb→eq, ltb→lt}
 use lib.ListN.{length, getD, take, drop}
 use Rattle.paper.specs.Numbers.{allBelow, allIn, count}
-use Rattle.paper.specs.Packed.{topOf, rootTag, sizeAt, startAt, listAt, recordOk, placesAt, sizesOk, topOk}
-use Rattle.laws.proofs.Tests.{true-T, iff-eq, all-at, and-left}
+use Rattle.paper.specs.Packed.{topOf, sizeAt, startAt, listAt, recordOk, placesAt, wholeAt, sizesOk, topOk}
+use Rattle.laws.proofs.Tests.{true-T, iff-eq, all-at}
 use Rattle.laws.proofs.Lists.{length-count}
-use Rattle.alike.specs.Matching.{recordRules, lowBy, placesIn}
-use Rattle.popular.specs.Places.{unitAt, endAt, endIn, Listed}
-use Rattle.proper.specs.Places.{marksAt, listRules, rootLow}
-use Rattle.proper.specs.Phases.{scratchAt}
-use Rattle.popular.proofs.InFile.{list-length, start-is, end-is, list-in, end-in, cut-is, places-inner, evens, sized}
-use Rattle.packed.proofs.Lists.{root-mirror}
-use Rattle.alike.proofs.Along.{restFrom, widthAt, rest-all, rest-none, rest-more, rest-head, record-inside, rules-all-whole}
-use Rattle.popular.proofs.Starts.{starts-few}
-use Rattle.proper.proofs.Scratch.{first-mark}
+use Rattle.proper_marks.specs.Places.{placesIn, widthAt}
+use Rattle.packed_lists.specs.Ends.{endAt, endIn, Listed}
+use Rattle.proper_lists.specs.Marking.{listRules}
+use Rattle.proper_marks.proofs.InFile.{list-length, start-is, end-is, list-in, end-in, cut-is, places-inner, evens, sized}
+use Rattle.proper_rules.proofs.Rules.{whole-by}
+use Rattle.proper_marks.proofs.Along.{restFrom, rest-all, rest-none, rest-more, rest-head, record-inside}
+use Rattle.proper_popular.proofs.Starts.{starts-few}
 
 -- two tests that say the same
 same-test : (a b c d : ℕ) → (a ≡ b → c ≡ d) → (c ≡ d → a ≡ b) → eqb a b ≡ eqb c d
@@ -63,7 +61,7 @@ module _ (l : List ℕ) (even : length l % 2 ≡ 0) (some : 2 * 0 < length l) (w
 
 module _ (bs starts : List ℕ) (known : Listed bs starts) where
   -- a list with one record is not empty
-  some-list : (k : ℕ) → k ≤ topOf bs → length (placesAt bs k) ≡ 1 → 0 < length (listAt bs k)
+  pub some-list : (k : ℕ) → k ≤ topOf bs → length (placesAt bs k) ≡ 1 → 0 < length (listAt bs k)
   unfolding placesAt
   some-list zero h q = omega (arith, list-length bs (sized bs starts known) 0 h, length-count (sizeAt bs 0) 0, q)
   some-list (suc k) h q =
@@ -81,10 +79,10 @@ module _ (bs starts : List ℕ) (known : Listed bs starts) where
     at-b : b ≡ endAt bs k
     at-b = eb ∙ end-is bs starts known k in-top
 
-    pub cut-order : a ≤ b
+    cut-order : a ≤ b
     cut-order = omega (arith, at-a, at-b, list-in bs starts known k in-top)
 
-    pub cut-reach : b ≤ length bs
+    cut-reach : b ≤ length bs
     cut-reach = omega (arith, at-b, end-in bs starts known k in-top)
 
     abbrev list : List ℕ
@@ -94,12 +92,12 @@ module _ (bs starts : List ℕ) (known : Listed bs starts) where
     cut = ap₂ (λ (x y : ℕ). take (y - x) (drop x bs)) at-a at-b ∙ cut-is bs starts known k in-top
 
     -- the ways of the test
-    pub top-leaf : k ≡ 0 → not (eqb (length list) 8) ≡ not (topOk bs)
+    top-leaf : k ≡ 0 → not (eqb (length list) 8) ≡ not (topOk bs)
     top-leaf z =
         ap (λ (l : List ℕ). not (eqb (length l) 8)) (cut ∙ ap (listAt bs) z) ∙ ap not (leaf-one bs (sized bs starts known))
         ∙ ap (λ (n : ℕ). not (oneAt bs n)) (sym z) ∙ ap not (top-one bs k top)
 
-    pub top-none : length list ≡ 0 → true ≡ not (topOk bs)
+    top-none : length list ≡ 0 → true ≡ not (topOk bs)
     top-none z = ap not (sym (ne-eqb (length (placesAt bs k)) 1 (λ q. omega (arith, some-list k in-top q, ap length cut, z))) ∙ top-one bs k top)
 
     module _ (inner : k ≡ 0 → ⊥) (some : length list ≡ 0 → ⊥) (rules : T (allBelow (suc (topOf bs)) (listRules bs))) where
@@ -107,22 +105,21 @@ module _ (bs starts : List ℕ) (known : Listed bs starts) where
       long j e = let n : length list ≡ length (listAt bs (suc j)) = ap length (cut ∙ ap (listAt bs) e) in omega (arith, n, some)
 
       first-at : (j : ℕ) → k ≡ suc j → T (recordOk (listAt bs (suc j)) 0)
-      unfolding listRules
+      unfolding wholeAt
       first-at j e =
           let l : List ℕ = listAt bs (suc j) in
           let h : suc j ≤ topOf bs = omega (arith, in-top, e) in
           let t : T (listRules bs (suc j)) = all-at (suc (topOf bs)) (listRules bs) rules (suc j) (omega (arith, h)) in
-          let r : T (allIn (recordRules (unitAt j) (marksAt bs j) l) (placesAt bs (suc j))) = search and-left in
           rest-head l (evens bs starts known j h) 0 (long j e) (recordOk l)
-          (subst (λ (ps : List ℕ). T (allIn (recordOk l) ps)) (places-inner bs starts known j h ∙ sym (rest-all l)) (rules-all-whole (unitAt j) (marksAt bs j) l (placesAt bs (suc j)) r))
+          (subst (λ (ps : List ℕ). T (allIn (recordOk l) ps)) (places-inner bs starts known j h ∙ sym (rest-all l)) (whole-by bs (suc j) t))
 
       above : k ≡ suc (k - 1)
       above = omega (arith, inner)
 
-      pub top-whole : T (recordOk list 0)
+      top-whole : T (recordOk list 0)
       top-whole = subst (λ (l : List ℕ). T (recordOk l 0)) (sym (cut ∙ ap (listAt bs) above)) (first-at (k - 1) above)
 
-      pub top-inner : (w : ℕ) → w ≡ widthAt list 0 → not (eqb (2 * w) (length list)) ≡ not (topOk bs)
+      top-inner : (w : ℕ) → w ≡ widthAt list 0 → not (eqb (2 * w) (length list)) ≡ not (topOk bs)
       top-inner w e =
           let h : suc (k - 1) ≤ topOf bs = omega (arith, in-top, above) in
           ap (λ (n : ℕ). not (eqb (2 * n) (length list))) e
@@ -131,24 +128,24 @@ module _ (bs starts : List ℕ) (known : Listed bs starts) where
           ∙ ap (λ (ps : List ℕ). not (eqb (length ps) 1)) (sym (places-inner bs starts known (k - 1) h))
           ∙ ap (λ (n : ℕ). not (oneAt bs n)) (sym above) ∙ ap not (top-one bs k top)
 
-  -- ---- the root's tag
+-- ---- all of it together, as code cuts
 
-  pub tag-in : rootTag bs < 8
-  tag-in = root-mirror bs (known .opens .head) (eqb-false (rootTag bs) 8 (known .solid))
+pub record TopCut (bs : List ℕ) (k a b : ℕ) : Type 0 where
+  pub order : a ≤ b
+  pub reach : b ≤ length bs
+  pub leaf : k ≡ 0 → not (eqb (length (take (b - a) (drop a bs))) 8) ≡ not (topOk bs)
+  pub none : length (take (b - a) (drop a bs)) ≡ 0 → true ≡ not (topOk bs)
+  pub whole : (k ≡ 0 → ⊥) → (length (take (b - a) (drop a bs)) ≡ 0 → ⊥) → T (recordOk (take (b - a) (drop a bs)) 0)
+  pub inner : (k ≡ 0 → ⊥) → (length (take (b - a) (drop a bs)) ≡ 0 → ⊥) → (w : ℕ) → w ≡ widthAt (take (b - a) (drop a bs)) 0
+      → not (eqb (2 * w) (length (take (b - a) (drop a bs)))) ≡ not (topOk bs)
 
-  module _ (one : T (topOk bs)) where
-    top-some : 0 < length (listAt bs (topOf bs))
-    unfolding topOk
-    top-some = some-list (topOf bs) (omega arith) (eqb→eq (length (placesAt bs (topOf bs))) 1 one)
-
-    pub root-in : (k : ℕ) → k ≡ topOf bs → getD starts k 0 < length bs
-    root-in k e =
-        let n : getD starts k 0 ≡ startAt bs (topOf bs) = ap (λ (i : ℕ). getD starts i 0) e ∙ start-is bs starts known (topOf bs) (omega arith) in
-        omega (arith, n, top-some, list-in bs starts known (topOf bs) (omega arith), end-in bs starts known (topOf bs) (omega arith))
-
-    pub root-is : (k m t : ℕ) (S : List ℕ) → k ≡ topOf bs → S ≡ scratchAt bs (suc (topOf bs)) → m ≡ getD S (getD starts k 0) 0 → t ≡ rootTag bs → lowBy m t ≡ rootLow bs
-    unfolding rootLow
-    root-is k m t S ek es em et =
-        let n : getD starts k 0 ≡ startAt bs (topOf bs) = ap (λ (i : ℕ). getD starts i 0) ek ∙ start-is bs starts known (topOf bs) (omega arith) in
-        let z : 0 ≡ unitAt (topOf bs) * 0 = omega arith in
-        ap₂ lowBy (em ∙ ap₂ (λ (s : List ℕ) (i : ℕ). getD s i 0) es n ∙ first-mark bs starts known (topOf bs) top-some ∙ ap (λ (i : ℕ). getD (marksAt bs (topOf bs)) i 0) z) et
+pub top-cut : (bs starts : List ℕ) → Listed bs starts → T (allBelow (suc (topOf bs)) (listRules bs)) → (k b : ℕ) → k ≡ topOf bs → b ≡ endIn starts (length bs) k
+    → TopCut bs k (getD starts k 0) b
+top-cut bs starts known rules k b top eb = record {
+  order = cut-order bs starts known k (getD starts k 0) b top refl eb;
+  reach = cut-reach bs starts known k (getD starts k 0) b top refl eb;
+  leaf = top-leaf bs starts known k (getD starts k 0) b top refl eb;
+  none = top-none bs starts known k (getD starts k 0) b top refl eb;
+  whole = λ inner some. top-whole bs starts known k (getD starts k 0) b top refl eb inner some rules;
+  inner = λ inner some. top-inner bs starts known k (getD starts k 0) b top refl eb inner some rules;
+}

@@ -5,6 +5,7 @@ use limits::DEEPEST;
 use limits::DEPTH_POSITION;
 use limits::LEAST_DEPTH;
 use numbers::wide;
+use rooms::Point;
 
 // The longest input; a longer one prints `answer 4` alone.
 pub const MOST_INPUT: usize = 8192;
@@ -58,7 +59,13 @@ fn solid_line(store: &[u32], depth: u32)
     requires { ⌜ depth ≤ 16 ⌝ }
 {
     let edge = 1u32 << depth;
-    let count = rooms::box_count(store, 0, 0, 0, 0, edge, edge, edge);
+    let low = Point { x: 0, y: 0, z: 0 };
+    let high = Point {
+        x: edge,
+        y: edge,
+        z: edge,
+    };
+    let count = rooms::box_count(store, 0, low, high);
     line(b"solid", count.value());
 }
 

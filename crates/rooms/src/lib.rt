@@ -1,26 +1,32 @@
 // The public calls of the room store. Each promise stands in `paper`, by name, as one equation: the outcome read from the answer
 // is document 01's. No call asks anything of its caller.
-ghost use Rattle.paper.specs.Rooms.{point};
+ghost use Rattle.points.specs.Points.{at};
 ghost use Rattle.paper.specs.Promises.{NewStorePromise, AddPromise, VoxelPromise, SightPromise, CellPromise, BoxPromise, KeptPromise, OutlinePromise, PackPromise, CheckPromise, PackedVoxelPromise, DetailPromise};
-use boxes::Corner;
-use lines::Axes;
-use paper::Added;
-use paper::Checked;
-use paper::Chosen;
-use paper::Counted;
-use paper::Found;
-use paper::Kept;
-use paper::Occupied;
-use paper::Seen;
-use paper::Sighted;
-use paper::Started;
-use paper::Wish;
-use paper::Written;
+
+// The types of what is asked and answered.
+pub use paper::Added;
+pub use paper::Checked;
+pub use paper::Chosen;
+pub use paper::Counted;
+pub use paper::DistanceFactor;
+pub use paper::Found;
+pub use paper::Kept;
+pub use paper::Occupied;
+pub use paper::Refusal;
+pub use paper::Seen;
+pub use paper::Sighted;
+pub use paper::Started;
+pub use paper::Wish;
+pub use paper::Written;
+pub use points::Point;
 
 // Opening a packed scene, and a question on an opened scene. Their answer and their scene hold a slice, so they are named here
-// and stand in `opened`.
+// and stand in `opened`; the last three do the same on plain bytes and numbers.
 pub use opened::ask;
+pub use opened::ask_bytes;
 pub use opened::open;
+pub use opened::open_and_ask;
+pub use opened::read_header;
 
 // New store: the words of this capacity zeroed, then word 0 set; refused by 1.
 pub fn new_store(store: &mut [u32], capacity: u32) -> Started
@@ -33,73 +39,35 @@ pub fn new_store(store: &mut [u32], capacity: u32) -> Started
 pub fn add(store: &mut [u32], file: &[u8]) -> Added
     ensures { λ r. ⌜ AddPromise (now (store .entry)) (now (file .entry)) r (now (store .exit)) ⌝ }
 {
-    merge::add(store, file)
+    add::add(store, file)
 }
 
 // Voxel: solid or empty, with the height of the emptiness; refused by 2 (header), 9, 2 (the scene's two words), 10, 2 (walk).
-pub fn voxel(store: &[u32], scene: u32, x: u32, y: u32, z: u32) -> Seen
-    ensures { λ r. ⌜ VoxelPromise (now (store .entry)) scene (point x y z) r ⌝ }
+pub fn voxel(store: &[u32], scene: u32, v: Point) -> Seen
+    ensures { λ r. ⌜ VoxelPromise (now (store .entry)) scene (at v) r ⌝ }
 {
-    walk::voxel(store, scene, x, y, z)
+    voxel::voxel(store, scene, v)
 }
 
 // Sight line: clear, or the first voxel that blocks it between two others' centres; refused by 2 (header), 9, 2 (the scene's two words), 10
 // (either end), 2 (before the answer).
-pub fn sight(
-    store: &[u32],
-    scene: u32,
-    fromx: u32,
-    fromy: u32,
-    fromz: u32,
-    tox: u32,
-    toy: u32,
-    toz: u32,
-) -> Sighted
-    ensures { λ r. ⌜ SightPromise (now (store .entry)) scene (point fromx fromy fromz) (point tox toy toz) r ⌝ }
+pub fn sight(store: &[u32], scene: u32, from: Point, to: Point) -> Sighted
+    ensures { λ r. ⌜ SightPromise (now (store .entry)) scene (at from) (at to) r ⌝ }
 {
-    let from = Axes {
-        x: fromx,
-        y: fromy,
-        z: fromz,
-    };
-    let to = Axes {
-        x: tox,
-        y: toy,
-        z: toz,
-    };
     sight::sight(store, scene, from, to)
 }
 
 // Cell: non-empty or empty, x, y and z counted in cells of its height; refused as voxel.
-pub fn cell(store: &[u32], scene: u32, height: u32, x: u32, y: u32, z: u32) -> Occupied
-    ensures { λ r. ⌜ CellPromise (now (store .entry)) scene height (point x y z) r ⌝ }
+pub fn cell(store: &[u32], scene: u32, height: u32, v: Point) -> Occupied
+    ensures { λ r. ⌜ CellPromise (now (store .entry)) scene height (at v) r ⌝ }
 {
-    walk::cell(store, scene, height, x, y, z)
+    cell::cell(store, scene, height, v)
 }
 
 // Box: the number of solid voxels from the low corner up to the high one, which is outside; refused as voxel.
-pub fn box_count(
-    store: &[u32],
-    scene: u32,
-    lowx: u32,
-    lowy: u32,
-    lowz: u32,
-    highx: u32,
-    highy: u32,
-    highz: u32,
-) -> Counted
-    ensures { λ r. ⌜ BoxPromise (now (store .entry)) scene (point lowx lowy lowz) (point highx highy highz) r ⌝ }
+pub fn box_count(store: &[u32], scene: u32, low: Point, high: Point) -> Counted
+    ensures { λ r. ⌜ BoxPromise (now (store .entry)) scene (at low) (at high) r ⌝ }
 {
-    let low = Corner {
-        x: lowx,
-        y: lowy,
-        z: lowz,
-    };
-    let high = Corner {
-        x: highx,
-        y: highy,
-        z: highz,
-    };
     boxes::box_count(store, scene, low, high)
 }
 
@@ -132,10 +100,10 @@ pub fn check(file: &[u8], scratch: &mut [u8]) -> Checked
 }
 
 // Packed voxel: solid or empty, with the number of records read on the way and the height of the emptiness; refused by 3, 4, 5, 10, 6.
-pub fn packed_voxel(file: &[u8], x: u32, y: u32, z: u32) -> Found
-    ensures { λ r. ⌜ PackedVoxelPromise (now (file .entry)) (point x y z) r ⌝ }
+pub fn packed_voxel(file: &[u8], v: Point) -> Found
+    ensures { λ r. ⌜ PackedVoxelPromise (now (file .entry)) (at v) r ⌝ }
 {
-    packed::packed_voxel(file, x, y, z)
+    packed::packed_voxel(file, v)
 }
 
 // Detail: the height at which to draw a scene of this depth; refused by 5, 13.

@@ -2,20 +2,12 @@
 // values are written through the last parameters, zeros on a refusal. Each promise stands in specs/Exports.antt, by name, as one equation,
 // on the same outcome as the call of `rooms`; where C passes numbers in the place of a struct or of a wish, that file says which. No
 // call asks anything of the values it is given; what it asks of pointers and memory is in the header.
-ghost use mathlib.Core.Path.{_≡_};
-ghost use mathlib.Core.List.{_∷_};
-ghost use Prim.Native.Nat.{_≤_};
-ghost use lib.ListN.{length};
 ghost use Rattle.paper.specs.Rooms.{point};
-ghost use Rattle.paper.specs.Calls.{over};
-ghost use Rattle.rooms_c.specs.Exports.{openedNumbers, startsHeld, wishGiven, RoomsNewPromise, RoomsAddPromise, RoomsVoxelPromise, RoomsSightPromise, RoomsCellPromise, RoomsBoxPromise, RoomsKeptPromise, RoomsOutlinePromise, RoomsPackPromise, RoomsCheckPromise, RoomsPackedVoxelPromise, RoomsOpenPromise, RoomsAskPromise, RoomsDetailPromise};
-use paper::DistanceFactor;
-use paper::Wish;
-
-// The numbers of an opened scene: the depth, then the fifteen list starts.
-const OPENED_NUMBERS: usize = 16;
-
-const STARTS: usize = 15;
+ghost use Rattle.rooms_c.specs.Exports.{RoomsNewPromise, RoomsAddPromise, RoomsVoxelPromise, RoomsSightPromise, RoomsCellPromise, RoomsBoxPromise, RoomsKeptPromise, RoomsOutlinePromise, RoomsPackPromise, RoomsCheckPromise, RoomsPackedVoxelPromise, RoomsOpenPromise, RoomsAskPromise, RoomsDetailPromise};
+use rooms::Point;
+use rooms_numbers::ask_numbers;
+use rooms_numbers::detail_numbers;
+use rooms_numbers::open_numbers;
 
 // New store.
 #[no_mangle]
@@ -49,7 +41,7 @@ pub extern "C" fn rooms_voxel(
 ) -> u32
     ensures { λ r. ⌜ RoomsVoxelPromise (now (store .entry)) scene (point x y z) r (now (solid .exit)) (now (height .exit)) ⌝ }
 {
-    let answer = rooms::voxel(store, scene, x, y, z);
+    let answer = rooms::voxel(store, scene, Point { x: x, y: y, z: z });
     *solid = answer.value();
     *height = answer.height();
     answer.number()
@@ -73,7 +65,17 @@ pub extern "C" fn rooms_sight(
 ) -> u32
     ensures { λ r. ⌜ RoomsSightPromise (now (store .entry)) scene (point fromx fromy fromz) (point tox toy toz) r (now (blocked .exit)) (now (x .exit)) (now (y .exit)) (now (z .exit)) ⌝ }
 {
-    let answer = rooms::sight(store, scene, fromx, fromy, fromz, tox, toy, toz);
+    let from = Point {
+        x: fromx,
+        y: fromy,
+        z: fromz,
+    };
+    let to = Point {
+        x: tox,
+        y: toy,
+        z: toz,
+    };
+    let answer = rooms::sight(store, scene, from, to);
     *blocked = answer.value();
     *x = answer.x();
     *y = answer.y();
@@ -94,7 +96,7 @@ pub extern "C" fn rooms_cell(
 ) -> u32
     ensures { λ r. ⌜ RoomsCellPromise (now (store .entry)) scene height (point x y z) r (now (full .exit)) ⌝ }
 {
-    let answer = rooms::cell(store, scene, height, x, y, z);
+    let answer = rooms::cell(store, scene, height, Point { x: x, y: y, z: z });
     *full = answer.value();
     answer.number()
 }
@@ -114,7 +116,17 @@ pub extern "C" fn rooms_box(
 ) -> u32
     ensures { λ r. ⌜ RoomsBoxPromise (now (store .entry)) scene (point lowx lowy lowz) (point highx highy highz) r (now (count .exit)) ⌝ }
 {
-    let answer = rooms::box_count(store, scene, lowx, lowy, lowz, highx, highy, highz);
+    let low = Point {
+        x: lowx,
+        y: lowy,
+        z: lowz,
+    };
+    let high = Point {
+        x: highx,
+        y: highy,
+        z: highz,
+    };
+    let answer = rooms::box_count(store, scene, low, high);
     *count = answer.value();
     answer.number()
 }
@@ -178,34 +190,22 @@ pub extern "C" fn rooms_packed_voxel(
 ) -> u32
     ensures { λ r. ⌜ RoomsPackedVoxelPromise (now (file .entry)) (point x y z) r (now (solid .exit)) (now (records .exit)) (now (height .exit)) ⌝ }
 {
-    let answer = rooms::packed_voxel(file, x, y, z);
+    let answer = rooms::packed_voxel(file, Point { x: x, y: y, z: z });
     *solid = answer.value();
     *records = answer.records();
     *height = answer.height();
     answer.number()
 }
 
-// Opening: the depth and the fifteen list starts, written to the first sixteen numbers; refused by 3, 4, 5, 6, then 12
-// where there are fewer.
+// Opening: the depth and the fifteen list starts, written to the first sixteen numbers.
 #[no_mangle]
 pub extern "C" fn rooms_open(file: &[u8], numbers: &mut [u32]) -> u32
     ensures { λ r. ⌜ RoomsOpenPromise (now (file .entry)) (now (numbers .entry)) r (now (numbers .exit)) ⌝ }
 {
-    let header = opened::read_header(file);
-    let number = header.number;
-    let room = numbers.len();
-    if number != 0 {
-        return number;
-    }
-    if room < OPENED_NUMBERS {
-        return 12;
-    }
-    let starts = header.starts;
-    write_numbers(numbers, header.depth, starts);
-    0
+    open_numbers(file, numbers)
 }
 
-// A question on bytes held beside the numbers that an opening wrote: 6 where there are fewer than sixteen, then as on an opened scene.
+// A question on bytes held beside the numbers that an opening wrote.
 #[no_mangle]
 pub extern "C" fn rooms_ask(
     file: &[u8],
@@ -219,13 +219,7 @@ pub extern "C" fn rooms_ask(
 ) -> u32
     ensures { λ r. ⌜ RoomsAskPromise (now (file .entry)) (now (numbers .entry)) (point x y z) r (now (solid .exit)) (now (records .exit)) (now (height .exit)) ⌝ }
 {
-    if numbers.len() < OPENED_NUMBERS {
-        *solid = 0;
-        *records = 0;
-        *height = 0;
-        return 6;
-    }
-    let answer = opened::ask_bytes(file, numbers[0], read_starts(numbers), x, y, z);
+    let answer = ask_numbers(file, numbers, Point { x: x, y: y, z: z });
     *solid = answer.value();
     *records = answer.records();
     *height = answer.height();
@@ -237,53 +231,7 @@ pub extern "C" fn rooms_ask(
 pub extern "C" fn rooms_detail(depth: u32, kind: u32, a: f64, b: f64, height: &mut u32) -> u32
     ensures { λ r. ⌜ RoomsDetailPromise depth kind a b r (now (height .exit)) ⌝ }
 {
-    let answer = rooms::detail(depth, wish_of(kind, a, b));
+    let answer = detail_numbers(depth, kind, a, b);
     *height = answer.value();
     answer.number()
-}
-
-// The wish of a kind: 0 every voxel, 1 a widest edge, 2 a distance with its factor; for another kind a wish that is out of range.
-fn wish_of(kind: u32, a: f64, b: f64) -> Wish
-    ensures { λ r. ⌜ r ≡ wishGiven kind a b ⌝ }
-{
-    if kind == 0 {
-        return Wish::EveryVoxel;
-    }
-    if kind == 1 {
-        return Wish::WidestEdge(a);
-    }
-    if kind == 2 {
-        return Wish::Distance(DistanceFactor {
-            distance: a,
-            factor: b,
-        });
-    }
-    Wish::WidestEdge(0.0)
-}
-
-// The depth and the list starts, written to the first sixteen numbers.
-fn write_numbers(numbers: &mut [u32], depth: u32, starts: [u32; 15])
-    requires { ⌜ openedNumbers ≤ length (now numbers) ⌝ }
-    ensures { λ r. ⌜ now (numbers .exit) ≡ over (depth ∷ starts) (now (numbers .entry)) ⌝ }
-{
-    numbers[0] = depth;
-    let mut k = 0usize;
-    while k < STARTS {
-        numbers[k + 1] = starts[k];
-        k += 1;
-    }
-}
-
-// The list starts among the numbers: those after the first.
-fn read_starts(numbers: &[u32]) -> [u32; 15]
-    requires { ⌜ openedNumbers ≤ length (now numbers) ⌝ }
-    ensures { λ r. ⌜ r ≡ startsHeld (now (numbers .entry)) ⌝ }
-{
-    let mut starts = [0u32; 15];
-    let mut k = 0usize;
-    while k < STARTS {
-        starts[k] = numbers[k + 1];
-        k += 1;
-    }
-    starts
 }

@@ -2,6 +2,7 @@
 // of its line.
 use crate::fill::fill_bytes;
 use crate::fill::fill_words;
+use crate::given::point;
 use crate::given::word;
 use crate::sums::sum_bytes;
 use crate::sums::sum_words;
@@ -9,13 +10,7 @@ use crate::sums::sum_words;
 // `V`: voxel.
 fn voxel(given: &[u8], store: &[u32]) -> [u64; 6] {
     let scene = word(given, 0);
-    let seen = rooms::voxel(
-        store,
-        scene,
-        word(given, 4),
-        word(given, 8),
-        word(given, 12),
-    );
+    let seen = rooms::voxel(store, scene, point(given, 4));
     [
         seen.number() as u64,
         seen.value() as u64,
@@ -29,13 +24,7 @@ fn voxel(given: &[u8], store: &[u32]) -> [u64; 6] {
 // `S`: sight line.
 fn sight(given: &[u8], store: &[u32]) -> [u64; 6] {
     let scene = word(given, 0);
-    let fromx = word(given, 4);
-    let fromy = word(given, 8);
-    let fromz = word(given, 12);
-    let tox = word(given, 16);
-    let toy = word(given, 20);
-    let toz = word(given, 24);
-    let line = rooms::sight(store, scene, fromx, fromy, fromz, tox, toy, toz);
+    let line = rooms::sight(store, scene, point(given, 4), point(given, 16));
     [
         line.number() as u64,
         line.value() as u64,
@@ -50,27 +39,14 @@ fn sight(given: &[u8], store: &[u32]) -> [u64; 6] {
 fn cell(given: &[u8], store: &[u32]) -> [u64; 6] {
     let scene = word(given, 0);
     let height = word(given, 4);
-    let full = rooms::cell(
-        store,
-        scene,
-        height,
-        word(given, 8),
-        word(given, 12),
-        word(given, 16),
-    );
+    let full = rooms::cell(store, scene, height, point(given, 8));
     [full.number() as u64, full.value() as u64, 0, 0, 0, 0]
 }
 
 // `B`: box.
 fn box_count(given: &[u8], store: &[u32]) -> [u64; 6] {
     let scene = word(given, 0);
-    let lowx = word(given, 4);
-    let lowy = word(given, 8);
-    let lowz = word(given, 12);
-    let highx = word(given, 16);
-    let highy = word(given, 20);
-    let highz = word(given, 24);
-    let count = rooms::box_count(store, scene, lowx, lowy, lowz, highx, highy, highz);
+    let count = rooms::box_count(store, scene, point(given, 4), point(given, 16));
     [count.number() as u64, count.value(), 0, 0, 0, 0]
 }
 

@@ -2,6 +2,7 @@
 ghost use Prim.Native.Nat.{_≤_};
 use numbers::be32;
 use numbers::be64;
+use rooms::Point;
 
 // The number of four bytes from a place on.
 pub fn word(given: &[u8], at: usize) -> u32
@@ -11,6 +12,16 @@ pub fn word(given: &[u8], at: usize) -> u32
         return 0;
     }
     be32(given, at)
+}
+
+// The point of three such numbers.
+pub fn point(given: &[u8], at: usize) -> Point
+    requires { ⌜ at ≤ 16 ⌝ }
+{
+    let x = word(given, at);
+    let y = word(given, at + 4);
+    let z = word(given, at + 8);
+    Point { x: x, y: y, z: z }
 }
 
 // The number of eight bytes from a place on.

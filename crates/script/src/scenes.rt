@@ -2,14 +2,15 @@
 use crate::fill::fill_bytes;
 use crate::given::byte;
 use crate::given::long;
+use crate::given::point;
 use crate::given::word;
 use crate::sums::sum_bytes;
-use paper::DistanceFactor;
-use paper::Wish;
+use rooms::DistanceFactor;
+use rooms::Wish;
 
 // `v`: packed voxel.
 fn packed_voxel(given: &[u8], file: &[u8]) -> [u64; 6] {
-    let found = rooms::packed_voxel(file, word(given, 0), word(given, 4), word(given, 8));
+    let found = rooms::packed_voxel(file, point(given, 0));
     [
         found.number() as u64,
         found.value() as u64,
@@ -22,8 +23,8 @@ fn packed_voxel(given: &[u8], file: &[u8]) -> [u64; 6] {
 
 // `q`: the current file is opened and the opened scene asked; where the opening is refused, so is the question.
 fn open_and_ask(given: &[u8], file: &[u8]) -> [u64; 6] {
-    let header = opened::read_header(file);
-    let found = opened::open_and_ask(file, word(given, 0), word(given, 4), word(given, 8));
+    let header = rooms::read_header(file);
+    let found = rooms::open_and_ask(file, point(given, 0));
     [
         header.number as u64,
         header.depth as u64,

@@ -15,8 +15,8 @@ use Rattle.paper.specs.Rooms.{Point, OneCell}
 use Rattle.paper.specs.Store.{Cell, cellsAt, cellAt, tagOf, cellNo, anyBad}
 use Rattle.points.specs.Seeing.{childNoAt}
 use Rattle.walk.specs.Walk.{takenFrom, walkTo}
-use Rattle.walk.specs.declared.walks.Ended.{Ended}
-use Rattle.walk.specs.declared.walks.Ended.the-variants.{Absent, At, Damaged}
+use Rattle.walk.specs.declared.Ended.{Ended}
+use Rattle.walk.specs.declared.Ended.the-variants.{Absent, At, Damaged}
 use Rattle.walk.proofs.Steps.{walk-stop}
 
 -- one coordinate: what lies in one cell lies in one greater cell

@@ -14,14 +14,14 @@ use lib.Dec.{eqb, leb, lit<}
 use lib.ListN.{length, getD, set, length-set}
 use lib.Seq.{getD-set-same, getD-set-other}
 use Rattle.paper.specs.Rooms.{Point, OneCell}
-use Rattle.paper.specs.Store.{Cell, cellsAt, cellAt, tagOf, cellNo, anyBad}
+use Rattle.paper.specs.Store.{Cell, cellsAt, cellAt, tagOf, cellNo, anyBad, keptOf}
 use Rattle.points.proofs.Seen.{tag-joins}
-use Rattle.walk.specs.Walk.{takenFrom, walkTo}
-use Rattle.walk.specs.declared.walks.Ended.{Ended}
-use Rattle.walk.specs.declared.walks.Ended.the-variants.{Absent, At, Damaged}
+use Rattle.walk.specs.Walk.{takenFrom, walkTo, AtKept}
+use Rattle.walk.specs.declared.Ended.{Ended}
+use Rattle.walk.specs.declared.Ended.the-variants.{Absent, At, Damaged}
 use Rattle.walk.proofs.Steps.{walk-stop}
-use Rattle.walk.proofs.Roots.{taken-kept}
-use Rattle.sight.specs.Paths.{numberIn, mirrorIn, entry, descended}
+use Rattle.walk.proofs.Roots.{taken-kept, walk-kept}
+use Rattle.sight.specs.Paths.{Lowest, OnPath, PathTo, Reached, Ready, Stands, Walked, numberIn, mirrorIn, entry, descended, walkFrom}
 use Rattle.sight.proofs.Cells.{walk-one, walk-through}
 
 -- ---- one step
@@ -111,19 +111,19 @@ entry-mirror P k n m h l = ap (λ (w : ℕ). w % 8) (getD-set-same P k (entry n 
 
 -- the walk to v from the cell of list l on path P goes as that from the cell of list k on path P₀, and leaves the same path; its cell is kept
 pub record Follows (K : List (List Cell)) (v : Point) (k : ℕ) (P₀ : List ℕ) (l : ℕ) (P : List ℕ) : Type 0 where
-  pub walk : walkTo K 0 l (numberIn P l) (mirrorIn P l) v ≡ walkTo K 0 k (numberIn P₀ k) (mirrorIn P₀ k) v
+  pub walk : walkFrom K P l v ≡ walkFrom K P₀ k v
   pub left : descended K l v P ≡ descended K k v P₀
   pub kept : numberIn P l < length (cellsAt K l)
 
 pub follows-start : (K : List (List Cell)) (v : Point) (k : ℕ) (P : List ℕ) → numberIn P k < length (cellsAt K k) → Follows K v k P k P
 follows-start K v k P h = record { walk = refl; left = refl; kept = h }
 
-module _ (K : List (List Cell)) (v : Point) (k : ℕ) (P₀ : List ℕ) (l : ℕ) (P : List ℕ) (f : Follows K v k P₀ l P) (pos : 0 < l) where
+module _ {K : List (List Cell)} {v : Point} {k : ℕ} {P₀ : List ℕ} {l : ℕ} {P : List ℕ} (f : Follows K v k P₀ l P) (pos : 0 < l) where
   -- where the walk ends here
-  pub follows-ends : (e : Ended) → e ≡ walkTo K (l - 1) l (numberIn P l) (mirrorIn P l) v → Ends e → (e ≡ walkTo K 0 k (numberIn P₀ k) (mirrorIn P₀ k) v) × (P ≡ descended K k v P₀)
+  pub follows-ends : (e : Ended) → e ≡ walkTo K (l - 1) l (numberIn P l) (mirrorIn P l) v → Ends e → (e ≡ walkFrom K P₀ k v) × (P ≡ descended K k v P₀)
   follows-ends e q = go e (subst (Goes K l (l - 1) v P) (sym q) (goes K l v P pos))
     where
-      go : (e : Ended) → Goes K l (l - 1) v P e → Ends e → (e ≡ walkTo K 0 k (numberIn P₀ k) (mirrorIn P₀ k) v) × (P ≡ descended K k v P₀)
+      go : (e : Ended) → Goes K l (l - 1) v P e → Ends e → (e ≡ walkFrom K P₀ k v) × (P ≡ descended K k v P₀)
       go Damaged g t = (sym (g .0) ∙ f .walk, sym (g .1) ∙ f .left)
       go (Absent h) g t = (sym (g .0) ∙ f .walk, sym (g .1) ∙ f .left)
       go (At n m) g t = absurd t
@@ -155,9 +155,9 @@ unfolding descended
 stays K v P zero q = refl
 stays K v P (suc j) q = absurd (omega arith)
 
-pub follows-done : (K : List (List Cell)) (v : Point) (k : ℕ) (P₀ : List ℕ) (l : ℕ) (P : List ℕ) (w : ℕ) → l ≤ 0 → getD P l 0 ≡ w → Follows K v k P₀ l P
-    → (At (w / 8) (w % 8) ≡ walkTo K 0 k (numberIn P₀ k) (mirrorIn P₀ k) v) × (P ≡ descended K k v P₀)
-follows-done K v k P₀ l P w h e f = (
+pub follows-done : {K : List (List Cell)} {v : Point} {k : ℕ} {P₀ : List ℕ} {l : ℕ} {P : List ℕ} → Follows K v k P₀ l P → (w : ℕ) → l ≤ 0 → getD P l 0 ≡ w
+    → (At (w / 8) (w % 8) ≡ walkFrom K P₀ k v) × (P ≡ descended K k v P₀)
+follows-done {K} {v} {k} {P₀} {l} {P} f w h e = (
   ap (λ (x : ℕ). At (x / 8) (x % 8)) (sym e) ∙ walk-stop K 0 l (numberIn P l) (mirrorIn P l) v h ∙ f .walk,
   stays K v P l h ∙ f .left,
 )
@@ -187,21 +187,11 @@ descended-sized K zero v P = refl
 descended-sized K (suc k) v P =
     descended-step K k v P (λ Q. length Q ≡ length P) refl (λ n m. descended-sized K k v (set P k (entry n m)) ∙ length-set P k (entry n m))
 
--- the walk came as far down as list i
-abbrev pub Reached : Ended → ℕ → Type 0
-Reached (Absent h) i = h ≤ suc i
-Reached (At n m) i = Unit {0}
-Reached Damaged i = ⊥
-
+-- a walk that came so far down came further up
 pub reached-up : (e : Ended) (i j : ℕ) → i ≤ j → Reached e i → Reached e j
 reached-up (Absent h) i j l r = omega arith
 reached-up (At n m) i j l r = tt
 reached-up Damaged i j l r = r
-
--- the walk from cell n of list k, seen under m, that stops at list i ends at the kept cell that stands in the path there
-pub record Stands (K : List (List Cell)) (k n m : ℕ) (v : Point) (P : List ℕ) (i : ℕ) : Type 0 where
-  pub ends : walkTo K i k n m v ≡ At (numberIn P i) (mirrorIn P i)
-  pub kept : numberIn P i < length (cellsAt K i)
 
 stands-here : (K : List (List Cell)) (k : ℕ) (v : Point) (P : List ℕ) (i : ℕ) → numberIn P k < length (cellsAt K k) → i ≡ k
     → Stands K k (numberIn P k) (mirrorIn P k) v (descended K k v P) i
@@ -264,10 +254,6 @@ absent-most K (suc k) n m v h e = go (leb (suc k) 0) (anyBad (length (cellsAt K 
 
 -- ---- the path to one voxel, and then to another
 
--- from list `low` up to the root's, cell n seen under m, the path has the cells entered on the way to v
-abbrev pub PathTo : List (List Cell) → ℕ → ℕ → ℕ → Point → ℕ → List ℕ → Type 0
-PathTo K top n m v low P = (j : ℕ) → low ≤ j → j ≤ top → Stands K top n m v P j
-
 module _ (K : List (List Cell)) (top n m : ℕ) (v w : Point) (low k : ℕ) (P : List ℕ) (path : PathTo K top n m v low P) (l : low ≤ k) (h : k ≤ top)
     (fits : k < length P) (one : OneCell (k + 2) v w) where
   -- from the cell of list k that holds both, the walk goes on as from the root
@@ -300,3 +286,38 @@ module _ (K : List (List Cell)) (top n m : ℕ) (v w : Point) (low k : ℕ) (P :
             ends = walk-through K j k top n m (numberIn P k) (mirrorIn P k) w below h (here .ends) ∙ s .ends;
             kept = s .kept;
           }
+
+-- ---- the next voxel, by the path to the one asked last, k being the list of the cell that holds both
+
+module _ {ws path : List ℕ} {low top : ℕ} {last v : Point} {k : ℕ} (r : Ready ws path low top last v) (s : Lowest low top last v k) where
+  abbrev K : List (List Cell)
+  K = keptOf ws
+
+  pub next-on : OnPath ws path k
+  next-on =
+      record {
+        header = r .header;
+        list = omega (arith, s .upTo, r .sought .listed);
+        sized = r .sized;
+        kept = r .cells k (s .from) (s .upTo) .kept;
+      }
+
+  -- where the walk ends at a leaf, that leaf is kept
+  pub next-kept : (e : Ended) → e ≡ walkFrom (keptOf ws) path k v → AtKept (keptOf ws) e
+  next-kept e q = subst (AtKept K) (sym q) (walk-kept K k (numberIn path k) (mirrorIn path k) v (next-on .kept) (mirror-one path k))
+
+  fits : k < length path
+  fits = omega (arith, next-on .list, r .sized)
+
+  -- it goes on as from the path's highest cell
+  pub next-walk : walkFrom (keptOf ws) path k v ≡ walkFrom (keptOf ws) path top v
+  next-walk = path-walk K top (numberIn path top) (mirrorIn path top) last v low k path (r .cells) (s .from) (s .upTo) fits (s .one)
+
+  pub next-walked : (left : List ℕ) → left ≡ descended (keptOf ws) k v path → Walked (keptOf ws) path top v left
+  next-walked left q =
+      subst (Walked K path top v) (sym q)
+      (record {
+        root = descended-above K k v path top (s .upTo);
+        sized = descended-sized K k v path;
+        cells = λ i e. path-next K top (numberIn path top) (mirrorIn path top) last v low k path (r .cells) (s .from) (s .upTo) fits (s .one) i e;
+      })

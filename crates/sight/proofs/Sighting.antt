@@ -24,10 +24,10 @@ use Rattle.laws.proofs.CellPoints.{is-inside, inside-is}
 use Rattle.laws.proofs.FirstFailing.{first-same, first-is, passes-none}
 use Rattle.laws.proofs.LineMeeting.{met-inside}
 use Rattle.laws.proofs.LineTested.{tested-met}
-use Rattle.entry.specs.Entry.{pastEntry}
-use Rattle.entry.specs.declared.Entry.the-variants.{Refused}
-use Rattle.entry.proofs.Asked.{refusedBy}
-use Rattle.entry.proofs.Entries.{Entered, Says, past-outside, past-inside, past-settled}
+use Rattle.store_entry.specs.Entry.{pastEntry}
+use Rattle.store_entry.specs.declared.Entry.the-variants.{Refused}
+use Rattle.store_entry.proofs.Asked.{refusedBy}
+use Rattle.store_entry.proofs.Entries.{Entered, Says, past-outside, past-inside, past-settled}
 use Rattle.walk.specs.Walk.{endTold}
 use Rattle.walk.proofs.Voxels.{voxel-inside, voxel-none, voxel-settled}
 use Rattle.sight.specs.Tracing.{emptyEnd, traced, damagedAt, tracedTold, sightTold}
@@ -37,21 +37,7 @@ zeros-blocked : (o : Option Point) → blockedAt O.none ≡ map (λ x. 0) (block
 zeros-blocked O.none = refl
 zeros-blocked (some v) = refl
 
--- one of two ends outside, or neither
-out-first : (a b : Bool) → T (not a) → T (not a || not b)
-out-first true b t = absurd t
-out-first false b t = tt
-
-out-second : (a b : Bool) → T (not b) → T (not a || not b)
-out-second true true t = absurd t
-out-second true false t = tt
-out-second false b t = tt
-
-in-both : (a b : Bool) → T a → T b → T (not (not a || not b))
-in-both true true s t = tt
-in-both true false s t = absurd t
-in-both false b s t = absurd s
-
+-- neither of two ends outside
 both-in : (a b : Bool) → (not a || not b) ≡ false → (a ≡ true) × (b ≡ true)
 both-in true true e = (refl, refl)
 both-in true false e = absurd (false≢true (sym e))
@@ -70,14 +56,21 @@ module _ (K : List (List Cell)) (D p : ℕ) (a b : Point) where
   outside-told : T outs → told 10 (0 ∷ 0 ∷ 0 ∷ 0 ∷ []) ≡ sightTold K D p a b
   outside-told t = ap (told 10) (zeros-blocked (traced K D p a b)) ∙ past-outside outs harm values t
 
-  pub from-outside : T (not (inside (2 ^ D) a)) → told 10 (0 ∷ 0 ∷ 0 ∷ 0 ∷ []) ≡ sightTold K D p a b
-  from-outside t = outside-told (out-first (inside (2 ^ D) a) (inside (2 ^ D) b) t)
+  -- o and q being the tests of the two ends
+  module _ (o q : Bool) (eo : o ≡ not (inside (2 ^ D) a)) (eq : q ≡ not (inside (2 ^ D) b)) where
+    tests : (o || q) ≡ outs
+    tests = ap₂ (λ (x y : Bool). x || y) eo eq
 
-  pub to-outside : T (not (inside (2 ^ D) b)) → told 10 (0 ∷ 0 ∷ 0 ∷ 0 ∷ []) ≡ sightTold K D p a b
-  to-outside t = outside-told (out-second (inside (2 ^ D) a) (inside (2 ^ D) b) t)
+    pub ends-outside : (o || q) ≡ true → told 10 (0 ∷ 0 ∷ 0 ∷ 0 ∷ []) ≡ sightTold K D p a b
+    ends-outside e = outside-told (true-T (sym tests ∙ e))
 
-  pub ends-inside : T (inside (2 ^ D) a) → T (inside (2 ^ D) b) → tracedTold K D p a b ≡ sightTold K D p a b
-  ends-inside s t = past-inside outs harm values (in-both (inside (2 ^ D) a) (inside (2 ^ D) b) s t)
+    pub ends-inside : (o || q) ≡ false → tracedTold K D p a b ≡ sightTold K D p a b
+    ends-inside e = past-inside outs harm values (true-T (ap not (sym tests ∙ e)))
+
+    pub both-inside : (o || q) ≡ false → Inside (2 ^ D) a × Inside (2 ^ D) b
+    both-inside e =
+        let i = both-in (inside (2 ^ D) a) (inside (2 ^ D) b) (sym tests ∙ e) in
+        (is-inside (2 ^ D) a (true-T (i .0)), is-inside (2 ^ D) b (true-T (i .1)))
 
   -- an absent root: every voxel is empty
   pub none-clear : p ≡ 0 → told 0 (0 ∷ 0 ∷ 0 ∷ 0 ∷ []) ≡ tracedTold K D p a b

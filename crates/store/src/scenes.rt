@@ -6,8 +6,8 @@ ghost use lib.Dec.{T};
 ghost use Rattle.paper.specs.Store.{mostScenes, scenePosition, sceneDepth, sceneRoot, headerOk, sceneOk};
 use crate::header::kept_count;
 use limits::LEAF_HEIGHT;
-use pointers::bad_pointer;
 use points::depth_bad;
+use store_pointers::bad_pointer;
 
 // Scene 0's place, and the words of a scene.
 const FIRST_SCENE: usize = 32;

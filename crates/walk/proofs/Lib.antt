@@ -1,9 +1,6 @@
 -- the walk by numbers is the walk by coordinates
 pub mod Ends
 pub mod Roots
-pub mod Cells
+-- the ways through a walk, and a voxel question by its end
 pub mod Steps
--- leaves, and the ways through voxel and cell
-pub mod Two
 pub mod Voxels
-pub mod CellTests

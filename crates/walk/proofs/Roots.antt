@@ -13,15 +13,15 @@ use Rattle.paper.specs.Rooms.{Point, point, Inside, depthOk, mirror, inChild}
 use Rattle.paper.specs.Outline.{edge}
 use Rattle.paper.specs.Store.{Cell, cellsAt, cellAt, tagOf, cellNo, badPointer, anyBad}
 use Rattle.paper.specs.Walk.{none, to, walkIn, rootWalk}
-use Rattle.paper.specs.Questions.{keptReading, voxelWalk, below, walkDamaged, fromRoot}
+use Rattle.paper.specs.Questions.{keptReading, voxelWalk}
 use Rattle.laws.proofs.Eight.{xor8-lt}
 use Rattle.laws.proofs.Tests.{none-at}
 use Rattle.laws.proofs.Outlines.{depth-two}
 use Rattle.walk.specs.Walk.{takenFrom, walkTo, endOf, AtKept}
 use Rattle.points.specs.Seeing.{childNoAt, seenAt}
-use Rattle.walk.specs.declared.walks.Ended.{Ended}
-use Rattle.walk.specs.declared.walks.Ended.the-variants.{Absent, At, Damaged}
-use Rattle.walk.proofs.Ends.{metDamage, cell-walk-damaged, voxel-end}
+use Rattle.walk.specs.declared.Ended.{Ended}
+use Rattle.walk.specs.declared.Ended.the-variants.{Absent, At, Damaged}
+use Rattle.walk.proofs.Ends.{voxel-end}
 use Rattle.laws.proofs.Invariant.{named-kept}
 use Rattle.laws.proofs.Matching.{tag-lt}
 use Rattle.points.proofs.Seen.{tag-joins}
@@ -37,18 +37,6 @@ root-edge D h = ap (λ (n : ℕ). 2 ^ n) (depth-two D h)
 pub root-seen : (D t : ℕ) (v : Point) → T (depthOk D) → Inside (2 ^ D) v → mirror t (2 ^ D) v ≡ seenAt (D - 2) t v
 root-seen D t v d h =
     ap (mirror t (2 ^ D)) (sym (inside-whole (2 ^ D) v h)) ∙ ap (λ (S : ℕ). mirror t S (inChild S v)) (sym (root-edge D d))
-
--- damage on the way from the root
-pub root-damaged : (K : List (List Cell)) (stop D p : ℕ) (v : Point) → T (depthOk D) → Inside (2 ^ D) v → T (not (eqb p 0))
-    → fromRoot (walkDamaged K stop) K D p v ≡ metDamage (walkTo K stop (D - 2) (cellNo p) (tagOf p) v)
-root-damaged K stop D p v d h n =
-    named (eqb p 0) n
-    ∙ ap (walkDamaged K stop (D - 2) (below K (D - 2) p)) (root-seen D (tagOf p) v d h)
-    ∙ cell-walk-damaged K stop (D - 2) (cellNo p) (tagOf p) v (tag-lt p)
-  where
-    named : (b : Bool) → T (not b) → cond b false (walkDamaged K stop (D - 2) (below K (D - 2) p) (mirror (tagOf p) (2 ^ D) v)) ≡ walkDamaged K stop (D - 2) (below K (D - 2) p) (mirror (tagOf p) (2 ^ D) v)
-    named true t = absurd t
-    named false t = refl
 
 -- the end of a voxel question
 pub voxel-root : (K : List (List Cell)) (D p : ℕ) (v : Point) → T (depthOk D) → Inside (2 ^ D) v → T (not (eqb p 0))

@@ -12,8 +12,8 @@ use lib.ListN.{length}
 use Rattle.paper.specs.Rooms.{Point}
 use Rattle.paper.specs.Store.{Cell, cellsAt, cellAt, tagOf, cellNo, anyBad}
 use Rattle.walk.specs.Walk.{takenFrom, walkTo}
-use Rattle.walk.specs.declared.walks.Ended.{Ended}
-use Rattle.walk.specs.declared.walks.Ended.the-variants.{Absent, At, Damaged}
+use Rattle.walk.specs.declared.Ended.{Ended}
+use Rattle.walk.specs.declared.Ended.the-variants.{Absent, At, Damaged}
 
 pub walk-stop : (K : List (List Cell)) (stop k n m : ℕ) (v : Point) → k ≤ stop → At n m ≡ walkTo K stop k n m v
 unfolding walkTo

@@ -2,7 +2,7 @@
 use mathlib.Core.Path.{_≡_, sym, ap, ap₂, _∙_}
 use mathlib.Core.Bool.{not, _&&_}
 use mathlib.Core.List.{List, [], _∷_}
-use Prim.Native.Nat.{ℕ, _-_, _^_}
+use Prim.Native.Nat.{ℕ, _^_}
 use borrow.Author.Tests.{ne-eqb}
 use lib.Dec.{T, eqb, ltb, ltb→lt}
 use Rattle.paper.specs.Rooms.{Point, Inside, inside}
@@ -13,11 +13,11 @@ use Rattle.paper.specs.declared.Refusal.{Refusal}
 use Rattle.paper.specs.Walk.{End, isDamaged, rootWalk}
 use Rattle.paper.specs.Questions.{childFor, keptReading, voxelWalk}
 use Rattle.laws.proofs.Tests.{T-true, true-T, not-not, and-left, and-right}
-use Rattle.walk.specs.Walk.{endOf, voxelValues, endTold, voxelTold}
-use Rattle.walk.specs.declared.walks.Ended.the-variants.{Absent}
-use Rattle.entry.specs.declared.Entry.the-variants.{Refused}
-use Rattle.entry.proofs.Asked.{refusedBy}
-use Rattle.entry.proofs.Entries.{Entered, Says, past-outside, past-inside, past-settled}
+use Rattle.walk.specs.Walk.{Scene, endOf, voxelValues, endTold, voxelTold}
+use Rattle.walk.specs.declared.Ended.the-variants.{Absent}
+use Rattle.store_entry.specs.declared.Entry.the-variants.{Refused}
+use Rattle.store_entry.proofs.Asked.{refusedBy}
+use Rattle.store_entry.proofs.Entries.{Entered, Says, entered-depth, entered-root, past-outside, past-inside, past-settled}
 
 pub not-none : (p : ℕ) → (p ≡ 0 → ⊥) → T (not (eqb p 0))
 not-none p z = true-T (ap not (ne-eqb p 0 z))
@@ -47,6 +47,10 @@ unfolding voxelWalk
 voxel-none K D p v e = ap (λ (q : ℕ). rootWalk (keptReading K) D (childFor q) v .end) (sym e)
 
 -- ---- the whole outcome of a voxel question
+
+-- the scene that was entered, as a walk needs it
+pub entered-scene : {ws : List ℕ} {n D p : ℕ} → Entered ws n D p → Scene ws D p
+entered-scene e = record { header = e .header; deep = entered-depth e; sound = entered-root e }
 
 pub voxel-settled : (ws : List ℕ) (n D p : ℕ) (v : Point) → Entered ws n D p → outcome (voxelTold (keptOf ws) D p v) [] ≡ voxelOutcome ws n v
 unfolding voxelOutcome voxelOutside voxelDamaged

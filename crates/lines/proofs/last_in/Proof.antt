@@ -35,7 +35,7 @@ add-result : tie.Need-add-result
 add-result c =
     let e = c .before .edge-of in
     let a = c .before .before .args in
-    omega (arith, edge-most (a .height) (e .result) (c .before .before .pre .1) (e .ensures), c .before .before .pre)
+    omega (arith, edge-most (a .height) (e .result) (c .before .before .pre .low) (e .ensures), c .before .before .pre)
 
 returns : tie.Need-returns
 returns c =
@@ -56,7 +56,7 @@ add-result-2 c =
     let e = c .before .edge-of in
     let a = c .before .before .args in
     let p = edge-some (a .height) (e .result) (e .ensures) in
-    omega (arith, mod-lt (a .from - a .steps) p, edge-most (a .height) (e .result) (c .before .before .pre .1) (e .ensures), c .before .before .pre)
+    omega (arith, mod-lt (a .from - a .steps) p, edge-most (a .height) (e .result) (c .before .before .pre .low) (e .ensures), c .before .before .pre)
 
 returns-2 : tie.Need-returns-2
 returns-2 c =

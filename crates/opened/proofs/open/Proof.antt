@@ -32,27 +32,27 @@ use denote.Triple.Entry.{alive, onEntry}
 use denote.Triple.Spec.{tripleOf}
 use denote.Triple.Table.{entered, cited}
 use denote.Triple.Walked.{walkOf, Walks, walked}
-use Rattle.opened.specs.Opens.{toldBy, openTold, partOf}
+use Rattle.opened_head.specs.Opens.{toldBy, openTold, partOf}
 use Rattle.paper.specs.declared.Opened.{Opened}
 use Rattle.paper.specs.declared.Opening.{Opening}
-use Rattle.opened.specs.declared.Header.{Header}
+use Rattle.opened_head.specs.declared.Header.{Header}
 use Rattle.opened.proofs.Held.{cut, α, B, Bo, Known, back, Slice, Whole, held, freed, Answer, answered}
-use Rattle.opened.proofs.Openings.{opened-whole}
+use Rattle.opened_head.proofs.Openings.{opened-whole}
 use Rattle.opened.proofs.Walk.{dropped, leaves, meets, asks}
-use Rattle.opened.proofs.Header as Hd
-use Rattle.opened.proofs.Header.Laws as Hd′
+use Rattle.opened_head.proofs.Header as Hd
+use Rattle.opened_head.proofs.Header.Laws as Hd′
 use Rattle.paper.proofs.Opened as T
 use Rattle.paper.proofs.Opened.Laws as T′
 use Rattle.paper.proofs.Opening as O
 use Rattle.paper.proofs.Opening.Laws as O′
-use Rattle.opened.proofs.read_header as head
-use Rattle.opened.proofs.read_header.Symbol as head-def
-use Rattle.opened.proofs.read_header.Symbol.{name as #opened·read-header}
-use Rattle.opened.proofs.read_header.Met as head-thm
-use Rattle.opened.proofs.part as part
-use Rattle.opened.proofs.part.Symbol as part-def
-use Rattle.opened.proofs.part.Symbol.{name as #opened·part}
-use Rattle.opened.proofs.part.Met as part-thm
+use Rattle.opened_head.proofs.read_header as head
+use Rattle.opened_head.proofs.read_header.Symbol as head-def
+use Rattle.opened_head.proofs.read_header.Symbol.{name as #opened-head·read-header}
+use Rattle.opened_head.proofs.read_header.Met as head-thm
+use Rattle.opened_head.proofs.part as part
+use Rattle.opened_head.proofs.part.Symbol as part-def
+use Rattle.opened_head.proofs.part.Symbol.{name as #opened-head·part}
+use Rattle.opened_head.proofs.part.Met as part-thm
 use Rattle.opened.proofs.open.Key.{name as #opened·open}
 use Rattle.opened.proofs.open as opens
 use Rattle.opened.proofs.open.Statement as stated
@@ -113,7 +113,7 @@ module _ {M : Type 1} (𝓤 : URA M) (H : Heap 𝓤) (A : Atoms 𝓤) (W : Given
   knows : (h : Header) (vs : List Val) → Is Hd.the-row h vs → Knows h
   knows h vs is = (LL.owed Hd.the-type Hd′.the-laws h vs is .0 .1, λ t. record { depth = LL.owed Hd.the-type Hd′.the-laws h vs is .1 .0 .1; starts = back (h .starts) (LL.owed Hd.the-type Hd′.the-laws h vs is .1 .1 .0) })
 
-  module _ (C : Calls 𝓤 H) (Λ : Loops 𝓤 H) (fm : FmC 𝓤 H (W .laws) C) (met-head : Triple 𝓤 (C #opened·read-header) (Head 𝓤 H A mem run)) (met-part : Triple 𝓤 (C #opened·part) (Part 𝓤 H A mem run)) where
+  module _ (C : Calls 𝓤 H) (Λ : Loops 𝓤 H) (fm : FmC 𝓤 H (W .laws) C) (met-head : Triple 𝓤 (C #opened-head·read-header) (Head 𝓤 H A mem run)) (met-part : Triple 𝓤 (C #opened-head·part) (Part 𝓤 H A mem run)) where
     walk : Is (ShrSlice (named 0) κ u8) s (cut s ∷ []) → ent 𝓤 Entry (WpFn 𝓤 H C Λ code.function (cut s ∷ []) (walkOf 𝓤 H A opens.ended (dropped opens.ended) (opens.clauses 𝓤 H A mem run) .post bound))
     walk p =
         qed W (raw Entry ∷ []) ∵ enter ! C Λ code.function _ _ $ alloc1 ! (λ l₀. alloc1 ! (λ l₁. alloc1 ! (λ l₂. alloc1 ! (λ l₃. alloc1 ! (λ l₄. alloc0 ! $ params1 ! $
@@ -142,7 +142,7 @@ module _ {M : Type 1} (𝓤 : URA M) (H : Heap 𝓤) (A : Atoms 𝓤) (W : Given
         move ! (1 ∷ 0 ∷ []) $ by ! (leaves 𝓤 H A W opens.ended (opens.clauses 𝓤 H A mem run) bound (O′.lowered (made h t)) (made h t) (tt, tt) (factI 𝓤 _ (emp 𝓤) (opened-whole (now s) h (now t) e e′))))))))))))
 
 module _ {M : Type 1} (𝓤 : URA M) (H : Heap 𝓤) (A : Atoms 𝓤) (W : Given 𝓤 H A) (mem : Memory → SProp 𝓤) (run : Routine → Fun 𝓤) where
-  open-walks : (𝓣 : Tables 𝓤 H) → Triple 𝓤 (𝓣 .C #opened·read-header) (Head 𝓤 H A mem run) → Triple 𝓤 (𝓣 .C #opened·part) (Part 𝓤 H A mem run) → Walks 𝓤 H A opens.ended (dropped opens.ended) (WpFn 𝓤 H (𝓣 .C) (𝓣 .Λ) code.function) (opens.clauses 𝓤 H A mem run)
+  open-walks : (𝓣 : Tables 𝓤 H) → Triple 𝓤 (𝓣 .C #opened-head·read-header) (Head 𝓤 H A mem run) → Triple 𝓤 (𝓣 .C #opened-head·part) (Part 𝓤 H A mem run) → Walks 𝓤 H A opens.ended (dropped opens.ended) (WpFn 𝓤 H (𝓣 .C) (𝓣 .Λ) code.function) (opens.clauses 𝓤 H A mem run)
   open-walks 𝓣 met-head met-part = walked 𝓤 H A opens.ended (dropped opens.ended) (opens.clauses 𝓤 H A mem run) (WpFn 𝓤 H (𝓣 .C) (𝓣 .Λ) code.function) (λ κs. (slice-vals, tt)) (λ κs. (shr-slice-tells (named 0) (κs .0) u8, tt))
       (λ κs qs bounds a g are. via 𝓤 _ (fst∗ 𝓤 _ (emp 𝓤)) (walk 𝓤 H A W mem run (κs .0) (qs .0) (a .0) (𝓣 .C) (𝓣 .Λ) (fmOf 𝓤 H (W .laws) 𝓣) met-head met-part (are .0)))
 
@@ -153,5 +153,5 @@ open-spec 𝓤 H 𝓜 𝓖 𝓡 =
     (tables 𝓤 H 𝓜 𝓡 code.env .C) (tables 𝓤 H 𝓜 𝓡 code.env .Λ) #opened·open code.function (code.unfolded 𝓤 H 𝓜 𝓡)
     (meets 𝓤 H (𝓖 .A) (givenOf 𝓤 H 𝓜 𝓖) opens.ended (opens.clauses 𝓤 H (𝓖 .A) (𝓜 .mem) (𝓡 .run)) (λ κs x f. refl, tt) code.function (tablesOf 𝓤 H 𝓜 (tables 𝓤 H 𝓜 𝓡 code.env))
     (open-walks 𝓤 H (𝓖 .A) (givenOf 𝓤 H 𝓜 𝓖) (𝓜 .mem) (𝓡 .run) (tablesOf 𝓤 H 𝓜 (tables 𝓤 H 𝓜 𝓡 code.env))
-    (cited 𝓤 H (Head 𝓤 H (𝓖 .A) (𝓜 .mem) (𝓡 .run)) 𝓜 𝓡 code.env #opened·read-header head-def.routine code.calls-opened·read-header (head-thm.met 𝓤 H 𝓜 𝓖 𝓡))
-    (cited 𝓤 H (Part 𝓤 H (𝓖 .A) (𝓜 .mem) (𝓡 .run)) 𝓜 𝓡 code.env #opened·part part-def.routine code.calls-opened·part (part-thm.met 𝓤 H 𝓜 𝓖 𝓡))))
+    (cited 𝓤 H (Head 𝓤 H (𝓖 .A) (𝓜 .mem) (𝓡 .run)) 𝓜 𝓡 code.env #opened-head·read-header head-def.routine code.calls-opened-head·read-header (head-thm.met 𝓤 H 𝓜 𝓖 𝓡))
+    (cited 𝓤 H (Part 𝓤 H (𝓖 .A) (𝓜 .mem) (𝓡 .run)) 𝓜 𝓡 code.env #opened-head·part part-def.routine code.calls-opened-head·part (part-thm.met 𝓤 H 𝓜 𝓖 𝓡))))

@@ -9,8 +9,8 @@ use Rattle.paper.specs.Outline.{outlineVersion, outlineHead, fileDepth, outline
 use Rattle.paper.specs.Order.{when}
 use Rattle.laws.proofs.StoreFacts.{depth-range}
 use Rattle.laws.proofs.Tests.{true-T}
-use Rattle.outline.proofs.FirstBytes.{length-least}
-use Rattle.outline.proofs.HeadTests.{Headed, headed, head-stops, refused-by-6, accepted}
+use Rattle.file_head.proofs.FirstBytes.{length-least}
+use Rattle.file_head.proofs.HeadTests.{Headed, headed, head-stops, refused-by-6, accepted}
 use Rattle.outline.proofs.refusal.Statement.{statement}
 use Rattle.outline.proofs.refusal.Tie as tie
 

@@ -35,10 +35,10 @@ add-result-2 c = search needs
 
 returns : tie.Need-returns
 returns c =
-    let a = c .args in
+    let a = c .before .before .before .args in
     let s : a .k + 2 ≡ suc (suc (a .k)) = omega arith in
-    let at : ℕ → ℕ = λ n. a .x / 2 ^ n % 2 + 2 * (a .y / 2 ^ n % 2) + 4 * (a .z / 2 ^ n % 2) in
-    (ap at s, below-eight (a .x / 2 ^ (a .k + 2)) (a .y / 2 ^ (a .k + 2)) (a .z / 2 ^ (a .k + 2)))
+    let number : ℕ → ℕ = λ n. a .v .x / 2 ^ n % 2 + 2 * (a .v .y / 2 ^ n % 2) + 4 * (a .v .z / 2 ^ n % 2) in
+    (ap number s, below-eight (a .v .x / 2 ^ (a .k + 2)) (a .v .y / 2 ^ (a .k + 2)) (a .v .z / 2 ^ (a .k + 2)))
 
 pub child-number-spec : {M : Type 1} → statement M
 child-number-spec =

@@ -34,7 +34,10 @@ shr-result c = search needs
 
 returns : tie.Need-returns
 returns c =
-    λ i. eqb (c .before .before .before .args .leaf / 2 ^ (c .before .before .flipped .ensures .0 i + 4 * (c .before .flipped2 .ensures .0 i) + 16 * (c .flipped3 .ensures .0 i)) % 2) 1
+    let second = c .before .before in
+    let first = second .before .before in
+    let leaf = first .before .before .args .leaf in
+    λ i. eqb (leaf / 2 ^ (first .flipped .ensures .0 i + 4 * (second .flipped2 .ensures .0 i) + 16 * (c .flipped3 .ensures .0 i)) % 2) 1
 
 pub leaf-solid-spec : {M : Type 1} → statement M
 leaf-solid-spec =

@@ -1,28 +1,22 @@
 -- `points::outside` meets its contract: each coordinate is tested against the edge. Assumes nothing.
-use mathlib.Core.Path.{ap, subst, _∙_}
-use Prim.Native.Nat.{ℕ, _^_, _<_, _≤_}
-use lib.Dec.{leb}
+use mathlib.Core.Path.{ap, _∙_}
+use mathlib.Core.Bool.{_||_}
+use Prim.Native.Nat.{ℕ, _^_}
 use borrow.Author.Needs.{needs}
-use Rattle.points.proofs.Cubes.{outside-x, outside-y, outside-z}
+use lib.Dec.{leb}
+use Rattle.points.specs.Points.{at}
+use Rattle.points.proofs.Cubes.{point-outside}
 use Rattle.points.proofs.outside.Statement.{statement}
 use Rattle.points.proofs.outside.Tie as tie
 
+edge-of-requires : tie.Need-edge-of-requires
+edge-of-requires c κs = search needs
+
 returns : tie.Need-returns
 returns c =
-    let a = c .before .before .args in
-    outside-x (2 ^ a .height) (a .x) (a .y) (a .z) (subst (λ (n : ℕ). n ≤ a .x) (c .before .edge-of .ensures) (c .if1 .taken))
-
-returns-2 : tie.Need-returns-2
-returns-2 c =
-    let a = c .before .before .before .args in
-    outside-y (2 ^ a .height) (a .x) (a .y) (a .z) (subst (λ (n : ℕ). n ≤ a .y) (c .before .before .edge-of .ensures) (c .if2 .taken))
-
-returns-3 : tie.Need-returns-3
-returns-3 c =
-    let a = c .before .before .before .args in
-    let e = c .before .before .edge-of .ensures in
-    ap (λ (n : ℕ). leb n (a .z)) e
-    ∙ outside-z (2 ^ a .height) (a .x) (a .y) (a .z) (subst (λ (n : ℕ). a .x < n) e (c .before .if1 .left)) (subst (λ (n : ℕ). a .y < n) e (c .if2 .left))
+    let e = c .before .before .before in
+    let v = e .before .args .v in
+    ap (λ (S : ℕ). (leb S (v .x) || leb S (v .y)) || leb S (v .z)) (e .edge-of .ensures) ∙ point-outside (2 ^ e .before .args .height) (at v)
 
 pub outside-spec : {M : Type 1} → statement M
-outside-spec = tie.close (tie.spec (λ c κs. search needs) returns returns-2 returns-3)
+outside-spec = tie.close (tie.spec edge-of-requires returns)

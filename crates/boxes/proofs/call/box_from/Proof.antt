@@ -7,8 +7,10 @@ use denote.Ref.{now}
 use Rattle.paper.specs.Rooms.{Point, deepest}
 use Rattle.paper.specs.Store.{sceneDepth}
 use Rattle.paper.specs.Calls.{axisOutside, boxOutside}
-use Rattle.boxes.specs.Box.{at, Upto, tallyTold}
-use Rattle.entry.proofs.Entries.{scene-deep}
+use Rattle.points.specs.Points.{at}
+use Rattle.boxes_parts.specs.Parts.{Upto}
+use Rattle.boxes.specs.Box.{tallyTold}
+use Rattle.store_entry.proofs.Entries.{scene-deep}
 use Rattle.boxes.proofs.BoxTests.{box-within, told-outside, told-tally}
 use borrow.Author.Needs.{needs}
 use Rattle.boxes.proofs.call.box_from.Statement.{statement}
@@ -36,14 +38,16 @@ box-outside-requires c κs = deep (c .before)
 
 returns : tie.Need-returns
 returns c =
-    let a = c .before .before .before .args in
-    told-outside (now (a .store)) (a .scene) (at (a .low)) (at (a .high)) (sym (out-is (c .before)) ∙ c .if1 .taken)
+    let e = c .before in
+    let a = e .before .before .args in
+    told-outside (now (a .store)) (a .scene) (at (a .low)) (at (a .high)) (sym (out-is e) ∙ c .if1 .taken)
 
 scene-box-requires : tie.Need-scene-box-requires
 scene-box-requires c κs =
-    let b = c .before .before .before in
+    let o = c .before in
+    let b = o .before .before in
     let a = b .args in
-    let e : _ ≡ false = sym (out-is (c .before)) ∙ c .if1 .left in
+    let e : _ ≡ false = sym (out-is o) ∙ c .if1 .left in
     (b .pre .0, (b .pre .1 .0, (b .pre .1 .1 .0, within (now (a .store)) (a .scene) (at (a .low)) (at (a .high)) e)))
 
 answer-requires : tie.Need-answer-requires
@@ -51,9 +55,11 @@ answer-requires c κs = search needs
 
 returns-2 : tie.Need-returns-2
 returns-2 c =
-    let a = c .before .before .before .before .before .args in
+    let t = c .before .before in
+    let o = t .before in
+    let a = o .before .before .args in
     c .answer .ensures ∙ ap tallyTold (c .before .scene-box .ensures)
-    ∙ told-tally (now (a .store)) (a .scene) (at (a .low)) (at (a .high)) (sym (out-is (c .before .before .before)) ∙ c .before .before .if1 .left)
+    ∙ told-tally (now (a .store)) (a .scene) (at (a .low)) (at (a .high)) (sym (out-is o) ∙ t .if1 .left)
 
 pub box-from-spec : {M : Type 1} → statement M
 box-from-spec =

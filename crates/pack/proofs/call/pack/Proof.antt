@@ -20,32 +20,38 @@ use Rattle.pack.proofs.Ways.{damaged, no-scene, scratch-short, in-order
 use Rattle.pack.proofs.call.pack.Statement.{statement}
 use Rattle.pack.proofs.call.pack.Tie as tie
 
+-- ---- the refusals
+
+-- the start
+abbrev known : tie.After-slice-known → tie.Start
+known c = c .before .before
+
+abbrev first : tie.After-store-bad → tie.Start
+first c = known (c .before .before)
+
 returns : tie.Need-returns
 returns c =
     let b = c .before in
-    let a = b .before .before .before .before .args in
+    let a = first b .args in
     damaged (a .store .now) (a .scene) (a .scratch .now) (a .out .now) (not-true (storeOk (a .store .now)) (sym (b .store-bad .ensures) ∙ c .if1 .taken))
 
 -- the store is whole
-abbrev first : tie.Else1 → tie.Start
-first c = c .before .before .before .before .before
-
-sound : (c : tie.Else1) → storeOk (first c .args .store .now) ≡ true
-sound c = not-false (storeOk (first c .args .store .now)) (sym (c .before .store-bad .ensures) ∙ c .if1 .left)
+sound : (c : tie.Else1) → storeOk (first (c .before) .args .store .now) ≡ true
+sound c = not-false (storeOk (first (c .before) .args .store .now)) (sym (c .before .store-bad .ensures) ∙ c .if1 .left)
 
 not-held-requires : tie.Need-not-held-requires
-not-held-requires c κs = store-header (first c .args .store .now) (true-T (sound c))
+not-held-requires c κs = store-header (first (c .before) .args .store .now) (true-T (sound c))
 
 returns-2 : tie.Need-returns-2
 returns-2 c =
     let h = c .before in
     let e = h .before in
-    let a = first e .args in
+    let a = first (e .before) .args in
     no-scene (a .store .now) (a .scene) (a .scratch .now) (a .out .now) (sound e) (sym (h .not-held .ensures) ∙ c .if2 .taken)
 
 -- and the scene is held
 abbrev start : tie.Else2 → tie.Start
-start c = first (c .before .before)
+start c = let e = c .before .before in first (e .before)
 
 held : (c : tie.Else2) → T (isHeld (start c .args .store .now) (start c .args .scene))
 held c = there-held (start c .args .store .now) (start c .args .scene) (sym (c .before .not-held .ensures) ∙ c .if2 .left)
@@ -73,6 +79,17 @@ room c = omega (arith, c .before .words-needed .ensures, c .if3 .left)
 clear-requires : tie.Need-clear-requires
 clear-requires c κs = omega (arith, c .before .if3 .left)
 
+-- ---- places from there on: scratch cleared, the root there, the file packed
+
+abbrev cleared-at : tie.After-scene-depth → tie.After-clear
+cleared-at c = c .before .before .before
+
+abbrev rooted : tie.After-pack-root → tie.Else4
+rooted c = c .before .before .before
+
+abbrev packed : tie.After-clear-arg2 → tie.After-pack-root
+packed c = c .before .before .before .before .before
+
 -- scratch is clear
 abbrev passed : tie.After-clear → tie.Else3
 passed c = c .before .before
@@ -96,13 +113,13 @@ scene-depth-requires c κs =
 
 scene-root-requires : tie.Need-scene-root-requires
 scene-root-requires c κs =
-    let l = c .before .before .before in
+    let l = cleared-at c in
     let h = passed l .before .before in
     (store-header (given l .args .store .now) (ok h), few l)
 
 -- the scene's two words
 abbrev opened : tie.After-scene-root → tie.After-clear
-opened c = c .before .before .before .before
+opened c = cleared-at (c .before)
 
 depth-ok : (c : tie.After-scene-root) → T (depthOk (c .before .scene-depth .result))
 depth-ok c =
@@ -138,7 +155,9 @@ returns-4 c =
 
 same-length : tie.Need-same-length
 same-length c =
-    let l = opened (c .before .before .before .before .before) in
+    let e = c .before .before in
+    let t = e .before .before in
+    let l = opened (t .before) in
     let a = given l .args in
     ap length (clean l) ∙ cleared-long (scratchFor (a .store .now)) (a .scratch .now) (room (passed l))
 
@@ -166,29 +185,26 @@ pack-root-requires c κs =
     )
 
 -- scratch and output as the file's writing leaves them
-abbrev rooted : tie.After-pack-root → tie.After-scene-root
-rooted c = c .before .before .before .before
-
 abbrev dirty : tie.After-pack-root → List ℕ
 dirty c = c .pack-root .last .1 .1 .1 .0
 
-still : (c : tie.After-pack-root) → length (dirty c) ≡ length (given (opened (rooted c)) .args .scratch .now)
+still : (c : tie.After-pack-root) → length (dirty c) ≡ length (given (opened (rooted c .before)) .args .scratch .now)
 still c =
-    let l = opened (rooted c) in
+    let l = opened (rooted c .before) in
     let a = given l .args in
     c .pack-root .ensures .1 .0 ∙ ap length (clean l) ∙ cleared-long (scratchFor (a .store .now)) (a .scratch .now) (room (passed l))
 
 clear-requires-2 : tie.Need-clear-requires-2
 clear-requires-2 c κs =
-    let p = c .before .before .before .before .before in
-    let e = passed (opened (rooted p)) in
+    let p = packed c in
+    let e = passed (opened (rooted p .before)) in
     omega (arith, still p, e .if3 .left)
 
 clean-again : (c : tie.After-clear2)
-    → (let a = given (opened (rooted (c .before .before .before .before .before .before))) .args in c .clear2 .last .0 ≡ cleared (scratchFor (a .store .now)) (a .scratch .now))
+    → (let a = given (opened (rooted (packed (c .before)) .before)) .args in c .clear2 .last .0 ≡ cleared (scratchFor (a .store .now)) (a .scratch .now))
 clean-again c =
-    let p = c .before .before .before .before .before .before in
-    let l = opened (rooted p) in
+    let p = packed (c .before) in
+    let l = opened (rooted p .before) in
     let a = given l .args in
     let n : ℕ = scratchFor (a .store .now) in
     c .clear2 .ensures ∙ ap (λ (m : ℕ). cleared m (dirty p)) (passed l .before .words-needed .ensures)
@@ -197,15 +213,15 @@ clean-again c =
 same-length-3 : tie.Need-same-length-3
 same-length-3 c =
     let d = c .before .before in
-    let l = opened (rooted (d .before .before .before .before .before .before)) in
+    let l = opened (rooted (packed (d .before)) .before) in
     let a = given l .args in
     ap length (clean-again d) ∙ cleared-long (scratchFor (a .store .now)) (a .scratch .now) (room (passed l))
 
 returns-5 : tie.Need-returns-5
 returns-5 c =
     let d = c .before .before in
-    let p = d .before .before .before .before .before .before in
-    let r = rooted p in
+    let p = packed (d .before) in
+    let r = rooted p .before in
     let l = opened r in
     let h = passed l .before .before in
     let a = start h .args in

@@ -10,7 +10,7 @@ use Rattle.paper.specs.Pack.{emptyFile}
 use Rattle.paper.specs.Calls.{over}
 use Rattle.laws.proofs.StoreFacts.{depth-range}
 use Rattle.numbers.proofs.Laying.{laid-first, reached-list, reached-length}
-use Rattle.writing.specs.Writing.{headOf}
+use Rattle.pack_bytes.specs.Writing.{headOf}
 use Rattle.pack.proofs.Heads.{head-length, empty-head}
 use Rattle.pack.proofs.Ways.{fitted-short, fitted-whole}
 use Rattle.pack.proofs.call.pack_empty.Statement.{statement}

@@ -5,8 +5,8 @@ use Prim.Native.Nat.{ℕ}
 use native.Mathlib.Omega.{arith}
 use borrow.Author.Needs.{needs}
 use Rattle.paper.specs.Store.{capacityOf}
-use Rattle.scratch.specs.Parts.{Lent, Only}
-use Rattle.placing.proofs.Runs.{Places}
+use Rattle.pack_scratch.specs.Parts.{Lent, Only}
+use Rattle.pack_places.proofs.Runs.{Places}
 use Rattle.pack.proofs.Scenes.{capacity-most}
 use Rattle.pack.proofs.Packings.{all-kept, placed-only, ready}
 use Rattle.pack.proofs.call.prepare.Statement.{statement}

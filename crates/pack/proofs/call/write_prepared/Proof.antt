@@ -9,18 +9,27 @@ use Rattle.paper.specs.Store.{capacityOf, keptOf}
 use Rattle.paper.specs.Pack.{packedFile}
 use Rattle.laws.proofs.Matching.{tag-lt}
 use Rattle.numbers.proofs.Laying.{laid-first, reached-list}
-use Rattle.writing.specs.Writing.{headOf, sizesIn, bodyIn}
-use Rattle.writing.proofs.Behind.{Going, going-first, going-room, going-on, going-last, last-long}
+use Rattle.pack_bytes.specs.Writing.{headOf, sizesIn, bodyIn}
+use Rattle.pack_bytes.proofs.Behind.{Going, going-first, going-room, going-on, going-last}
 use Rattle.pack.proofs.Heads.{head-length}
 use Rattle.pack.proofs.call.write_prepared.Statement.{statement}
 use Rattle.pack.proofs.call.write_prepared.Tie as tie
 
--- the file that is asked for, and its parts
-abbrev file : tie.Start → List ℕ
-file c = packedFile (keptOf (c .args .store .now)) (c .args .top + 2) (c .args .root)
+-- ---- places: the start, the header written, the sizes written
 
 abbrev start : tie.After-tag → tie.Start
 start c = c .before .before .before .before .before .before .before
+
+abbrev headed : tie.After-write-sizes-arg → tie.After-write-packed-head
+headed c = c .before .before .before
+
+abbrev sized : tie.After-write-lists-arg → tie.After-write-sizes
+sized c = c .before .before .before
+
+-- ---- the file that is asked for, and its parts
+
+abbrev file : tie.Start → List ℕ
+file c = packedFile (keptOf (c .args .store .now)) (c .args .top + 2) (c .args .root)
 
 abbrev head : tie.After-tag → List ℕ
 head c = let a = start c .args in headOf (a .prepared .length) (a .top + 2) (c .tag .result)
@@ -48,46 +57,41 @@ write-packed-head-requires : tie.Need-write-packed-head-requires
 write-packed-head-requires c κs =
     let s = start c in
     let a = s .args in
-    let room = going-room (head c) (sizes c ++ lists c) (file s) 0 (a .out .now) (file s) 0 (a .out .now) (whole c) (begin c) in
+    let room = going-room (begin c) (head c) (sizes c ++ lists c) (whole c) in
     (omega (arith, room, head-length (a .prepared .length) (a .top + 2) (c .tag .result)), (omega (arith, s .pre .1 .0 .room .list), omega (arith, c .tag .ensures, tag-lt (a .root))))
 
 -- left to write after the header, and after the sizes
 after-head : (c : tie.After-write-packed-head) → (let t = c .before in let s = start t in Going (sizes t ++ lists t) (c .write-packed-head .result) (c .write-packed-head .last .0) (file s) 0 (s .args .out .now))
 after-head c =
     let t = c .before in
-    let s = start t in
-    let o = s .args .out .now in
-    going-on (file s) 0 o (head t) 0 o (c .write-packed-head .result) (c .write-packed-head .last .0) (c .write-packed-head .ensures) (sizes t ++ lists t) (file s) (whole t) (begin t)
+    going-on (begin t) (head t) (sizes t ++ lists t) (whole t) (c .write-packed-head .result) (c .write-packed-head .last .0) (c .write-packed-head .ensures)
 
 write-sizes-requires : tie.Need-write-sizes-requires
 write-sizes-requires c κs =
-    let w = c .before .before .before in
+    let w = headed c in
     let t = w .before in
-    let s = start t in
-    (s .pre .1 .0 .room .list, going-room (sizes t) (lists t) (sizes t ++ lists t) (w .write-packed-head .result) (w .write-packed-head .last .0) (file s) 0 (s .args .out .now) refl (after-head w))
+    (start t .pre .1 .0 .room .list, going-room (after-head w) (sizes t) (lists t) refl)
 
 after-sizes : (c : tie.After-write-sizes)
-    → (let t = c .before .before .before .before .before in let s = start t in Going (lists t) (c .write-sizes .result) (c .write-sizes .last .1 .1 .0) (file s) 0 (s .args .out .now))
+    → (let t = headed (c .before) .before in let s = start t in Going (lists t) (c .write-sizes .result) (c .write-sizes .last .1 .1 .0) (file s) 0 (s .args .out .now))
 after-sizes c =
-    let w = c .before .before .before .before in
+    let w = headed (c .before) in
     let t = w .before in
-    let s = start t in
-    going-on (file s) 0 (s .args .out .now) (sizes t) (w .write-packed-head .result) (w .write-packed-head .last .0) (c .write-sizes .result) (c .write-sizes .last .1 .1 .0) (c .write-sizes .ensures) (lists t) (sizes t ++ lists t) refl (after-head w)
+    going-on (after-head w) (sizes t) (lists t) refl (c .write-sizes .result) (c .write-sizes .last .1 .1 .0) (c .write-sizes .ensures)
 
 write-lists-requires : tie.Need-write-lists-requires
 write-lists-requires c κs =
-    let z = c .before .before .before in
-    let s = start (z .before .before .before .before .before) in
+    let z = sized c in
+    let s = start (headed (z .before) .before) in
     (s .pre .0, (s .pre .1 .0 .room, (s .pre .1 .0 .kept, after-sizes z .room)))
 
 returns : tie.Need-returns
 returns c =
     let w = c .before .before in
-    let z = w .before .before .before .before in
-    let t = z .before .before .before .before .before in
-    let s = start t in
+    let z = sized (w .before) in
+    let s = start (headed (z .before) .before) in
     let o = s .args .out .now in
-    let e = going-last (file s) 0 o (lists t) (z .write-sizes .result) (z .write-sizes .last .1 .1 .0) (w .write-lists .result) (w .write-lists .last .1 .1 .1 .1 .0) (w .write-lists .ensures) (lists t) refl (after-sizes z) in
+    let e = going-last (after-sizes z) (w .write-lists .result) (w .write-lists .last .1 .1 .1 .1 .0) (w .write-lists .ensures) in
     reached-list (file s) 0 (w .write-lists .result) o (w .write-lists .last .1 .1 .1 .1 .0) e ∙ laid-first (file s) o
 
 pub write-prepared-spec : {M : Type 1} → statement M

@@ -1,0 +1,2 @@
+-- Definitions that the contracts cite: a cell sought or kept.
+pub mod CellAdding

@@ -1,0 +1,132 @@
+// Writing: one more cell, one more scene, and the lists cut back to counts taken before.
+ghost use mathlib.Core.Path.{_≡_};
+ghost use mathlib.Core.List.{[], _∷_};
+ghost use Prim.Native.Nat.{ℕ, _+_, _≤_, _<_};
+ghost use lib.Dec.{T};
+ghost use lib.ListN.{length, getD, set};
+ghost use lib.Seq.{sets};
+ghost use Rattle.paper.specs.Numbers.{tabulate};
+ghost use Rattle.paper.specs.Store.{mostScenes, heights, scenesHeld, keptCount, stride, headerOk};
+ghost use Rattle.paper.specs.Match.{leafCell};
+ghost use Rattle.add_keep.specs.Keeping.{Room, Keeps, keepIn, holdIn, cutList, cutBack};
+use store::FIRST_COUNT;
+use store::HEIGHTS;
+use store::HIGH_WORD;
+use store::capacity;
+use store::cell_position;
+use store::kept_count;
+use store::put_zeros;
+use store::scene_position;
+use store::scenes_held;
+
+// The place of the count of scenes.
+const SCENES_HELD: usize = 1;
+
+// Sets list k's count.
+fn set_count(store: &mut [u32], k: u32, count: u32)
+    requires { ⌜ k < heights ⌝ }
+    requires { ⌜ 17 ≤ length (now store) ⌝ }
+    ensures { λ _. ⌜ now (store .exit) ≡ set (now (store .entry)) (2 + k) count ⌝ }
+{
+    store[(FIRST_COUNT + k) as usize] = count;
+}
+
+// These words in place of those from `at` on.
+fn put_words(store: &mut [u32], at: usize, words: &[u32])
+    requires { ⌜ at + length (now words) ≤ length (now store) ⌝ }
+    ensures { λ _. ⌜ now (store .exit) ≡ sets (now (store .entry)) at (now (words .entry)) ⌝ }
+{
+    let mut i = 0;
+    while i < words.len() {
+        store[at + i] = words[i];
+        i += 1;
+    }
+}
+
+// One more cell in list k, of these words.
+fn keep(store: &mut [u32], k: u32, words: &[u32])
+    requires { ⌜ Room k (now store) ⌝ }
+    requires { ⌜ length (now words) ≡ stride k ⌝ }
+    ensures { λ _. ⌜ now (store .exit) ≡ keepIn k (now (words .entry)) (now (store .entry)) ⌝ }
+{
+    let count = kept_count(store, k);
+    let at = cell_position(capacity(store), k, count);
+    set_count(store, k, count + 1);
+    put_words(store, at, words);
+}
+
+// One more leaf, of its two words.
+pub fn keep_leaf(store: &mut [u32], leaf: [u32; 2])
+    requires { ⌜ Room 0 (now store) ⌝ }
+    ensures { λ _. ⌜ now (store .exit) ≡ keepIn 0 leaf (now (store .entry)) ⌝ }
+{
+    keep(store, 0, &leaf);
+}
+
+// One more cell of eight pointers, in list k, k not 0.
+pub fn keep_cell(store: &mut [u32], k: u32, cell: [u32; 8])
+    requires { ⌜ 1 ≤ k ⌝ }
+    requires { ⌜ Room k (now store) ⌝ }
+    ensures { λ _. ⌜ now (store .exit) ≡ keepIn k cell (now (store .entry)) ⌝ }
+{
+    keep(store, k, &cell);
+}
+
+// The words of a leaf, the high one first.
+pub fn leaf_words(leaf: u64) -> [u32; 2]
+    ensures { λ r. ⌜ r ≡ leafCell leaf ⌝ }
+{
+    [(leaf / HIGH_WORD) as u32, (leaf % HIGH_WORD) as u32]
+}
+
+// One more scene.
+pub fn hold_scene(store: &mut [u32], depth: u32, root: u32)
+    requires { ⌜ T (headerOk (now store)) ⌝ }
+    requires { ⌜ scenesHeld (now store) < mostScenes ⌝ }
+    ensures { λ _. ⌜ now (store .exit) ≡ holdIn (depth ∷ root ∷ []) (now (store .entry)) ⌝ }
+{
+    let held = scenes_held(store);
+    let at = scene_position(held);
+    store[SCENES_HELD] = held + 1;
+    let words = [depth, root];
+    put_words(store, at, &words);
+}
+
+// How many cells each list keeps.
+pub fn counts(store: &[u32]) -> [u32; 15]
+    requires { ⌜ T (headerOk (now store)) ⌝ }
+    ensures { λ r. ⌜ r ≡ tabulate 0 heights (keptCount (now (store .entry))) ⌝ }
+{
+    let mut all = [0u32; 15];
+    let mut k = 0u32;
+    while k < HEIGHTS {
+        all[k as usize] = kept_count(store, k);
+        k += 1;
+    }
+    all
+}
+
+// List k back to its first `count` cells: only the words of the others, and the count, are written.
+fn cut_list(store: &mut [u32], k: u32, count: u32)
+    requires { ⌜ Keeps k count (now store) ⌝ }
+    ensures { λ _. ⌜ now (store .exit) ≡ cutList k count (now (store .entry)) ⌝ }
+{
+    let units = capacity(store);
+    let end = cell_position(units, k, kept_count(store, k));
+    let at = cell_position(units, k, count);
+    put_zeros(store, at, end - at);
+    set_count(store, k, count);
+}
+
+// Each list back to so many cells as it kept when `counts` was taken.
+pub fn cut_back(store: &mut [u32], counts: [u32; 15])
+    requires { ⌜ T (headerOk (now store)) ⌝ }
+    requires { ⌜ ((k : ℕ) → k < heights → getD counts k 0 ≤ keptCount (now store) k) ⌝ }
+    ensures { λ _. ⌜ now (store .exit) ≡ cutBack counts (now (store .entry)) ⌝ }
+{
+    let mut k = 0u32;
+    while k < HEIGHTS {
+        cut_list(store, k, counts[k as usize]);
+        k += 1;
+    }
+}

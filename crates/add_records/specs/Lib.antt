@@ -1,0 +1,2 @@
+-- Definitions that the contracts cite: a file's records added.
+pub mod RecordAdding

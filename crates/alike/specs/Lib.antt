@@ -1,2 +1,0 @@
--- Definitions that the contracts cite: matching by places and marks.
-pub mod Matching

@@ -1,0 +1,2 @@
+-- a box of a leaf
+pub mod LeafBox

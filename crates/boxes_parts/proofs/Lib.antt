@@ -1,0 +1,2 @@
+-- the part of a box in a child
+pub mod Cuts

@@ -1,0 +1,2 @@
+-- what a box of a cell holds
+pub mod Tallies

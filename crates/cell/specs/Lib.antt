@@ -1,0 +1,2 @@
+-- what a cell question reads off the end of its walk
+pub mod Cell

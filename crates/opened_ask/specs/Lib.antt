@@ -1,0 +1,2 @@
+-- Definitions that the contracts cite: whether a file opens to numbers.
+pub mod Compared

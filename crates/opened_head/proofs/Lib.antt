@@ -1,0 +1,2 @@
+-- Laws that belong to no one function: openings.
+pub mod Openings

@@ -1,0 +1,2 @@
+-- Definitions that the contracts cite: what an opening tells and holds.
+pub mod Opens

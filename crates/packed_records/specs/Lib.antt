@@ -1,0 +1,2 @@
+-- Definitions that the contracts cite: one record as code reads it.
+pub mod Records

@@ -1,0 +1,2 @@
+-- Laws that belong to no one function: the ways through each call.
+pub mod Ways

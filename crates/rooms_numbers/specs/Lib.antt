@@ -1,0 +1,2 @@
+-- The outcomes of calls made with numbers.
+pub mod Numbers

@@ -1,7 +1,0 @@
--- `walk::cell_call::list_of` meets its contract: below height 2 nothing is left of the height. Assumes nothing.
-use native.Mathlib.Omega.{arith}
-use Rattle.walk.proofs.cell_call.list_of.Statement.{statement}
-use Rattle.walk.proofs.cell_call.list_of.Tie as tie
-
-pub list-of-spec : {M : Type 1} → statement M
-list-of-spec = tie.close (tie.spec (λ c. omega arith) (λ c. omega arith))
