@@ -7,7 +7,8 @@ use Prim.Native.Nat.{ℕ, zero, suc, _+_, _/_, _%_, _≤_}
 use lib.Dec.{eqb, leb, ltb}
 use lib.ListN.{length, drop, getD}
 use Rattle.paper.specs.Numbers.{num}
-use Rattle.paper.specs.Outline.{Read, bad, ok}
+use Rattle.paper.specs.Rooms.{least, deepest}
+use Rattle.paper.specs.Outline.{outlineHead, fileDepth, Read, bad, ok}
 use Rattle.outline.specs.declared.Reading.{Reading}
 use Rattle.outline.specs.declared.Reading.the-variants.{Broken, EndsAt}
 
@@ -28,12 +29,24 @@ childrenAt f (suc n) m at =
     let skip = childrenAt f n (m / 2) at in
     cond (eqb (m % 2) 1) here skip
 
+-- children of this height, so many of eight left to read
+pub record ChildrenLeft (height left : ℕ) : Type 0 where
+  pub heightFrom : least ≤ height
+  pub heightUpto : height ≤ deepest
+  pub leftUpto : left ≤ 8
+
 -- the record of a cell of height k + 2; above the leaves a mask of zero is broken ('Any other record')
 unfoldable pub recordAt : List ℕ → ℕ → ℕ → Reading
 recordAt file zero at = leafAt file at
 recordAt file (suc k) at =
     let r = childrenAt (recordAt file k) 8 (getD file at 0) (at + 1) in
     cond (leb (length file) at) Broken (cond (eqb (getD file at 0) 0) Broken r)
+
+-- a file has its head, and in it a depth that a room can have
+pub record GoodHead (file : List ℕ) : Type 0 where
+  pub there : outlineHead ≤ length file
+  pub depthFrom : least ≤ fileDepth file
+  pub depthUpto : fileDepth file ≤ deepest
 
 -- the same answer by position and by the bytes that are left: broken, or a position in the file from which on all that is left stands
 abbrev pub Agrees : {A : Type 0} → List ℕ → Reading → Read A → Type 0

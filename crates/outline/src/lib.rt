@@ -3,12 +3,11 @@
 ghost use mathlib.Core.Path.{_≡_};
 ghost use mathlib.Core.Bool.{not};
 ghost use Prim.Native.Nat.{_-_, _≤_};
-ghost use lib.ListN.{length};
 ghost use Rattle.paper.specs.Rooms.{least, deepest};
-ghost use Rattle.paper.specs.Outline.{outlineHead, fileDepth, outlineRules};
+ghost use Rattle.paper.specs.Outline.{outlineRules};
 ghost use Rattle.paper.specs.Order.{firstOf};
 ghost use Rattle.paper.specs.Calls.{outlineOrder};
-ghost use Rattle.outline.specs.Positions.{leafAt, childrenAt, recordAt};
+ghost use Rattle.outline.specs.Positions.{leafAt, childrenAt, ChildrenLeft, recordAt, GoodHead};
 use file_head::depth;
 use file_head::head_number;
 use limits::CHILDREN;
@@ -60,7 +59,7 @@ pub fn record(file: &[u8], at: usize, height: u32) -> Reading
 
 // The records of the children of this height that are left; the lowest bit of the mask is for the first of them.
 fn children(file: &[u8], at: usize, height: u32, left: u32, mask: u8) -> Reading
-    requires { ⌜ (least ≤ height) × (height ≤ deepest) × (left ≤ 8) ⌝ }
+    requires { ⌜ ChildrenLeft height left ⌝ }
     ensures { λ r. ⌜ r ≡ childrenAt (recordAt (now (file .entry)) (height - 2)) left mask at ⌝ }
 {
     if left == 0 {
@@ -78,7 +77,7 @@ fn children(file: &[u8], at: usize, height: u32, left: u32, mask: u8) -> Reading
 
 // Whether what follows the head is neither nothing nor the root's record alone.
 pub fn rules_bad(file: &[u8]) -> bool
-    requires { ⌜ (outlineHead ≤ length (now file)) × (least ≤ fileDepth (now file)) × (fileDepth (now file) ≤ deepest) ⌝ }
+    requires { ⌜ GoodHead (now file) ⌝ }
     ensures { λ r. ⌜ r ≡ not (outlineRules (now (file .entry))) ⌝ }
 {
     if file.len() == OUTLINE_HEAD {

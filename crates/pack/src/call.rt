@@ -1,17 +1,17 @@
 // A scene's file, and the call. Scratch is cleared before it is used and after.
 ghost use mathlib.Core.Path.{_≡_};
-ghost use mathlib.Core.Bool.{false};
 ghost use mathlib.Core.List.{[], _∷_};
 ghost use Prim.Native.Nat.{_+_, _≤_, _<_};
 ghost use lib.Dec.{T};
 ghost use lib.ListN.{length, take, drop, replicate};
 ghost use Rattle.paper.specs.Rooms.{depthOk};
-ghost use Rattle.paper.specs.Store.{heights, capacityOf, keptCount, keptOf, badPointer, headerOk, storeOk};
+ghost use Rattle.paper.specs.Store.{capacityOf, keptOf, headerOk, storeOk};
 ghost use Rattle.paper.specs.Packed.{packedHead};
 ghost use Rattle.paper.specs.Pack.{emptyFile, packedFile};
 ghost use Rattle.paper.specs.Answers.{outcome, written};
 ghost use Rattle.paper.specs.Calls.{over, packScratch, packOutcome};
 ghost use Rattle.numbers.specs.Laid.{reached, writing};
+ghost use Rattle.pack_order.specs.OrderParts.{SceneRoot};
 ghost use Rattle.pack_bytes.specs.Writing.{headOf, fitted};
 ghost use Rattle.pack.specs.Ready.{Ready};
 use file_head::write_head;
@@ -81,7 +81,7 @@ fn pack_empty(depth: u32, out: &mut [u8]) -> Written
 // places of each list, and nothing is written.
 fn prepare(store: &[u32], top: u32, root: u32, scratch: &mut [u32]) -> Prepared
     requires { ⌜ T (storeOk (now store)) ⌝ }
-    requires { ⌜ (top < heights) × (root ≡ 0 → ⊥) × (badPointer (keptCount (now store) top) root ≡ false) ⌝ }
+    requires { ⌜ SceneRoot (now store) top root ⌝ }
     requires { ⌜ packScratch (capacityOf (now store)) ≤ length (now scratch) ⌝ }
     requires { ⌜ take (packScratch (capacityOf (now store))) (now scratch) ≡ replicate (packScratch (capacityOf (now store))) 0 ⌝ }
     ensures { λ r. ⌜ Ready (now (store .entry)) top root (r .counts) (r .sizes) (r .length) (now (scratch .exit)) ⌝ }
@@ -121,7 +121,7 @@ fn write_prepared(
 // Writes the file of the scene with this root in list `top`: prepared, and written where the output has room.
 fn pack_root(store: &[u32], top: u32, root: u32, scratch: &mut [u32], out: &mut [u8]) -> Written
     requires { ⌜ T (storeOk (now store)) ⌝ }
-    requires { ⌜ (top < heights) × (root ≡ 0 → ⊥) × (badPointer (keptCount (now store) top) root ≡ false) ⌝ }
+    requires { ⌜ SceneRoot (now store) top root ⌝ }
     requires { ⌜ packScratch (capacityOf (now store)) ≤ length (now scratch) ⌝ }
     requires { ⌜ take (packScratch (capacityOf (now store))) (now scratch) ≡ replicate (packScratch (capacityOf (now store))) 0 ⌝ }
     ensures { λ r. ⌜ outcome (written r) (now (out .exit) ∷ []) ≡ fitted (packedFile (keptOf (now (store .entry))) (top + 2) root) (now (out .entry)) ⌝ }

@@ -2,7 +2,7 @@
 -- only. Definitions only.
 use mathlib.Core.Bool.{Bool, true, false, cond, not, _&&_}
 use mathlib.Core.List.{List}
-use Prim.Native.Nat.{ℕ}
+use Prim.Native.Nat.{ℕ, _≤_, _<_}
 use lib.Bits.{bitXor}
 use lib.Dec.{eqb, ltb}
 use lib.ListN.{length, getD}
@@ -25,6 +25,13 @@ unfoldable pub placeMatch : (ℕ → ℕ → Bool) → ℕ → PackedPointer →
 placeMatch self t r s =
     let m : Bool = self (r .place) (bitXor (bitXor (r .tag) (s .tag)) t) in
     cond (eqb (r .code) 0) (eqb (s .code) 0) (cond (eqb (s .code) 0) false (cond (eqb (r .place) (s .place)) m false))
+
+-- the tags of two pointers and a mirror, each one of eight; a place counts `unit` bytes among the marks
+pub record TwoTags (unit mirror tag other : ℕ) : Type 0 where
+  pub counts : unit ≤ 8
+  pub mirrorBelow : mirror < 8
+  pub tagBelow : tag < 8
+  pub otherBelow : other < 8
 
 -- by the marks
 abbrev pub selfBy : ℕ → List ℕ → ℕ → ℕ → Bool

@@ -10,7 +10,7 @@ ghost use Rattle.paper.specs.Packed.{recordOk};
 ghost use Rattle.packed_records.specs.Records.{pointerIs};
 ghost use Rattle.proper_marks.specs.Places.{placesIn, leavesIn, LeafList, WholeList};
 ghost use Rattle.proper_sorted.specs.Slots.{slotsOf};
-ghost use Rattle.proper_alike.specs.Matching.{selfBy, leavesMatch, placeMatch, recordsMatch, recordSymmetry, recordRules, apartIn, leafKeyAt};
+ghost use Rattle.proper_alike.specs.Matching.{selfBy, leavesMatch, placeMatch, TwoTags, recordsMatch, recordSymmetry, recordRules, apartIn, leafKeyAt};
 ghost use Rattle.proper_alike.specs.Shares.{Shares, Placed};
 use limits::CHILDREN;
 use limits::HALF_BYTES;
@@ -63,7 +63,7 @@ pub fn two_leaves_match(leaves: &[u8], share: &mut [u8]) -> bool
 
 // Whether two pointers match under a mirror.
 fn place_match(marks: &[u8], unit: usize, mirror: u32, a: Pointer, b: Pointer) -> bool
-    requires { ⌜ (unit ≤ 8) × (mirror < 8) × (a .tag < 8) × (b .tag < 8) ⌝ }
+    requires { ⌜ TwoTags unit mirror (a .tag) (b .tag) ⌝ }
     ensures { λ r. ⌜ r ≡ placeMatch (selfBy unit (now (marks .entry))) mirror (pointerIs a) (pointerIs b) ⌝ }
 {
     if a.code == 0 {

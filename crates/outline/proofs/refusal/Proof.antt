@@ -28,7 +28,7 @@ rules-bad-requires : tie.Need-rules-bad-requires
 rules-bad-requires c κs =
     let file = c .before .before .before .args .file .now in
     let range = depth-range (fileDepth file) (true-T (known c .depth-ok)) in
-    (length-least file outlineHead (ap not (known c .length-ok)), range .0, range .1)
+    record { there = length-least file outlineHead (ap not (known c .length-ok)); depthFrom = range .0; depthUpto = range .1 }
 
 returns-2 : tie.Need-returns-2
 returns-2 c =

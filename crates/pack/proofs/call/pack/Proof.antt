@@ -176,7 +176,7 @@ pack-root-requires c κs =
     let n : ℕ = scratchFor (a .store .now) in (
       ok h,
       (
-        (omega (arith, depth-range (r .before .scene-depth .result) (depth-ok r) .1), t .if4 .left, root-ok r),
+        record { listed = omega (arith, depth-range (r .before .scene-depth .result) (depth-ok r) .1); some = t .if4 .left; sound = root-ok r },
         (
           rw (ap length (clean l) ∙ cleared-long n (a .scratch .now) (room (passed l))) (room (passed l)),
           ap (take n) (clean l) ∙ cleared-take n (a .scratch .now),

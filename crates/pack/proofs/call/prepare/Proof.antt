@@ -24,7 +24,7 @@ lent : (c : tie.After-order-lists) → Lent (capacityOf (first c .args .store .n
 lent c =
     let s = first c in
     let p = s .pre in
-    record { most = capacity-most (s .args .store .now) (p .0) (s .args .top) (s .args .root) (p .1 .0 .0) (p .1 .0 .1) (p .1 .0 .2); long = omega (arith, c .order-lists .ensures .1, p .1 .1 .0) }
+    record { most = capacity-most (s .args .store .now) (p .0) (s .args .top) (s .args .root) (p .1 .0 .listed) (p .1 .0 .some) (p .1 .0 .sound); long = omega (arith, c .order-lists .ensures .1, p .1 .1 .0) }
 
 place-lists-requires : tie.Need-place-lists-requires
 place-lists-requires c κs =
@@ -34,8 +34,8 @@ place-lists-requires c κs =
     let p = s .pre in (
       p .0,
       (
-        record { lent = lent o; list = p .1 .0 .0 },
-        all-kept (a .store .now) (p .0) (a .top) (a .root) (p .1 .0 .0) (p .1 .0 .1) (p .1 .0 .2) (o .order-lists .result) (ordered o) (o .order-lists .ensures .0) (lent o),
+        record { lent = lent o; list = p .1 .0 .listed },
+        all-kept (a .store .now) (p .0) (a .top) (a .root) (p .1 .0 .listed) (p .1 .0 .some) (p .1 .0 .sound) (o .order-lists .result) (ordered o) (o .order-lists .ensures .0) (lent o),
       ),
     )
 
@@ -53,11 +53,11 @@ only c =
     let s = first o in
     let a = s .args in
     let p = s .pre in
-    placed-only (a .store .now) (p .0) (a .top) (a .root) (p .1 .0 .0) (p .1 .0 .1) (p .1 .0 .2) (o .order-lists .result) (ordered o) (o .order-lists .ensures .0) (lent o)
+    placed-only (a .store .now) (p .0) (a .top) (a .root) (p .1 .0 .listed) (p .1 .0 .some) (p .1 .0 .sound) (o .order-lists .result) (ordered o) (o .order-lists .ensures .0) (lent o)
     (c .place-lists .result) (scratch c) (c .place-lists .ensures)
 
 file-length-requires : tie.Need-file-length-requires
-file-length-requires c κs = first (earlier (c .before .before)) .pre .1 .0 .0
+file-length-requires c κs = first (earlier (c .before .before)) .pre .1 .0 .listed
 
 -- ---- measured
 
@@ -68,7 +68,7 @@ returns c =
     let s = first o in
     let a = s .args in
     let p = s .pre in (
-      ready (a .store .now) (p .0) (a .top) (a .root) (p .1 .0 .0) (p .1 .0 .1) (p .1 .0 .2) (o .order-lists .result) (ordered o) (o .order-lists .ensures .0) (lent o)
+      ready (a .store .now) (p .0) (a .top) (a .root) (p .1 .0 .listed) (p .1 .0 .some) (p .1 .0 .sound) (o .order-lists .result) (ordered o) (o .order-lists .ensures .0) (lent o)
           (q .place-lists .result) (scratch q) (q .place-lists .ensures) (c .file-length .result) (c .file-length .ensures),
       (only q .long ∙ o .order-lists .ensures .1, only q .rest ∙ o .order-lists .ensures .2),
     )

@@ -39,7 +39,7 @@ mirror-lt a b t ha hb ht = xor8-lt (bitXor a b) t (xor8-lt a b ha hb) ht
 shr-result : tie.Need-shr-result
 shr-result c =
     let s = start (c .before .before .before) in
-    omega (arith, mirror-lt (s .args .a .tag) (s .args .b .tag) (s .args .mirror) (s .pre .2) (s .pre .3) (s .pre .1))
+    omega (arith, mirror-lt (s .args .a .tag) (s .args .b .tag) (s .args .mirror) (s .pre .tagBelow) (s .pre .otherBelow) (s .pre .mirrorBelow))
 
 returns-3 : tie.Need-returns-3
 returns-3 c =
@@ -49,4 +49,4 @@ returns-3 c =
     ∙ sym (match-passes (selfBy (a .unit) (a .marks .now)) (a .mirror) (pointerIs (a .a)) (pointerIs (a .b)) (some e .if1 .left) (e .if2 .left))
 
 pub place-match-spec : {M : Type 1} → statement M
-place-match-spec = tie.close (tie.spec returns returns-2 (λ c κs. start c .pre .0) shr-result returns-3)
+place-match-spec = tie.close (tie.spec returns returns-2 (λ c κs. start c .pre .counts) shr-result returns-3)

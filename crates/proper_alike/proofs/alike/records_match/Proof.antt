@@ -58,7 +58,7 @@ place-match-requires : tie.Need-place-match-requires Inv-loop μ-loop
 place-match-requires c κs =
     let i = c .before .before in
     let s = start (i .before) in
-    (s .pre .1 .0, s .pre .1 .1, c .before .pointer-at .ensures .1, c .pointer-at2 .ensures .1)
+    record { counts = s .pre .1 .0; mirrorBelow = s .pre .1 .1; tagBelow = c .before .pointer-at .ensures .1; otherBelow = c .pointer-at2 .ensures .1 }
 
 -- the two pointers compared
 module _ (c : tie.After-place-match Inv-loop μ-loop) where
