@@ -1,4 +1,4 @@
--- `outline::head_number` meets its contract: each test is the paper's, so the code stops at the first that passes.
+-- `file_head::head_number` meets its contract: each test is the paper's, so the code stops at the first that passes.
 -- By what the calls promise of their tests, then the law of each way. Assumes nothing.
 use mathlib.Core.Path.{_≡_, sym, ap, _∙_}
 use mathlib.Core.Bool.{false, not}

@@ -1,4 +1,4 @@
--- `outline::length_bad` meets its contract: a file that is long enough is judged by its length field, a whole number.
+-- `file_head::length_bad` meets its contract: a file that is long enough is judged by its length field, a whole number.
 -- By the law of each way, and what the calls promise of that number. Assumes nothing.
 use mathlib.Core.Path.{sym, ap, _∙_}
 use mathlib.Core.Bool.{not}

@@ -1,4 +1,4 @@
--- `outline::version_bad` meets its contract: an empty file has no version byte, any other has its first byte.
+-- `file_head::version_bad` meets its contract: an empty file has no version byte, any other has its first byte.
 -- By the law of each way. Assumes nothing.
 use mathlib.Core.Path.{sym}
 use borrow.Author.Needs.{needs}

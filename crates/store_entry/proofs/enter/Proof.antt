@@ -1,4 +1,4 @@
--- `entry::enter` meets its contract: each way through its tests is a law of entries. Assumes nothing.
+-- `store_entry::enter` meets its contract: each way through its tests is a law of entries. Assumes nothing.
 use mathlib.Core.Path.{sym, ap₂, _∙_}
 use Prim.Native.Nat.{_<_}
 use denote.Ref.{now}

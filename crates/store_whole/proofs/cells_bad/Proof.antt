@@ -1,4 +1,4 @@
--- `whole::cells_bad` meets its contract. The invariant: every cell before n is usable, so the answer is that of the cells from n on.
+-- `store_whole::cells_bad` meets its contract. The invariant: every cell before n is usable, so the answer is that of the cells from n on.
 -- The measure is how many those are. Assumes nothing.
 use mathlib.Core.Path.{_≡_, sym, ap, _∙_}
 use mathlib.Core.Bool.{not}

@@ -1,4 +1,4 @@
--- `whole::leaves_bad` meets its contract. The invariant: no leaf before n is empty, so the answer is that of the leaves from n on.
+-- `store_whole::leaves_bad` meets its contract. The invariant: no leaf before n is empty, so the answer is that of the leaves from n on.
 -- The measure is how many those are. Assumes nothing.
 use mathlib.Core.Path.{_≡_, sym, ap, _∙_}
 use mathlib.Core.Bool.{not}

@@ -1,4 +1,4 @@
--- `whole::list_not_blank` meets its contract: the words from the place after list k's last kept cell to the list's end.
+-- `store_whole::list_not_blank` meets its contract: the words from the place after list k's last kept cell to the list's end.
 -- By that place's bound, and the definition at the list's number. Assumes nothing.
 use mathlib.Core.Path.{ap, _∙_}
 use mathlib.Core.Bool.{not}

@@ -1,4 +1,4 @@
--- `whole::lists_bad` meets its contract. The invariant: every cell of the lists from k on is usable, so the answer is that of the lists below k.
+-- `store_whole::lists_bad` meets its contract. The invariant: every cell of the lists from k on is usable, so the answer is that of the lists below k.
 -- The measure is k; list 0 is left to the last. Assumes nothing.
 use mathlib.Core.Path.{_≡_, refl, sym, ap, _∙_}
 use mathlib.Core.Bool.{not}

@@ -1,4 +1,4 @@
--- `whole::lists_not_blank` meets its contract. The invariant: no unused word of the lists from k on is other than zero, so the answer is that
+-- `store_whole::lists_not_blank` meets its contract. The invariant: no unused word of the lists from k on is other than zero, so the answer is that
 -- of the lists below k. The measure is k. Assumes nothing.
 use mathlib.Core.Path.{_≡_, refl, sym, ap}
 use mathlib.Core.Bool.{not}

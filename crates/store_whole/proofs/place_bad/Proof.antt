@@ -1,4 +1,4 @@
--- `whole::place_bad` meets its contract: a place that holds no scene is tested for two zeros, a scene held as a scene.
+-- `store_whole::place_bad` meets its contract: a place that holds no scene is tested for two zeros, a scene held as a scene.
 -- Each way is one of the ways through the place's test. Assumes nothing.
 use mathlib.Core.Path.{_≡_, refl, sym, ap, ap₂, _∙_}
 use mathlib.Core.Bool.{Bool, true, false, not, _&&_, _||_}

@@ -1,4 +1,4 @@
--- `whole::scenes_bad` meets its contract. The invariant: no place from n on is damaged, so the answer is that of the places below n.
+-- `store_whole::scenes_bad` meets its contract. The invariant: no place from n on is damaged, so the answer is that of the places below n.
 -- The measure is n. Assumes nothing.
 use mathlib.Core.Path.{_≡_, refl, sym, ap}
 use mathlib.Core.Bool.{not}

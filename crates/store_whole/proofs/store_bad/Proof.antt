@@ -1,4 +1,4 @@
--- `whole::store_bad` meets its contract: its four tests are those of the definition, in order.
+-- `store_whole::store_bad` meets its contract: its four tests are those of the definition, in order.
 -- Each way is one of the ways through the store's test. Assumes nothing.
 use mathlib.Core.Path.{_≡_, sym, ap, _∙_}
 use mathlib.Core.Bool.{true, not}

@@ -1,4 +1,4 @@
--- `find::better` meets its contract: the test is the definition's. Assumes nothing.
+-- `add_seek::find::better` meets its contract: the test is the definition's. Assumes nothing.
 use mathlib.Core.Path.{sym}
 use Rattle.add_seek.proofs.FindBest.{better-lower, better-stays}
 use Rattle.add_seek.proofs.find.better.Statement.{statement}

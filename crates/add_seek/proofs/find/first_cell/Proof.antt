@@ -1,4 +1,4 @@
--- `find::first_cell` meets its contract. The invariant: no cell before n passes, so the answer is that of the cells from n on.
+-- `add_seek::find::first_cell` meets its contract. The invariant: no cell before n passes, so the answer is that of the cells from n on.
 -- The measure is how many those are. Assumes nothing.
 use mathlib.Core.Path.{_≡_, sym, ap, _∙_}
 use mathlib.Core.Bool.{Bool}

@@ -1,4 +1,4 @@
--- `find::first_leaf` meets its contract. The invariant: no leaf before n passes, so the answer is that of the leaves from n on.
+-- `add_seek::find::first_leaf` meets its contract. The invariant: no leaf before n passes, so the answer is that of the leaves from n on.
 -- The measure is how many those are. Assumes nothing.
 use mathlib.Core.Path.{_≡_, sym, _∙_}
 use mathlib.Core.Bool.{Bool}

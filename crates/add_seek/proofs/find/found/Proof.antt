@@ -1,4 +1,4 @@
--- `find::found` meets its contract: the test is the definition's. Assumes nothing.
+-- `add_seek::find::found` meets its contract: the test is the definition's. Assumes nothing.
 use mathlib.Core.Path.{sym, ap, _∙_}
 use mathlib.Core.Option.{some}
 use borrow.Author.Needs.{needs}

@@ -1,4 +1,4 @@
--- `symmetries::cell_bit` meets its contract: the cell matches itself under the mirror where its image matches it under 0. Assumes nothing.
+-- `add_seek::symmetries::cell_bit` meets its contract: the cell matches itself under the mirror where its image matches it under 0. Assumes nothing.
 use mathlib.Core.Path.{_≡_, sym, ap, _∙_}
 use mathlib.Core.List.{List}
 use Prim.Native.Nat.{ℕ}

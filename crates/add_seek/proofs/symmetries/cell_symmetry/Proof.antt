@@ -1,4 +1,4 @@
--- `symmetries::cell_symmetry` meets its contract. The invariant: the bits from t on are gathered. The measure is t. Assumes nothing.
+-- `add_seek::symmetries::cell_symmetry` meets its contract. The invariant: the bits from t on are gathered. The measure is t. Assumes nothing.
 use mathlib.Core.Path.{_≡_}
 use mathlib.Core.Bool.{Bool}
 use mathlib.Core.List.{List}

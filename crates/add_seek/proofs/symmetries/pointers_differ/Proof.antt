@@ -1,4 +1,4 @@
--- `symmetries::pointers_differ` meets its contract, by one law for each way through the tests. Assumes nothing.
+-- `add_seek::symmetries::pointers_differ` meets its contract, by one law for each way through the tests. Assumes nothing.
 use mathlib.Core.Path.{sym, ap, ap₂, _∙_}
 use mathlib.Core.Bool.{not}
 use Prim.Native.Nat.{ℕ, _<_}

@@ -1,4 +1,4 @@
--- `symmetries::same_cell` meets its contract. The invariant: the pointers from i on match, so the answer is that of the pointers below i.
+-- `add_seek::symmetries::same_cell` meets its contract. The invariant: the pointers from i on match, so the answer is that of the pointers below i.
 -- The measure is i. Assumes nothing.
 use mathlib.Core.Path.{_≡_, sym, ap, _∙_}
 use mathlib.Core.Bool.{Bool, not}

@@ -1,4 +1,4 @@
--- `call::pack` meets its contract: each return is one of the ways through the rule. Scratch is cleared first and last. Assumes nothing.
+-- `pack::call::pack` meets its contract: each return is one of the ways through the rule. Scratch is cleared first and last. Assumes nothing.
 use mathlib.Core.Path.{_≡_, sym, ap, ap₂, subst, _∙_}
 use mathlib.Core.Bool.{true, false}
 use mathlib.Core.List.{List}

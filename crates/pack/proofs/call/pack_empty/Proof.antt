@@ -1,4 +1,4 @@
--- `call::pack_empty` meets its contract: too short, or the header is the file. Assumes nothing.
+-- `pack::call::pack_empty` meets its contract: too short, or the header is the file. Assumes nothing.
 use mathlib.Core.Path.{_≡_, sym, ap, _∙_}
 use mathlib.Core.List.{List}
 use Prim.Native.Nat.{ℕ}

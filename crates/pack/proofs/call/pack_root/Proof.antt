@@ -1,4 +1,4 @@
--- `call::pack_root` meets its contract: the output is too short for what is prepared, or that is written. Assumes nothing.
+-- `pack::call::pack_root` meets its contract: the output is too short for what is prepared, or that is written. Assumes nothing.
 use mathlib.Core.List.{List}
 use Prim.Native.Nat.{ℕ, _+_}
 use native.Mathlib.Omega.{arith}

@@ -1,4 +1,4 @@
--- `call::prepare` meets its contract: the lists are ordered, then placed, and what is found so is the packed file. Assumes nothing.
+-- `pack::call::prepare` meets its contract: the lists are ordered, then placed, and what is found so is the packed file. Assumes nothing.
 use mathlib.Core.Path.{_∙_}
 use mathlib.Core.List.{List}
 use Prim.Native.Nat.{ℕ}

@@ -1,4 +1,4 @@
--- `call::write_packed_head` meets its contract: the mirror is laid behind what every file begins with. By the header's law. Assumes nothing.
+-- `pack::call::write_packed_head` meets its contract: the mirror is laid behind what every file begins with. By the header's law. Assumes nothing.
 use native.Mathlib.Omega.{arith}
 use borrow.Author.Needs.{needs}
 use Rattle.pack.proofs.Heads.{mark-at, mark-inside, head-marked}

@@ -1,4 +1,4 @@
--- `call::write_prepared` meets its contract: header, sizes and lists are laid one behind the other, and together they are the file. Assumes nothing.
+-- `pack::call::write_prepared` meets its contract: header, sizes and lists are laid one behind the other, and together they are the file. Assumes nothing.
 use mathlib.Core.Path.{_≡_, refl, sym, ap, _∙_}
 use mathlib.Core.List.{List, _++_}
 use Prim.Native.Nat.{ℕ, suc, _+_, _≤_}

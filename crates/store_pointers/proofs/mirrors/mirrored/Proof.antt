@@ -1,4 +1,4 @@
--- `pointers::mirrors::mirrored` meets its contract: its eight pointers are those of the mirrored cell, place by place.
+-- `store_pointers::mirrors::mirrored` meets its contract: its eight pointers are those of the mirrored cell, place by place.
 -- By the definition, written out. Assumes nothing.
 use Rattle.paper.specs.Numbers.{tabulate}
 use Rattle.store_pointers.specs.Mirrored.{mirroredCell}

@@ -1,4 +1,4 @@
--- `pointers::mirrors::mirrored_at` meets its contract: the pointer is read at place (i xor mirror), which is below 8.
+-- `store_pointers::mirrors::mirrored_at` meets its contract: the pointer is read at place (i xor mirror), which is below 8.
 -- By the exclusive or of two numbers below 8. Assumes nothing.
 use native.Mathlib.Omega.{arith}
 use Rattle.laws.proofs.Eight.{xor8-lt}

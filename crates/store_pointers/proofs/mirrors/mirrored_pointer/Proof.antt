@@ -1,4 +1,4 @@
--- `pointers::mirrors::mirrored_pointer` meets its contract: none stays none, and else the tag changes and the number stays.
+-- `store_pointers::mirrors::mirrored_pointer` meets its contract: none stays none, and else the tag changes and the number stays.
 -- By the exclusive or of two numbers below 8, and the bound on a pointer's number. Assumes nothing.
 use mathlib.Core.Path.{sym, ap₂, subst, _∙_}
 use Prim.Native.Nat.{ℕ, _<_}

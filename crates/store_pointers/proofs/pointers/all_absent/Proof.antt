@@ -1,4 +1,4 @@
--- `pointers::pointers::all_absent` meets its contract. The invariant: no child from i on is there, so the answer is that of the children below i.
+-- `store_pointers::pointers::all_absent` meets its contract. The invariant: no child from i on is there, so the answer is that of the children below i.
 -- The measure is i. Assumes nothing.
 use mathlib.Core.Path.{_≡_, refl, sym}
 use mathlib.Core.Bool.{Bool}

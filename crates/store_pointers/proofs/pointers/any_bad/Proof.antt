@@ -1,4 +1,4 @@
--- `pointers::pointers::any_bad` meets its contract. The invariant: what is gathered is whether one of the first i pointers is bad.
+-- `store_pointers::pointers::any_bad` meets its contract. The invariant: what is gathered is whether one of the first i pointers is bad.
 -- The measure is how many are left. Assumes nothing.
 use mathlib.Core.Path.{_≡_, refl, ap, _∙_}
 use mathlib.Core.Bool.{Bool}

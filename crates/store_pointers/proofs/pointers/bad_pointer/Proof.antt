@@ -1,4 +1,4 @@
--- `pointers::pointers::bad_pointer` meets its contract: the code's tests are those of the definition, in order.
+-- `store_pointers::pointers::bad_pointer` meets its contract: the code's tests are those of the definition, in order.
 -- Each way is computed at the tests passed. Assumes nothing.
 use borrow.Author.Tests.{eq-eqb, ne-eqb, le-leb, lt-leb}
 use Rattle.paper.specs.Store.{lowOf}

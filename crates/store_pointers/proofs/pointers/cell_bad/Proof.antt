@@ -1,4 +1,4 @@
--- `pointers::pointers::cell_bad` meets its contract: a cell is usable if it has a child and no bad pointer.
+-- `store_pointers::pointers::cell_bad` meets its contract: a cell is usable if it has a child and no bad pointer.
 -- Each way is one of the ways through that test. Assumes nothing.
 use mathlib.Core.Path.{sym, ap, _∙_}
 use mathlib.Core.Bool.{not, Bool·not-not}
