@@ -40,8 +40,15 @@
  * 'On a store of these calls' below means: words in which rooms_new was accepted and which since then only rooms_new and
  * rooms_add have written, as their store, lent with all words of its capacity each time.
  *
- * Nothing is promised of time. A box whose faces lie off the grid can enter each cell that they cut. A sight line steps over
- * an empty cell at once, however large, and goes through leaves voxel by voxel.
+ * 'The whole store is tested' below means that 2 is given unless the header is in range and all words of its capacity are
+ * lent; each scene held has a depth of 2 to 16 and a root that is none or a kept cell; no kept leaf is 0; each kept inner
+ * cell, of height 3 and up, has a child, each of its pointers is none or leads to a kept cell, and the solid count kept with
+ * it is the sum of its children's counts, a leaf's being its ones (as whole numbers: nothing wraps); all other words of its
+ * capacity are 0.
+ *
+ * Nothing is promised of time. A box enters no inner cell that lies wholly inside; one whose faces lie off the grid can enter
+ * each cell that they cut. A sight line steps over an empty cell at once, however large, and goes through leaves voxel by
+ * voxel.
  */
 #ifndef ROOMS_H
 #define ROOMS_H
@@ -77,8 +84,11 @@ extern "C" {
 #define ROOMS_MAX_SCENES 64u
 #define ROOMS_MAX_CAPACITY 65536u
 
-/* Words of a store that keeps up to `capacity` cells at each height, 1 to ROOMS_MAX_CAPACITY. */
-#define ROOMS_STORE_WORDS(capacity) ((size_t)160 + (size_t)114 * (size_t)(capacity))
+/*
+ * Words of a store that keeps up to `capacity` cells at each height, 1 to ROOMS_MAX_CAPACITY: a header of 32, 64 scenes of 2,
+ * then for each height `capacity` cells, leaves of 2 words and inner cells of 10: eight pointers and the solid count.
+ */
+#define ROOMS_STORE_WORDS(capacity) ((size_t)160 + (size_t)142 * (size_t)(capacity))
 
 /* Words of scratch that rooms_pack takes for a store of this capacity. */
 #define ROOMS_PACK_SCRATCH_WORDS(capacity) ((size_t)60 * (size_t)(capacity))
@@ -108,8 +118,8 @@ extern "C" {
 uint32_t rooms_new(uint32_t *store, size_t store_words, uint32_t capacity);
 
 /*
- * Add the room of an outline file: its cells are merged into those kept. *scene is the scene's number: how many were held
- * before it. An empty room, and one added twice, takes a number too.
+ * Add the room of an outline file: its cells are merged into those kept, each new inner cell with its solid count. *scene is
+ * the scene's number: how many were held before it. An empty room, and one added twice, takes a number too.
  * Refusals, in order: 2 (the whole store is tested), 3, 4, 5, 6 (the file), 7, 8. The store is then as it was.
  * On a store of these calls 2 is never given, and 8, if nothing before it, exactly where at some height the scenes held and
  * this one have more differing cells, images counted once, than the capacity.
@@ -149,8 +159,12 @@ uint32_t rooms_cell(const uint32_t *store, size_t store_words, uint32_t scene, u
 
 /*
  * Box: *count is the number of solid voxels from low up to, and not with, high on each axis; 0 where they agree on an axis.
- * Refusals: as for a voxel; 10 where on any axis low is above high, or high is above the edge 2^D. The last 2 is given
- * only for pointers to children that share a voxel with the box.
+ * Of each inner cell, height 3 and up, that lies wholly inside, the whole room too, the solid count kept with it is taken, and
+ * nothing below it is looked at; a leaf is always read. On a store of these calls all counts are true. On any other *count
+ * is the sum of the counts taken and of the solid voxels of the leaves read.
+ * Refusals: as for a voxel; 10 where on any axis low is above high, or high is above the edge 2^D. The last 2 is given for a
+ * count taken that is above 8^h at height h, and, in a cell entered, for bad pointers to children that share a voxel with
+ * the box, and for no others.
  */
 uint32_t rooms_box(const uint32_t *store, size_t store_words, uint32_t scene, uint32_t low_x, uint32_t low_y,
                    uint32_t low_z, uint32_t high_x, uint32_t high_y, uint32_t high_z, uint64_t *count);

@@ -39,7 +39,7 @@ fn answer<T>(number: u32, value: T) -> Answer<T> {
 
 /// The words of a store of this capacity, and the words of scratch that packing takes.
 pub fn store_words(capacity: u32) -> usize {
-    160 + 114 * capacity as usize
+    160 + 142 * capacity as usize
 }
 
 pub fn pack_words(capacity: u32) -> usize {

@@ -204,7 +204,7 @@ pub fn print(all: &Measured) {
 
 fn sizes(all: &Measured) {
     println!("\n## Sizes\n");
-    println!("Cells: kept with images once (store), with equal cells once (graph), without sharing (octree). Bytes: 8 a leaf, 32 an inner cell.\n");
+    println!("Cells: kept with images once (store), with equal cells once (graph), without sharing (octree). Bytes: 8 a leaf, 32 an inner cell (store 40: its solid count too).\n");
     print_head(&[
         "room",
         "solid voxels",

@@ -15,7 +15,7 @@ fn header_bad(store: &[u32]) -> bool {
     }
     let capacity = store[0];
     !(1..=65536).contains(&capacity)
-        || store.len() < 160 + 114 * capacity as usize
+        || store.len() < 160 + 142 * capacity as usize
         || store[1] > 64
         || store[2..17].iter().any(|&kept| kept > capacity)
         || store[17..32].iter().any(|&word| word != 0)
@@ -47,7 +47,7 @@ pub fn voxel<const TESTS: bool>(
     while h > 2 && p != 0 {
         mirror ^= p >> 29;
         let number = (p & 0x1FFF_FFFF) as usize - 1;
-        let at = 160 + 2 * capacity + 8 * ((h as usize - 3) * capacity + number);
+        let at = 160 + 2 * capacity + 10 * ((h as usize - 3) * capacity + number);
         let cell: &[u32; 8] = store[at..at + 8].try_into().unwrap();
         h -= 1;
         if TESTS && cell.iter().any(|&p| bad(store[h as usize], p)) {

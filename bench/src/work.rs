@@ -225,7 +225,7 @@ impl Subject<'_> {
         let leaves = differing[2] as usize;
         let cells = differing[3..].iter().sum::<u32>() as usize;
         tell("store", "cells kept", leaves + cells);
-        tell("store", "bytes", 8 * leaves + 32 * cells);
+        tell("store", "bytes", 8 * leaves + 40 * cells);
         tell("store", "capacity", self.store[0] as usize);
         tell("store", "lent bytes", 4 * self.store.len());
         tell("store", "packed bytes", self.packed.len());

@@ -53,7 +53,7 @@ struct argument {
 };
 
 /* Elements of each memory. No number given is greater, so that any pointer may be lent with any of them as its length. */
-#define SIZE 1200
+#define SIZE 1400
 
 #define SLICES 5 /* of words */
 #define MOST 13  /* arguments of a call */
@@ -489,6 +489,24 @@ static void put_store(const uint8_t *file, size_t length)
     }
 }
 
+/* Where the ten words of an inner cell are: eight pointers, then its solid count, high and low. */
+static size_t cell_at(size_t height, size_t number)
+{
+    return 160 + 2 * CAPACITY + 10 * ((height - 3) * CAPACITY + number);
+}
+
+/* What a call that tests the whole store of `sample` refuses besides: an unused word, a count that is not the sum of its children's. */
+static void refused_whole(void)
+{
+    refused_word(STORE - 1, 1, ROOMS_DAMAGED_STORE);
+    refused_word(cell_at(3, 1) + 8, 1, ROOMS_DAMAGED_STORE); /* the count words of a cell that is not kept */
+    refused_word(cell_at(3, 1) + 9, 1, ROOMS_DAMAGED_STORE);
+    refused_word(cell_at(3, 0) + 8, 1, ROOMS_DAMAGED_STORE); /* 2^32 + 2, where 2 is due */
+    refused_word(cell_at(3, 0) + 9, 1, ROOMS_DAMAGED_STORE);
+    refused_word(cell_at(3, 0) + 9, 3, ROOMS_DAMAGED_STORE);
+    refused_word(161, 3, ROOMS_DAMAGED_STORE); /* the leaf has a voxel more, and the cell has it twice */
+}
+
 /* What every call on a scene refuses: a short slice, a header out of range, a scene that is not there. */
 static void refused_store(void)
 {
@@ -527,6 +545,7 @@ static void try_add(void)
     after.words[0][161] = 1;                            /* leaf 0, its low word */
     after.words[0][160 + 2 * CAPACITY] = 1;             /* the cell: child 0 is leaf 0 */
     after.words[0][160 + 2 * CAPACITY + 1] = 0x20000001; /* child 1 is leaf 0 mirrored in x */
+    after.words[0][160 + 2 * CAPACITY + 9] = 2;         /* its solid count, the low word */
     after.words[1][0] = 1;                              /* *scene */
     accepted("the sample as scene 1");
     orders();
@@ -537,6 +556,9 @@ static void try_add(void)
     refused(whole("file_bytes", sizeof sample - 1), ROOMS_BAD_LENGTH);
     refused_byte(5, 17, ROOMS_BAD_DEPTH, 0);
     refused_byte(6, 0, ROOMS_BROKEN_RULES, 0);
+    put_store(sample, sizeof sample);
+    refused_whole();
+    put_store_by_hand(CAPACITY);
     for (size_t i = 0; i < ROOMS_MAX_SCENES; i++) {
         before.words[0][32 + 2 * i] = 2;
     }
@@ -618,7 +640,7 @@ static void seen(uint32_t blocked, uint32_t x, uint32_t y, uint32_t z, const cha
 
 static void try_sight(void)
 {
-    const size_t root = 160 + 2 * CAPACITY + 2 * 8 * CAPACITY; /* where the pointers of the one cell of height 5 are */
+    const size_t root = cell_at(5, 0);
     static const char *const ends[] = {"from_x", "from_y", "from_z", "to_x", "to_y", "to_z"};
     begin("rooms_sight", call_sight);
     put_store(row, sizeof row);
@@ -668,6 +690,61 @@ static void try_cell(void)
     refused(whole("z", 8), ROOMS_OUTSIDE);
 }
 
+/* The box's corners. */
+static void corners_at(uint32_t low_x, uint32_t low_y, uint32_t low_z, uint32_t high_x, uint32_t high_y, uint32_t high_z)
+{
+    change(whole("low_x", low_x));
+    change(whole("low_y", low_y));
+    change(whole("low_z", low_z));
+    change(whole("high_x", high_x));
+    change(whole("high_y", high_y));
+    change(whole("high_z", high_z));
+}
+
+/* The box has so many solid voxels. */
+static void counted(uint64_t solid, const char *what)
+{
+    memcpy(&after, &before, sizeof after);
+    after.wide[0] = solid;
+    accepted(what);
+}
+
+/* Counts kept in the store of `pair`: the root's, cell 0 of height 4, and that of its child 0, cell 0 of height 3. */
+static void try_counts(void)
+{
+    uint32_t *root = before.words[0] + cell_at(4, 0), *child = before.words[0] + cell_at(3, 0);
+    corners_at(0, 0, 0, 16, 16, 16);
+    counted(2, "the whole room");
+    root[7] = 9;
+    counted(2, "the same with a bad pointer in the root, which is not entered");
+    corners_at(0, 0, 0, 15, 16, 16);
+    refused_so(ROOMS_DAMAGED_STORE);
+    root[7] = 2;
+    counted(2, "all but the last voxels along x");
+    root[9] = 4096;
+    counted(2, "the same, and the count of a cell entered is not looked at");
+    corners_at(0, 0, 0, 16, 16, 16);
+    counted(4096, "the most that a cell of height 4 can have");
+    root[9] = 4097;
+    refused_so(ROOMS_DAMAGED_STORE);
+    root[8] = 1;
+    root[9] = 2;
+    refused_so(ROOMS_DAMAGED_STORE); /* 2^32 + 2 */
+    root[8] = 0;
+    corners_at(0, 0, 0, 8, 8, 8);
+    counted(1, "the root's child 0");
+    child[9] = 512;
+    counted(512, "the most that a cell of height 3 can have");
+    corners_at(0, 0, 0, 9, 11, 13);
+    counted(513, "that count, and the other voxel");
+    child[9] = 513;
+    refused_so(ROOMS_DAMAGED_STORE);
+    corners_at(0, 0, 0, 8, 8, 7);
+    counted(1, "the child is entered, and its leaf read");
+    corners_at(0, 0, 4, 4, 4, 8);
+    counted(1, "that leaf, wholly inside");
+}
+
 static void try_box(void)
 {
     begin("rooms_box", call_box);
@@ -692,6 +769,7 @@ static void try_box(void)
         accepted("a box of no voxels");
         change(whole(lows[axis], low[axis]));
     }
+    try_counts();
 }
 
 static void try_kept(void)
@@ -724,7 +802,7 @@ static void try_outline(void)
     accepted("the sample's outline");
     orders();
     refused_store();
-    refused_word(STORE - 1, 1, ROOMS_DAMAGED_STORE); /* an unused word */
+    refused_whole();
     refused(whole("out_bytes", sizeof sample - 1), ROOMS_OUTPUT_SHORT);
 }
 
@@ -740,7 +818,7 @@ static void try_pack(void)
     accepted("the sample packed");
     orders();
     refused_store();
-    refused_word(STORE - 1, 1, ROOMS_DAMAGED_STORE); /* an unused word */
+    refused_whole();
     refused(whole("scratch_words", scratch - 1), ROOMS_SCRATCH_SHORT);
     refused_scratch(whole("out_bytes", sizeof sample_packed - 1), ROOMS_OUTPUT_SHORT, 0, scratch);
 }
@@ -883,7 +961,7 @@ static void is(const char *what, uint32_t got, uint32_t due)
 static void try_greatest(void)
 {
     const size_t most = ROOMS_STORE_WORDS(ROOMS_MAX_CAPACITY);
-    uint32_t *store = malloc((most + 114) * sizeof *store);
+    uint32_t *store = malloc((most + 142) * sizeof *store);
     if (store == NULL) {
         is("no memory for the greatest store", 1, 0);
         return;
@@ -893,7 +971,7 @@ static void try_greatest(void)
     is("its last word", store[most - 1], 0);
     is("the word behind it", store[most], 7);
     is("one word too few", rooms_new(store, most - 1, ROOMS_MAX_CAPACITY), ROOMS_BAD_SIZE);
-    is("a greater capacity", rooms_new(store, most + 114, ROOMS_MAX_CAPACITY + 1), ROOMS_BAD_SIZE);
+    is("a greater capacity", rooms_new(store, most + 142, ROOMS_MAX_CAPACITY + 1), ROOMS_BAD_SIZE);
     free(store);
 }
 

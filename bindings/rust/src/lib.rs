@@ -4,6 +4,9 @@
 //! theirs once, mirror images included. Any words and bytes may be passed, of any length: a call answers, or names its refusal.
 //! A refused call leaves store and output as they were. Nothing is allocated and nothing kept between calls.
 //!
+//! 'The whole store is tested' below: the header, every scene held, every kept cell (not empty, no bad pointer, its solid count the
+//! sum of its children's, a leaf's being its ones), and that all other words are 0.
+//!
 //! ```
 //! let mut store = [0; rooms::store_words(32)];
 //! rooms::new_store(&mut store, 32)?;
@@ -25,9 +28,10 @@ pub const MAX_DEPTH: u32 = 16;
 pub const MAX_SCENES: u32 = 64;
 pub const MAX_CAPACITY: u32 = 65_536;
 
-/// Words of a store that keeps up to `capacity` cells at each height, 1 to `MAX_CAPACITY`.
+/// Words of a store that keeps up to `capacity` cells at each height, 1 to `MAX_CAPACITY`: leaves of 2 words, other cells of 10, eight
+/// pointers and the solid count.
 pub const fn store_words(capacity: u32) -> usize {
-    160 + 114 * capacity as usize
+    160 + 142 * capacity as usize
 }
 
 /// Words of scratch that `pack` takes for a store of this capacity.
@@ -93,8 +97,10 @@ pub fn cell(store: &[u32], scene: u32, height: u32, x: u32, y: u32, z: u32) -> R
     accepted(number, full == 1)
 }
 
-/// The number of solid voxels from the low corner up to the high one, which is outside. Refusals: as for a voxel, where only pointers to children that share a
-/// voxel with the box count; `Outside` where on any axis low is above high, or high above the edge.
+/// The number of solid voxels from the low corner up to the high one, which is outside. Of each cell of height 3 and up that lies wholly
+/// inside, the whole room too, the solid count kept with it is taken, and nothing below it is looked at; a leaf is always read.
+/// Refusals: as for a voxel; `Outside` where on any axis low is above high, or high above the edge. The last `DamagedStore` is given for
+/// a count taken that is above 8^h at height h, and, in a cell entered, for bad pointers to children that share a voxel with the box.
 pub fn box_count(store: &[u32], scene: u32, low: [u32; 3], high: [u32; 3]) -> Result<u64, Refusal> {
     let mut count = 0;
     let number = c::rooms_box(store, scene, low, high, &mut count);

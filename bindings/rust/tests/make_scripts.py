@@ -1,7 +1,7 @@
 #!/usr/bin/env python3
 """Makes seven scripts of calls in crates/replay_scripts/data: questions, adding, packing, far, opening, changes and rules.
 
-The other scripts there came with document 01. What all of them must print is what the twin prints: tests/twin/play.rs. The commands
+The other scripts there came with documents 01 and 02. What all of them must print is what the twin prints: tests/twin/play.rs. The commands
 are those of docs/replay.md.
 """
 
@@ -25,7 +25,7 @@ def new(capacity, words):
 
 
 def used(capacity):
-    return 160 + 114 * capacity
+    return 160 + 142 * capacity
 
 
 def fresh(capacity, spare=3):
@@ -158,8 +158,22 @@ def pointer(tag, number):
     return tag << 29 | number + 1
 
 
+def place(capacity, height, number):
+    """Where the ten words of an inner cell are: eight pointers, then its solid count, high and low."""
+    return 160 + 2 * capacity + 10 * ((height - 3) * capacity + number)
+
+
+def counts_of(leaves, lists):
+    """The solid count of each cell, by height and number; a pointer to no cell adds nothing."""
+    counts = {(2, n): bits.bit_count() for n, bits in enumerate(leaves)}
+    for h in sorted(lists):
+        for n, pointers in enumerate(lists[h]):
+            counts[h, n] = sum(counts.get((h - 1, (p & 2**29 - 1) - 1), 0) for p in pointers)
+    return counts
+
+
 def by_hand(capacity, scenes, leaves, lists, spare=2):
-    """A store written word by word; lists: for each height its cells."""
+    """A store written word by word, its counts true; lists: for each height its cells."""
     script = fresh(capacity, spare)
     script += word(1, len(scenes)) + word(2, len(leaves))
     for h in lists:
@@ -168,11 +182,13 @@ def by_hand(capacity, scenes, leaves, lists, spare=2):
         script += word(32 + 2 * i, depth) + word(33 + 2 * i, root)
     for i, bits in enumerate(leaves):
         script += word(160 + 2 * i, bits >> 32) + word(161 + 2 * i, bits)
+    counts = counts_of(leaves, lists)
     for h in lists:
         for n, pointers in enumerate(lists[h]):
-            for j, p in enumerate(pointers):
+            count = counts[h, n]
+            for j, p in enumerate([*pointers, count >> 32, count & MOST]):
                 if p:
-                    script += word(160 + 2 * capacity + 8 * capacity * (h - 3) + 8 * n + j, p)
+                    script += word(place(capacity, h, n) + j, p)
     return script
 
 
@@ -184,10 +200,10 @@ def questions():
     script = b""
     # before the first new store: a slice of no words
     script += voxel(0, 0, 0, 0) + cell(0, 0, 0, 0, 0) + box(0, (0, 0, 0), (0, 0, 0)) + kept(2) + outline_out(0, 10) + STORE_SUM
-    for words in (0, 1, 31, 32, 159, 160, 273, 274):
+    for words in (0, 1, 31, 32, 159, 160, 301, 302):
         script += new(1, words) + voxel(0, 0, 0, 0) + kept(2) + box(0, (0, 0, 0), (0, 0, 0)) + cell(0, 0, 0, 0, 0) + outline_out(0, 8)
-    for c in (0, 1, 2, 1148, 1149, 65535, 65536, 65537, MOST):
-        script += new(c, 300) + new(c, 131072) + new(c, min(131072, 160 + 114 * c)) + new(c, min(131072, max(0, 159 + 114 * c)))
+    for c in (0, 1, 2, 921, 922, 65535, 65536, 65537, MOST):
+        script += new(c, 330) + new(c, 131072) + new(c, min(131072, used(c))) + new(c, min(131072, used(c) - 1))
 
     base = by_hand(
         2,
@@ -219,15 +235,28 @@ def questions():
     for s in (0, 1, 2, 4, 5):
         few += voxel(s, 0, 0, 0) + voxel(s, 9, 0, 0) + cell(s, 2, 0, 0, 0)
         few += box(s, (0, 0, 0), (4, 4, 4)) + box(s, (4, 4, 4), (8, 8, 8)) + box(s, (3, 3, 3), (2, 9, 9)) + outline_out(s, 300)
+        few += box(s, (0, 0, 0), (8, 8, 8)) + box(s, (0, 0, 0), (16, 16, 16)) + box(s, (8, 8, 8), (16, 16, 16))
     few += kept(2) + kept(1)
     header = [(0, 0), (0, 1), (0, 3), (0, 65537), (1, 65), (1, MOST), (2, 3), (16, 3), (16, 2), (17, 1), (31, 1)]
     scenes = [(32, 1), (32, 17), (32, MOST), (33, 0x20000000), (33, pointer(0, 2)), (35, pointer(0, 5)), (36, 1), (37, pointer(1, 2))]
     unused = [(42, 1), (159, 1)]
     leaves = [(160, 0), (162, 0), (163, 0)]
-    cells = [(164, 0x20000000), (164, pointer(0, 2)), (165, pointer(0, 7)), (167, pointer(0, 2**29 - 2)), (171, 1), (172, 0)]
-    cells += [(180, pointer(0, 2)), (180, 0x40000000), (187, pointer(0, 3)), (188, 1), (387, 1), (388, 1), (389, 77)]
-    for at, n in header + scenes + unused + leaves + cells:
+    first, second, above, end = place(2, 3, 0), place(2, 3, 1), place(2, 4, 0), used(2)
+    cells = [(first, 0x20000000), (first, pointer(0, 2)), (first + 1, pointer(0, 7)), (first + 3, pointer(0, 2**29 - 2))]
+    cells += [(first + 7, 1), (second, 0), (above, pointer(0, 2)), (above, 0x40000000), (above + 7, pointer(0, 3))]
+    cells += [(above + 10, 1), (end - 1, 1), (end, 1), (end + 1, 77)]
+    # counts: the first cell has 68, the second 16, the one above them 152
+    counts = [(first + 9, 67), (first + 9, 69), (first + 9, 512), (first + 9, 513), (first + 8, 1), (second + 9, 0), (second + 8, MOST)]
+    counts += [(above + 9, 151), (above + 9, 4096), (above + 9, 4097), (above + 8, 1), (above + 18, 1), (above + 19, 1), (end - 2, 1)]
+    for at, n in header + scenes + unused + leaves + cells + counts:
         script += base + word(at, n) + few + STORE_SUM
+    # the words of a count exchanged; a wrong count below, and the one above summed up from it; a sum that is right modulo 2^64 only
+    pairs = [[(first + 8, 68), (first + 9, 0)], [(above + 8, 152), (above + 9, 0)], [(second + 9, 17), (above + 9, 153)]]
+    pairs += [[(first + 8, 2**31), (first + 9, 0), (above + 9, 16)]]
+    for words in pairs:
+        script += base + b"".join(word(at, n) for at, n in words) + few + STORE_SUM
+    # a bad pointer below a count taken
+    script += base + word(above + 1, pointer(0, 3)) + word(second, pointer(0, 3)) + few + STORE_SUM
 
     # empty used cells answer as empty in questions, and are damage for outline out
     script += by_hand(2, [(2, pointer(0, 0)), (3, pointer(0, 0))], [0], {3: [[0] * 8]})
@@ -383,7 +412,7 @@ def packing():
 def far():
     """A record at place 8,191 (named short), and in another room one at 8,192 (named long), at height 3."""
     random.seed(77)
-    capacity = 1000
+    capacity = 920
     leaves = [random.getrandbits(64) | 1 for _ in range(60)]
 
     def part(n):
@@ -403,8 +432,8 @@ def far():
 
     script = b""
     for last in (2, 3):
-        parts = [part(8) for _ in range(908)] + [part(7), part(7), part(last)] + [part(8) for _ in range(12)]
-        script += new(capacity, used(capacity)) + add(raw(7, build(parts[::-1], 7))) + pack(0, 60000, 65536)
+        parts = [part(8) for _ in range(908)] + [part(7), part(7), part(last)] + [part(8) for _ in range(8)]
+        script += new(capacity, used(capacity)) + add(raw(7, build(parts[::-1], 7))) + pack(0, 60 * capacity, 65536)
         for h in range(2, 8):
             script += kept(h)
         for point in some_voxels(7, 40):

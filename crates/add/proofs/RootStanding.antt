@@ -60,7 +60,7 @@ module _ (ws file : List ℕ) (lent : Lent ws file) where
 
   pub again : wordsWith setting K ≡ ws
   unfolding storeOf
-  again = wordsOf-storeOf ws sane
+  again = wordsOf-storeOf ws sane (lent .words)
 
   abbrev pub Standing : Adding ℕ → RecordAdding → Type 0
   Standing a o = Stands setting K (D - 2) [] a o
@@ -102,10 +102,10 @@ module _ (ws file : List ℕ) (lent : Lent ws file) where
   unfolding readRoot
   nothing-read e = rw (drop-of-length-le file {i = outlineHead} (omega arith))
 
-  none-stands : length file ≡ outlineHead → Standing (addTree (capacityOf ws) (treeRead (outlineRead file)) (D - 2) K) (recordAdding (At outlineHead 0 0) ws)
+  none-stands : length file ≡ outlineHead → Standing (addTree (capacityOf ws) (treeRead (outlineRead file)) (D - 2) K) (recordAdding (At outlineHead 0 0 0) ws)
   unfolding addTree
   none-stands e =
-      subst (λ (r : Read Tree). Standing (addTree (capacityOf ws) (treeRead r) (D - 2) K) (recordAdding (At outlineHead 0 0) ws)) (sym (nothing-read e))
+      subst (λ (r : Read Tree). Standing (addTree (capacityOf ws) (treeRead r) (D - 2) K) (recordAdding (At outlineHead 0 0 0) ws)) (sym (nothing-read e))
       (record {
         same = refl;
         words = sym again;
@@ -113,6 +113,7 @@ module _ (ws file : List ℕ) (lent : Lent ws file) where
         grown = record { ext = ext-refl K; len = refl };
         okp = inl refl;
         symmetry = λ ne. absurd (ne refl);
+        solid = refl;
         ends = sym (drop-of-length-le file {i = outlineHead} (omega arith));
         within = omega arith;
       })
@@ -124,7 +125,7 @@ module _ (ws file : List ℕ) (lent : Lent ws file) where
   root-stands = go (eqb (length file) outlineHead) refl
     where
       go : (b : Bool) → eqb (length file) outlineHead ≡ b
-          → Standing (addTree (capacityOf ws) (treeRead (outlineRead file)) (D - 2) K) (cond b (recordAdding (At outlineHead 0 0) ws) (addRecord file (D - 2) outlineHead ws))
+          → Standing (addTree (capacityOf ws) (treeRead (outlineRead file)) (D - 2) K) (cond b (recordAdding (At outlineHead 0 0 0) ws) (addRecord file (D - 2) outlineHead ws))
       go true e = none-stands (eqb-true (length file) outlineHead e)
       go false e = some-stands (omega (arith, file-long file (lent .ready .fair), eqb-false (length file) outlineHead e))
 

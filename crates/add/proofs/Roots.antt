@@ -46,7 +46,7 @@ module _ (file : List ℕ) (fair : firstOf (outlineOrder file) ≡ 0) where
 -- ---- the two ways
 
 module _ (file ws : List ℕ) where
-  pub root-none : length file ≡ outlineHead → addRoot file ws ≡ recordAdding (At outlineHead 0 0) ws
+  pub root-none : length file ≡ outlineHead → addRoot file ws ≡ recordAdding (At outlineHead 0 0 0) ws
   unfolding addRoot
   root-none e = rw e
 

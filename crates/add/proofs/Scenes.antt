@@ -67,8 +67,8 @@ module _ (ws file : List ℕ) (lent : Lent ws file) where
       ap (λ (a : Adding ℕ). over (wordsOf (withScene (storeOf ws) (nextScene ws) D a)) ws) e
       ∙ ap (λ (n : ℕ). wordsOf (storeWith C (suc N) (more p) K′) ++ drop n ws) (wordsOf-length C (suc N) (more p) K′ (scene-fine C N (g .places) K′ f (nextScene ws) (D ∷ p ∷ []) refl room))
 
-  module _ (next p m : ℕ) (v : List ℕ) (told-so : addRoot file ws ≡ recordAdding (At next p m) v) where
-    taken-as : (a : Adding ℕ) → adding ws file ≡ a → Standing ws file lent a (recordAdding (At next p m) v) → outcome (added-told (Scene (scenesHeld ws))) (holdIn (D ∷ p ∷ []) v ∷ []) ≡ addOutcome ws file
+  module _ (next p m n : ℕ) (v : List ℕ) (told-so : addRoot file ws ≡ recordAdding (At next p m n) v) where
+    taken-as : (a : Adding ℕ) → adding ws file ≡ a → Standing ws file lent a (recordAdding (At next p m n) v) → outcome (added-told (Scene (scenesHeld ws))) (holdIn (D ∷ p ∷ []) v ∷ []) ≡ addOutcome ws file
     unfolding addOutcome
     taken-as full e s = absurd s
     taken-as (added q K′) e s =
@@ -80,7 +80,7 @@ module _ (ws file : List ℕ) (lent : Lent ws file) where
     pub taken-outcome : outcome (added-told (Scene (scenesHeld ws))) (holdIn (D ∷ p ∷ []) v ∷ []) ≡ addOutcome ws file
     taken-outcome = taken-as (adding ws file) refl (stands-as ws file lent _ told-so)
 
-    ready-as : (a : Adding ℕ) → Standing ws file lent a (recordAdding (At next p m) v) → T (headerOk v) × (scenesHeld v < mostScenes)
+    ready-as : (a : Adding ℕ) → Standing ws file lent a (recordAdding (At next p m n) v) → T (headerOk v) × (scenesHeld v < mostScenes)
     ready-as full s = absurd s
     ready-as (added q K′) s =
         let f = s .good .fine in
@@ -107,7 +107,7 @@ module _ (ws file : List ℕ) (lent : Lent ws file) where
         let eight : firstOf (addOrder ws file) ≡ 8 = number full e in
         ap₂ (λ (l : List ℕ) (n : ℕ). outcome (told n (0 ∷ [])) (l ∷ []))
         (ap (cutBack ns) (s .words)
-        ∙ cut-stored C N (g .places) K (s .lists) (s .fine) (s .grown .ext) (good ws file lent .fine .lists) (g .behind) ns counted ∙ again ws file lent)
+        ∙ cut-stored C N (g .places) K (s .lists) (s .fine) (s .grown .ext) (good ws file lent .fine .lists) (g .behind) ns counted (good ws file lent .sound .ok) ∙ again ws file lent)
         (sym eight)
         ∙ sym (settled-refused (firstOf (addOrder ws file)) (nextScene ws ∷ []) (addWords ws file ∷ []) (ws ∷ []) (λ z. omega arith))
 

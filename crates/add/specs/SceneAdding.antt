@@ -22,4 +22,4 @@ pub record Ready (ws file : List ℕ) : Type 0 where
 unfoldable pub addRoot : List ℕ → List ℕ → RecordAdding
 addRoot file ws =
     let r = addRecord file (fileDepth file - 2) outlineHead ws in
-    cond (eqb (length file) outlineHead) (recordAdding (At outlineHead 0 0) ws) r
+    cond (eqb (length file) outlineHead) (recordAdding (At outlineHead 0 0 0) ws) r

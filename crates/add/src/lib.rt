@@ -31,7 +31,7 @@ fn add_root(file: &[u8], store: &mut [u32]) -> RecordAdded
     ensures { λ r. ⌜ recordAdding r (now (store .exit)) ≡ addRoot (now (file .entry)) (now (store .entry)) ⌝ }
 {
     if file.len() == OUTLINE_HEAD {
-        return RecordAdded::At(OUTLINE_HEAD, 0, 0);
+        return RecordAdded::At(OUTLINE_HEAD, 0, 0, 0);
     }
     add_record(file, store, OUTLINE_HEAD, depth(file))
 }
@@ -49,7 +49,7 @@ fn take_scene(file: &[u8], store: &mut [u32]) -> Added
             cut_back(store, before);
             Added::Refused(Refusal::CellsFull)
         }
-        RecordAdded::At(_, root, _) => {
+        RecordAdded::At(_, root, _, _) => {
             hold_scene(store, depth(file), root);
             Added::Scene(number)
         }

@@ -2,7 +2,7 @@
 -- compute. Assumes nothing.
 use mathlib.Core.Path.{_≡_, refl, sym, ap₂, _∙_}
 use mathlib.Core.Bool.{Bool, true, false, not}
-use mathlib.Core.List.{List}
+use mathlib.Core.List.{List, _++_}
 use mathlib.Core.Option.{Option, some}
 use mathlib.Core.Option as O
 use Prim.Native.Nat.{ℕ, _+_, _^_, _<_}
@@ -11,7 +11,7 @@ use native.Mathlib.Decide.{decLt}
 use lib.Dec.{T, eqb, leb, ltb, leb→le}
 use borrow.Author.Tests.{lt-ltb, le-ltb, le-leb, lt-leb, ltb-true, not-true, not-false}
 use Rattle.paper.specs.Leaf.{mirrorLeaf}
-use Rattle.paper.specs.Store.{Cell, cellsAt, pointer, mostCapacity, heights, capacityOf, keptCount, keptOf, headerOk}
+use Rattle.paper.specs.Store.{Cell, cellsAt, pointer, mostCapacity, heights, capacityOf, keptCount, twoWords, keptOf, headerOk}
 use Rattle.paper.specs.Match.{matches, find, leafCell}
 use Rattle.laws.specs.Symmetries.{symmetryFor, symmetryMatch}
 use Rattle.laws.proofs.Tests.{and-right}
@@ -33,8 +33,8 @@ room-test n C = go (decLt n C)
 pub some-room : (n C : ℕ) (b : Bool) → b ≡ not (ltb n C) → b ≡ false → n < C
 some-room n C b e t = ltb-true n C (not-false (ltb n C) (sym e ∙ t))
 
--- a cell or a leaf that is nowhere, by the test of room
-module _ (symmetry k : ℕ) (c : Cell) (ws : List ℕ) (b : Bool) (e : b ≡ not (ltb (keptCount ws k) (capacityOf ws))) where
+-- a cell or a leaf that is nowhere, of the words c, by the test of room
+module _ (symmetry k : ℕ) (c ws : List ℕ) (b : Bool) (e : b ≡ not (ltb (keptCount ws k) (capacityOf ws))) where
   pub keep-full : b ≡ true → cellAdding cellAdded.Full ws ≡ keptWith symmetry k c ws
   unfolding keptWith
   keep-full t = rw (not-true (ltb (keptCount ws k) (capacityOf ws)) (sym e ∙ t)) refl
@@ -43,7 +43,7 @@ module _ (symmetry k : ℕ) (c : Cell) (ws : List ℕ) (b : Bool) (e : b ≡ not
   unfolding keptWith
   keep-next t f g = rw (not-false (ltb (keptCount ws k) (capacityOf ws)) (sym e ∙ t)) (ap₂ (λ (q : ℕ) (m : List ℕ). cellAdding (cellAdded.At q symmetry) m) f g)
 
-module _ (symmetry k : ℕ) (c : Cell) (ws : List ℕ) where
+module _ (symmetry k : ℕ) (c ws : List ℕ) where
   -- found, as the search says
   pub found-at : (o : Option ℕ) (p : ℕ) → o ≡ some p → foundOr o symmetry k c ws ≡ cellAdding (cellAdded.At p symmetry) ws
   unfolding foundOr
@@ -59,10 +59,10 @@ pub leaf-by : (n : ℕ) (ws : List ℕ) (o : Option ℕ) (symmetry : ℕ) → o 
 unfolding addLeafIn
 leaf-by n ws o symmetry e f = ap₂ (λ (x : Option ℕ) (m : ℕ). foundOr x m 0 (leafCell n) ws) e f
 
-pub cell-by : (k : ℕ) (c : Cell) (ms ws : List ℕ) (o : Option ℕ) (symmetry : ℕ) → o ≡ find (symmetryMatch ms c) (cellsAt (keptOf ws) k) 0
-    → symmetry ≡ symmetryFor (symmetryMatch ms c c) → foundOr o symmetry k c ws ≡ addCellIn k c ms ws
+pub cell-by : (k : ℕ) (c : Cell) (ms : List ℕ) (n : ℕ) (ws : List ℕ) (o : Option ℕ) (symmetry : ℕ) → o ≡ find (symmetryMatch ms c) (cellsAt (keptOf ws) k) 0
+    → symmetry ≡ symmetryFor (symmetryMatch ms c c) → foundOr o symmetry k (c ++ twoWords n) ws ≡ addCellIn k c ms n ws
 unfolding addCellIn
-cell-by k c ms ws o symmetry e f = ap₂ (λ (x : Option ℕ) (m : ℕ). foundOr x m k c ws) e f
+cell-by k c ms n ws o symmetry e f = ap₂ (λ (x : Option ℕ) (m : ℕ). foundOr x m k (c ++ twoWords n) ws) e f
 
 -- ---- the next number of a list fits a pointer
 

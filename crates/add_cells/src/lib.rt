@@ -1,13 +1,14 @@
 // A cell is sought among those kept at its height, and kept if it is nowhere and there is room.
 ghost use mathlib.Core.Path.{_≡_};
 ghost use mathlib.Core.Bool.{not};
+ghost use mathlib.Core.List.{_++_};
 ghost use Prim.Native.Nat.{_≤_, _<_};
 ghost use lib.Dec.{T, ltb};
-ghost use Rattle.paper.specs.Store.{heights, capacityOf, keptCount, headerOk, pointer as paperPointer};
+ghost use Rattle.paper.specs.Store.{heights, capacityOf, keptCount, twoWords, headerOk, pointer as paperPointer};
 ghost use Rattle.add_cells.specs.CellAdding.{cellAdding, keptWith, addLeafIn, addCellIn};
 use add_keep::keep_cell;
 use add_keep::keep_leaf;
-use add_keep::leaf_words;
+use add_keep::two_words;
 use add_seek::Sought;
 use add_seek::cell_symmetry;
 use add_seek::find_cell;
@@ -54,17 +55,17 @@ fn keep_leaf_in(store: &mut [u32], leaf: [u32; 2], symmetry: u8) -> CellAdded
     CellAdded::At(p, symmetry)
 }
 
-// A cell of list k, k not 0, that is nowhere is kept, if there is room.
-fn keep_cell_in(store: &mut [u32], k: u32, cell: [u32; 8], symmetry: u8) -> CellAdded
+// A cell of list k, k not 0, with so many solid voxels, that is nowhere is kept, if there is room.
+fn keep_cell_in(store: &mut [u32], k: u32, cell: [u32; 8], symmetry: u8, solid: u64) -> CellAdded
     requires { ⌜ T (headerOk (now store)) ⌝ }
     requires { ⌜ (1 ≤ k) × (k < heights) ⌝ }
-    ensures { λ r. ⌜ cellAdding r (now (store .exit)) ≡ keptWith symmetry k cell (now (store .entry)) ⌝ }
+    ensures { λ r. ⌜ cellAdding r (now (store .exit)) ≡ keptWith symmetry k (cell ++ twoWords solid) (now (store .entry)) ⌝ }
 {
     if no_room(store, k) {
         return CellAdded::Full;
     }
     let p = next_pointer(store, k);
-    keep_cell(store, k, cell);
+    keep_cell(store, k, cell, solid);
     CellAdded::At(p, symmetry)
 }
 
@@ -76,19 +77,25 @@ pub fn add_leaf_in(store: &mut [u32], leaf: u64) -> CellAdded
     let symmetry = leaf_symmetry(leaf);
     match find_leaf(store, leaf) {
         Sought::At(p) => CellAdded::At(p, symmetry),
-        Sought::Nowhere => keep_leaf_in(store, leaf_words(leaf), symmetry),
+        Sought::Nowhere => keep_leaf_in(store, two_words(leaf), symmetry),
     }
 }
 
-// A cell of list k is sought, or kept; symmetries are those of the cells that its pointers name.
-pub fn add_cell_in(store: &mut [u32], k: u32, cell: [u32; 8], symmetries: [u8; 8]) -> CellAdded
+// A cell of list k is sought, or kept; symmetries are those of the cells that its pointers name, and solid is how many solid voxels it has.
+pub fn add_cell_in(
+    store: &mut [u32],
+    k: u32,
+    cell: [u32; 8],
+    symmetries: [u8; 8],
+    solid: u64,
+) -> CellAdded
     requires { ⌜ T (headerOk (now store)) ⌝ }
     requires { ⌜ (1 ≤ k) × (k < heights) ⌝ }
-    ensures { λ r. ⌜ cellAdding r (now (store .exit)) ≡ addCellIn k cell symmetries (now (store .entry)) ⌝ }
+    ensures { λ r. ⌜ cellAdding r (now (store .exit)) ≡ addCellIn k cell symmetries solid (now (store .entry)) ⌝ }
 {
     let symmetry = cell_symmetry(cell, symmetries);
     match find_cell(store, k, cell, symmetries) {
         Sought::At(p) => CellAdded::At(p, symmetry),
-        Sought::Nowhere => keep_cell_in(store, k, cell, symmetry),
+        Sought::Nowhere => keep_cell_in(store, k, cell, symmetry, solid),
     }
 }

@@ -1,19 +1,22 @@
 -- On the words of a store: lists cut back to a front part of each give the words of the store with those front parts.
--- By zeros stored over the words of the cells cut, in the list's region, and induction on the lists. Assumes nothing.
+-- By zeros stored over the rows of the cells cut, in the list's region, and induction on the lists. On the way the cells above still have the counts
+-- that all cells gave; at the end each has its own again. Assumes nothing.
 use mathlib.Core.Path.{_≡_, refl, sym, subst, ap, ap₂, _∙_}
-use mathlib.Core.List.{List, [], _∷_, _++_, append-assoc, append-nil}
+use mathlib.Core.List.{List, [], _∷_, _++_, map, append-assoc, append-nil}
 use Prim.Native.Nat.{ℕ, zero, suc, _+_, _-_, _*_, _≤_, _<_}
 use native.Mathlib.Nat.{not-suc-le-zero, add-zero, zero-add, mul-comm}
 use native.Mathlib.Decide.{ℕ-discrete}
 use native.Mathlib.Omega.{arith}
-use lib.ListN.{length, getD, set, replicate, length-append, length-replicate, length-set, replicate-append-replicate}
+use lib.ListN.{length, getD, set, replicate, length-map, length-append, length-replicate, length-set, replicate-append-replicate}
 use lib.Seq.{sets, length-sets, set-append-left, set-comm, drop-length, getD-set-same, getD-set-other, ext-getD}
 use Rattle.paper.specs.Numbers.{tabulate, flatten}
-use Rattle.paper.specs.Store.{Cell, heights, keptCount, stride, listPosition, cellPosition, cellsAt, padded, wordsOf}
+use Rattle.paper.specs.Store.{Cell, heights, keptCount, cellLength, stride, listPosition, cellPosition, cellsAt, padded, rowOf}
 use Rattle.laws.proofs.Put.{sets-left, sets-right}
-use Rattle.laws.proofs.Lists.{getD-tabulate}
+use Rattle.laws.proofs.Lists.{getD-tabulate, map-append}
 use Rattle.laws.proofs.Padded.{flatten-append, Sized, snil, scons, flatten-length}
-use Rattle.laws.proofs.Words.{Lists, lnil, lcons, words-fit, Fine, storeWith, stored, wordsOf-length, list-words, cells-sized, cells-few, capacity-read, count-read}
+use Rattle.laws.proofs.Rows.{rows-sized, Lists, lnil, lcons, words-fit}
+use Rattle.laws.proofs.Words.{Fine, stored, countedBy, counted-own, counted-grown, length-by, list-by, capacity-by, count-by, cells-sized, cells-few, count-read}
+use Rattle.laws.proofs.Invariant.{OkCells}
 use Rattle.laws.proofs.Growing.{Extends, ext-length}
 use Rattle.add_keep.specs.Keeping.{cutList, cutLists, cutBack}
 use Rattle.add_keep.proofs.Headers.{past-header}
@@ -74,7 +77,7 @@ module _ {w : ℕ} (n : ℕ) (cs a b : List Cell) (s : Sized w cs) (e : cs ≡ a
 lists-cut : {C j : ℕ} {Ks : List (List Cell)} → Lists C j Ks → (m : ℕ) (a b : List Cell) → getD Ks m [] ≡ a ++ b → Lists C j (set Ks m a)
 lists-cut lnil m a b e = lnil
 lists-cut {C} {j} (lcons {cs = cs} r q t) zero a b e =
-    lcons (sized-front a b (subst (Sized (stride j)) e r)) (omega (arith, ap length e, length-append a b)) t
+    lcons (sized-front a b (subst (Sized (cellLength j)) e r)) (omega (arith, ap length e, length-append a b)) t
 lists-cut (lcons r q t) (suc m) a b e = lcons r q (lists-cut t m a b e)
 
 -- ---- the whole store
@@ -98,35 +101,46 @@ module _ (C N : ℕ) (S : List Cell) (Ks : List (List Cell)) (f : Fine C N S Ks)
   abbrev zeros : List ℕ
   zeros = replicate (stride k * length b) 0
 
-  -- the list's count, and zeros over the words of the cells cut
-  words-cut : wordsOf (storeWith C N S (set Ks k a)) ≡ sets (set (wordsOf (storeWith C N S Ks)) (2 + k) (length a)) (cellPosition C k (length a)) zeros
-  words-cut =
-      let cs : List Cell = cellsAt Ks k in
-      let w : ℕ = stride k in
-      let fit : length cs * w ≤ w * C = words-fit k (length cs) C (cells-few C N S Ks f k) in
-      let both : length cs * w ≡ (length a + length b) * w = ap (λ (n : ℕ). n * w) (both-lengths (w * C) cs a b (cells-sized C N S Ks f k h) e fit) in
-      let room : length a * w + length zeros ≤ w * C = rw (length-replicate {A = ℕ} (w * length b) 0, mul-comm w (length b)) (omega arith) in
-      list-words C N S Ks f k a (length a * w) zeros h
-      (padded-cut (w * C) cs a b (cells-sized C N S Ks f k h) e fit ∙ ap (λ (n : ℕ). sets (padded (w * C) cs) (length a * w) (replicate n 0)) (mul-comm (length b) w)) room
-      ∙ ap (λ (i : ℕ). sets (set (wordsOf (storeWith C N S Ks)) (2 + k) (length a)) (listPosition C k + i) zeros) (mul-comm (length a) w)
+  -- cells of the front part, and of the others
+  all-lengths : length (cellsAt Ks k) ≡ length a + length b
+  all-lengths = ap length e ∙ length-append a b
 
-  module _ (x : List ℕ) where
-    zeros-fit : cellPosition C k (length a) + length zeros ≤ length (wordsOf (storeWith C N S Ks))
-    zeros-fit =
-        let few : length a + length b ≤ C = omega (arith, cells-few C N S Ks f k, ap length e, length-append a b) in
-        simp length-replicate (omega (arith, wordsOf-length C N S Ks f, position-in C k (length a + length b) h few))
+  -- with the counts that lists G give
+  module _ (G : List (List Cell)) where
+    -- the list's count, and zeros over the rows of the cells cut
+    words-cut : countedBy G C N S (set Ks k a) ≡ sets (set (countedBy G C N S Ks) (2 + k) (length a)) (cellPosition C k (length a)) zeros
+    words-cut =
+        let cs : List Cell = cellsAt Ks k in
+        let w : ℕ = stride k in
+        let rows : List Cell → List (List ℕ) = map (rowOf G k) in
+        let sizes : Sized w (rows cs) = rows-sized G k (cells-sized C N S Ks f k h) in
+        let parts : rows cs ≡ rows a ++ rows b = ap rows e ∙ map-append (rowOf G k) a b in
+        let few : length cs * w ≤ w * C = words-fit k (length cs) C (cells-few C N S Ks f k) in
+        let fit : length (rows cs) * w ≤ w * C = rw (length-map cs (rowOf G k)) few in
+        let both : length cs * w ≡ (length a + length b) * w = ap (λ (n : ℕ). n * w) all-lengths in
+        let room : length a * w + length zeros ≤ w * C = rw (length-replicate {A = ℕ} (w * length b) 0, mul-comm w (length b)) (omega arith) in
+        list-by G C N S Ks f k a (length a * w) zeros h
+        (padded-cut (w * C) (rows cs) (rows a) (rows b) sizes parts fit
+        ∙ ap₂ (λ (i n : ℕ). sets (padded (w * C) (rows cs)) (i * w) (replicate n 0)) (length-map a (rowOf G k)) (ap (λ (n : ℕ). n * w) (length-map b (rowOf G k)) ∙ mul-comm (length b) w)) room
+        ∙ ap (λ (i : ℕ). sets (set (countedBy G C N S Ks) (2 + k) (length a)) (listPosition C k + i) zeros) (mul-comm (length a) w)
 
-    pub list-cut-stored : cutList k (length a) (stored C N S Ks x) ≡ stored C N S (set Ks k a) x
-    unfolding cutList
-    list-cut-stored =
-        let W : List ℕ = wordsOf (storeWith C N S Ks) in
-        let n : ℕ = length a in
-        let i : ℕ = cellPosition C k n in
-        let left : keptCount (stored C N S Ks x) k - n ≡ length b = omega (arith, count-read C N S Ks f x k h, ap length e, length-append a b) in
-        ap₂ (λ (D m : ℕ). set (sets (W ++ x) (cellPosition D k n) (replicate (stride k * m) 0)) (2 + k) n) (capacity-read C N S Ks f x) left
-        ∙ ap (λ (l : List ℕ). set l (2 + k) n) (sets-left zeros W x i zeros-fit)
-        ∙ set-append-left (sets W i zeros) x (2 + k) n (rw (length-sets W i zeros) (omega (arith, wordsOf-length C N S Ks f)))
-        ∙ ap (λ (l : List ℕ). l ++ x) (set-before zeros W i (2 + k) n (omega (arith, past-header C k n)) ∙ sym words-cut)
+    module _ (x : List ℕ) where
+      zeros-fit : cellPosition C k (length a) + length zeros ≤ length (countedBy G C N S Ks)
+      zeros-fit =
+          let few : length a + length b ≤ C = omega (arith, cells-few C N S Ks f k, all-lengths) in
+          simp length-replicate (omega (arith, length-by G C N S Ks f, position-in C k (length a + length b) h few))
+
+      pub list-cut-stored : cutList k (length a) (countedBy G C N S Ks ++ x) ≡ countedBy G C N S (set Ks k a) ++ x
+      unfolding cutList
+      list-cut-stored =
+          let W : List ℕ = countedBy G C N S Ks in
+          let n : ℕ = length a in
+          let i : ℕ = cellPosition C k n in
+          let left : keptCount (W ++ x) k - n ≡ length b = omega (arith, count-by G C N S Ks f x k h, all-lengths) in
+          ap₂ (λ (D m : ℕ). set (sets (W ++ x) (cellPosition D k n) (replicate (stride k * m) 0)) (2 + k) n) (capacity-by G C N S Ks f x) left
+          ∙ ap (λ (l : List ℕ). set l (2 + k) n) (sets-left zeros W x i zeros-fit)
+          ∙ set-append-left (sets W i zeros) x (2 + k) n (rw (length-sets W i zeros) (omega (arith, length-by G C N S Ks f)))
+          ∙ ap (λ (l : List ℕ). l ++ x) (set-before zeros W i (2 + k) n (omega (arith, past-header C k n)) ∙ sym words-cut)
 
 -- ---- all lists: each back to the front part that K has of it
 
@@ -164,19 +178,21 @@ module _ (C N : ℕ) (S : List Cell) (K K′ : List (List Cell)) (f : Fine C N S
   back-fine (suc k) h = cut-fine C N S (back k K K′) (back-fine k (omega arith)) k h (cellsAt K k) (g .more k) (back-rest K K′ k k (omega arith) ∙ g .is k)
 
   module _ (tall : length K ≡ heights) (x ns : List ℕ) (counted : (k : ℕ) → k < heights → getD ns k 0 ≡ length (cellsAt K k)) where
-    lists-cut-stored : (m : ℕ) → m ≤ heights → cutLists m ns (stored C N S K′ x) ≡ stored C N S (back m K K′) x
+    lists-cut-stored : (m : ℕ) → m ≤ heights → cutLists m ns (countedBy K′ C N S K′ ++ x) ≡ countedBy K′ C N S (back m K K′) ++ x
     unfolding cutLists back
     lists-cut-stored zero h = refl
     lists-cut-stored (suc k) h =
         ap₂ (cutList k) (counted k h) (lists-cut-stored k (omega arith))
-        ∙ list-cut-stored C N S (back k K K′) (back-fine k (omega arith)) k h (cellsAt K k) (g .more k) (back-rest K K′ k k (omega arith) ∙ g .is k) x
+        ∙ list-cut-stored C N S (back k K K′) (back-fine k (omega arith)) k h (cellsAt K k) (g .more k) (back-rest K K′ k k (omega arith) ∙ g .is k) K′ x
 
     -- the lists are those of K again
-    pub cut-stored : cutBack ns (stored C N S K′ x) ≡ stored C N S K x
+    pub cut-stored : OkCells K → cutBack ns (stored C N S K′ x) ≡ stored C N S K x
     unfolding cutBack
-    cut-stored =
-        lists-cut-stored heights (omega arith)
-        ∙ ap (λ (Ks : List (List Cell)). stored C N S Ks x) (ap (λ (m : ℕ). back m K K′) (sym tall) ∙ back-all K K′ (tall ∙ sym (f .lists)))
+    cut-stored ok =
+        ap (λ (w : List ℕ). cutLists heights ns (w ++ x)) (counted-own C N S K′)
+        ∙ lists-cut-stored heights (omega arith)
+        ∙ ap (λ (Ks : List (List Cell)). countedBy K′ C N S Ks ++ x) (ap (λ (m : ℕ). back m K K′) (sym tall) ∙ back-all K K′ (tall ∙ sym (f .lists)))
+        ∙ ap (λ (w : List ℕ). w ++ x) (counted-grown C N S g ok)
 
     -- which cutting back asks for: no list has fewer cells than that
     pub cut-counts : (k : ℕ) → k < heights → getD ns k 0 ≤ keptCount (stored C N S K′ x) k

@@ -1,17 +1,17 @@
 -- The ways through keeping a cell, holding a scene and cutting lists back, in the code's words.
 -- Each by the values of the words read before, which the definition reads. Assumes nothing.
 use mathlib.Core.Path.{_≡_, refl, ap, ap₂, _∙_}
-use mathlib.Core.List.{List, [], _∷_}
+use mathlib.Core.List.{List, [], _∷_, _++_}
 use Prim.Native.Nat.{ℕ, zero, suc, _+_, _-_, _*_, _<_, _≤_}
 use native.Mathlib.Nat.{not-suc-le-zero, mul-le-mul-left}
 use native.Mathlib.Numerals.{add-one}
 use native.Mathlib.Omega.{arith}
-use lib.ListN.{getD, set, replicate}
-use lib.Seq.{sets}
-use Rattle.paper.specs.Store.{Cell, heights, used, capacityOf, scenesHeld, keptCount, scenePosition, stride, cellPosition}
-use Rattle.laws.proofs.Words.{list-in}
+use lib.ListN.{length, getD, set, replicate, length-append}
+use lib.Seq.{sets, take-all}
+use Rattle.paper.specs.Store.{Cell, heights, used, capacityOf, scenesHeld, keptCount, scenePosition, stride, cellPosition, twoWords}
+use Rattle.laws.proofs.Rows.{list-in}
 use Rattle.add_keep.specs.Keeping.{keepIn, holdIn, cutList, cutLists, cutBack}
-use Rattle.store.proofs.Positions.{position-between}
+use Rattle.store.proofs.Positions.{position-between, eight-words}
 
 -- ---- a cell more: its list has n cells, and its words go to `at`
 
@@ -27,10 +27,18 @@ module _ (ws : List ℕ) (k n C at : ℕ) (counted : n ≡ keptCount ws k) (size
 pub cell-room : (C k n : ℕ) → k < heights → n < C → cellPosition C k n + stride k ≤ used C
 cell-room C k n h l = omega (arith, list-in C k h, mul-le-mul-left (stride k) l)
 
--- a cell of a list that is not the leaves' has eight words
-pub eight-words : (k : ℕ) → 1 ≤ k → 8 ≡ stride k
-eight-words zero h = absurd (not-suc-le-zero h)
-eight-words (suc k) h = refl
+-- eight pointers one by one, then a number's two words
+pub cell-and-count : (c d : List ℕ) (n : ℕ) → length c ≡ 8 → d ≡ twoWords n →
+    getD c 0 0 ∷ getD c 1 0 ∷ getD c 2 0 ∷ getD c 3 0 ∷ getD c 4 0 ∷ getD c 5 0 ∷ getD c 6 0 ∷ getD c 7 0 ∷ getD d 0 0 ∷ getD d 1 0 ∷ []
+    ≡ c ++ twoWords n
+cell-and-count c d n e f =
+    let eight : List ℕ → List ℕ = λ l. getD c 0 0 ∷ getD c 1 0 ∷ getD c 2 0 ∷ getD c 3 0 ∷ getD c 4 0 ∷ getD c 5 0 ∷ getD c 6 0 ∷ getD c 7 0 ∷ l in
+    ap (λ (l : List ℕ). eight (getD l 0 0 ∷ getD l 1 0 ∷ [])) f ∙ ap (λ (l : List ℕ). l ++ twoWords n) (eight-words c 0 (omega arith) ∙ take-all 8 c (omega arith))
+
+-- they are the words that a list has for a cell, if it is not the leaves'
+pub ten-words : (k n : ℕ) (c l : List ℕ) → 1 ≤ k → length c ≡ 8 → l ≡ c ++ twoWords n → length l ≡ stride k
+ten-words zero n c l h e f = absurd (not-suc-le-zero h)
+ten-words (suc k) n c l h e f = ap length f ∙ length-append c (twoWords n) ∙ ap (λ (m : ℕ). m + 2) e
 
 -- ---- a scene more
 

@@ -1,13 +1,12 @@
 // Writing: one more cell, one more scene, and the lists cut back to counts taken before.
 ghost use mathlib.Core.Path.{_≡_};
-ghost use mathlib.Core.List.{[], _∷_};
+ghost use mathlib.Core.List.{[], _∷_, _++_};
 ghost use Prim.Native.Nat.{ℕ, _+_, _≤_, _<_};
 ghost use lib.Dec.{T};
 ghost use lib.ListN.{length, getD, set};
 ghost use lib.Seq.{sets};
 ghost use Rattle.paper.specs.Numbers.{tabulate};
-ghost use Rattle.paper.specs.Store.{mostScenes, heights, scenesHeld, keptCount, stride, headerOk};
-ghost use Rattle.paper.specs.Match.{leafCell};
+ghost use Rattle.paper.specs.Store.{mostScenes, heights, scenesHeld, keptCount, stride, twoWords, headerOk};
 ghost use Rattle.add_keep.specs.Keeping.{Room, Keeps, keepIn, holdIn, cutList, cutBack};
 use store::FIRST_COUNT;
 use store::HEIGHTS;
@@ -63,20 +62,40 @@ pub fn keep_leaf(store: &mut [u32], leaf: [u32; 2])
     keep(store, 0, &leaf);
 }
 
-// One more cell of eight pointers, in list k, k not 0.
-pub fn keep_cell(store: &mut [u32], k: u32, cell: [u32; 8])
-    requires { ⌜ 1 ≤ k ⌝ }
-    requires { ⌜ Room k (now store) ⌝ }
-    ensures { λ _. ⌜ now (store .exit) ≡ keepIn k cell (now (store .entry)) ⌝ }
+// A cell's words: its pointers, then how many solid voxels it has.
+fn cell_words(cell: [u32; 8], solid: u64) -> [u32; 10]
+    ensures { λ r. ⌜ r ≡ cell ++ twoWords solid ⌝ }
 {
-    keep(store, k, &cell);
+    let count = two_words(solid);
+    [
+        cell[0],
+        cell[1],
+        cell[2],
+        cell[3],
+        cell[4],
+        cell[5],
+        cell[6],
+        cell[7],
+        count[0],
+        count[1],
+    ]
 }
 
-// The words of a leaf, the high one first.
-pub fn leaf_words(leaf: u64) -> [u32; 2]
-    ensures { λ r. ⌜ r ≡ leafCell leaf ⌝ }
+// One more cell of eight pointers, with so many solid voxels, in list k, k not 0.
+pub fn keep_cell(store: &mut [u32], k: u32, cell: [u32; 8], solid: u64)
+    requires { ⌜ 1 ≤ k ⌝ }
+    requires { ⌜ Room k (now store) ⌝ }
+    ensures { λ _. ⌜ now (store .exit) ≡ keepIn k (cell ++ twoWords solid) (now (store .entry)) ⌝ }
 {
-    [(leaf / HIGH_WORD) as u32, (leaf % HIGH_WORD) as u32]
+    let words = cell_words(cell, solid);
+    keep(store, k, &words);
+}
+
+// A number's two words, the high one first: a leaf's, or a count's.
+pub fn two_words(n: u64) -> [u32; 2]
+    ensures { λ r. ⌜ r ≡ twoWords n ⌝ }
+{
+    [(n / HIGH_WORD) as u32, (n % HIGH_WORD) as u32]
 }
 
 // One more scene.

@@ -1,6 +1,7 @@
 -- Laws that belong to no one function: a record's clauses, what stays as it was, and that taking a file's records is the paper's adding.
 pub mod Ways
 pub mod Lasting
+pub mod CubeBound
 pub mod Wholes
 -- taking stands as adding: what that means, then a cell, its children in turn, a record
 pub mod Settings

@@ -13,7 +13,7 @@ use lib.Seq.{drop-cons, drop-drop, length-take-le}
 use borrow.Author.Tests.{leb-true}
 use Rattle.paper.specs.Numbers.{num}
 use Rattle.paper.specs.Outline.{Tree, none, leaf, nodeOf, Read, bad, ok, bind, before, readLeaf, readChildren, readRecord}
-use Rattle.paper.specs.Store.{Cell, heights}
+use Rattle.paper.specs.Store.{Cell, heights, leafSolid}
 use Rattle.paper.specs.Match.{Adding, addTree}
 use Rattle.paper.specs.Runs.{Bytes}
 use Rattle.laws.proofs.Bytes.{bytes-take, bytes-drop, be-lt}
@@ -100,7 +100,7 @@ module _ (g : Setting) where
           inner false =
               node-after k K (readChildren (readRecord k) 8 m (drop (suc at) (g .file))) o (many-children (readRecord k) 8 m (drop (suc at) (g .file)))
               (rw (← add-one at)
-              (children-stand g k hk right 8 m (at + 1) K [] [] (record { within = omega arith; good = good; eight = refl; known = known-none k K })))
+              (children-stand g k hk right 8 m (at + 1) K [] [] 0 (record { within = omega arith; good = good; eight = refl; known = known-none k K })))
 
   -- ---- a leaf's record
 
@@ -112,7 +112,7 @@ module _ (g : Setting) where
       bs = drop at (g .file)
 
       o : RecordAdding
-      o = endingAt (at + 8) (addLeafIn (num 8 bs) (wordsWith g K))
+      o = endingAt (at + 8) (leafSolid (num 8 bs)) (addLeafIn (num 8 bs) (wordsWith g K))
 
       go : (a : Bool) → leb 8 (length bs) ≡ a → (b : Bool) → After g K 0 (cond a (cond b bad (ok (leaf (num 8 bs)) (drop 8 bs))) bad) (λ t. addTree (g .capacity) t 0 K) o
       go false e b = tt

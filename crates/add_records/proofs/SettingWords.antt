@@ -5,8 +5,9 @@ use mathlib.Core.List.{List, [], _∷_, _++_}
 use Prim.Native.Nat.{ℕ, _<_}
 use lib.Dec.{T}
 use lib.ListN.{length, set}
-use Rattle.paper.specs.Store.{Cell, cellsAt, heights, stride, capacityOf, scenesHeld, keptCount, keptOf, headerOk}
+use Rattle.paper.specs.Store.{Cell, cellsAt, heights, cellLength, capacityOf, scenesHeld, keptCount, keptOf, rowOf, headerOk}
 use Rattle.laws.proofs.Words.{keep-fine, capacity-read, scenes-read, count-read, kept-read}
+use Rattle.laws.proofs.Invariant.{OkCell, OkCells}
 use Rattle.add_keep.specs.Keeping.{keepIn}
 use Rattle.add_keep.proofs.Stored.{stored-header, keep-stored}
 use Rattle.add_records.proofs.Settings.{Setting, wordsWith, Fitting}
@@ -32,12 +33,12 @@ module _ (g : Setting) (K : List (List Cell)) (f : Fitting g K) where
 
   -- ---- a cell more in list k
 
-  module _ (k : ℕ) (hk : k < heights) (c : Cell) (sized : length c ≡ stride k) (room : length (cellsAt K k) < g .capacity) where
+  module _ (k : ℕ) (hk : k < heights) (c : Cell) (sized : length c ≡ cellLength k) (room : length (cellsAt K k) < g .capacity) where
     abbrev more : List (List Cell)
     more = set K k (cellsAt K k ++ (c ∷ []))
 
     pub more-fit : Fitting g more
     more-fit = keep-fine (g .capacity) (g .held) (g .places) K f k c sized room
 
-    pub more-words : keepIn k c ws ≡ wordsWith g more
-    more-words = keep-stored (g .capacity) (g .held) (g .places) K f (g .behind) k c hk sized room
+    pub more-words : OkCells K → OkCell K k c → keepIn k (rowOf K k c) ws ≡ wordsWith g more
+    more-words ok okc = keep-stored (g .capacity) (g .held) (g .places) K f (g .behind) k c hk ok okc sized room

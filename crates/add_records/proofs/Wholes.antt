@@ -75,63 +75,63 @@ module _ (f : ℕ → Reading) (i m at : ℕ) (l : i < 8) (w : Whole (childrenAt
 -- a record is taken to where it is read to
 abbrev pub Ends : Reading → RecordAdding → Type 0
 Ends Broken x = Unit {0}
-Ends (EndsAt q) (recordAdding (At next p s) ws) = q ≡ next
+Ends (EndsAt q) (recordAdding (At next p s n) ws) = q ≡ next
 Ends (EndsAt q) (recordAdding Full ws) = Unit {0}
 
 ends-full : (x : Reading) (ws : List ℕ) → Ends x (recordAdding Full ws)
 ends-full Broken ws = tt
 ends-full (EndsAt q) ws = tt
 
-ends-placed : (next : ℕ) (x : CellAdding) → Ends (EndsAt next) (endingAt next x)
+ends-placed : (next n : ℕ) (x : CellAdding) → Ends (EndsAt next) (endingAt next n x)
 unfolding endingAt
-ends-placed next (cellAdding (cellAdded.At p m) ws) = refl
-ends-placed next (cellAdding cellAdded.Full ws) = tt
+ends-placed next n (cellAdding (cellAdded.At p m) ws) = refl
+ends-placed next n (cellAdding cellAdded.Full ws) = tt
 
 -- children each read by g and taken by f
 module _ (g : ℕ → Reading) (f : ℕ → List ℕ → RecordAdding) (k : ℕ) (alike : (at : ℕ) (ws : List ℕ) → Ends (g at) (f at ws)) where
-  ends-then : (r : Reading) (x : RecordAdding) (h : ℕ → Reading) (i : ℕ → ℕ → ℕ → List ℕ → RecordAdding) → Ends r x → ((next p s : ℕ) (ws : List ℕ) → Ends (h next) (i next p s ws))
+  ends-then : (r : Reading) (x : RecordAdding) (h : ℕ → Reading) (i : ℕ → ℕ → ℕ → ℕ → List ℕ → RecordAdding) → Ends r x → ((next p s n : ℕ) (ws : List ℕ) → Ends (h next) (i next p s n ws))
       → Ends (andThen r h) (thenAdd x i)
   unfolding andThen thenAdd
   ends-then Broken x h i e ih = tt
-  ends-then (EndsAt q) (recordAdding (At next p s) ws) h i e ih = rw e (ih next p s ws)
+  ends-then (EndsAt q) (recordAdding (At next p s n) ws) h i e ih = rw e (ih next p s n ws)
   ends-then (EndsAt q) (recordAdding Full ws) h i e ih = ends-full (h q) ws
 
-  children-end : (n m at : ℕ) (c ms ws : List ℕ) → Ends (childrenAt g n m at) (addChildren f k n m at c ms ws)
+  children-end : (n m at : ℕ) (c ms : List ℕ) (v : ℕ) (ws : List ℕ) → Ends (childrenAt g n m at) (addChildren f k n m at c ms v ws)
   unfolding childrenAt addChildren
-  children-end zero m at c ms ws = ends-placed at (addCellIn k c ms ws)
-  children-end (suc n) m at c ms ws = go (eqb (m % 2) 1) (children-end n (m / 2))
+  children-end zero m at c ms v ws = ends-placed at v (addCellIn k c ms v ws)
+  children-end (suc n) m at c ms v ws = go (eqb (m % 2) 1) (children-end n (m / 2))
     where
-      go : (b : Bool) → ((at′ : ℕ) (c′ ms′ ws′ : List ℕ) → Ends (childrenAt g n (m / 2) at′) (addChildren f k n (m / 2) at′ c′ ms′ ws′))
+      go : (b : Bool) → ((at′ : ℕ) (c′ ms′ : List ℕ) (v′ : ℕ) (ws′ : List ℕ) → Ends (childrenAt g n (m / 2) at′) (addChildren f k n (m / 2) at′ c′ ms′ v′ ws′))
           → Ends (cond b (andThen (g at) (λ next. childrenAt g n (m / 2) next)) (childrenAt g n (m / 2) at))
-          (cond b (thenAdd (f at ws) (λ next p s ws′. addChildren f k n (m / 2) next (set c (7 - n) p) (set ms (7 - n) s) ws′)) (addChildren f k n (m / 2) at c ms ws))
-      go true ih = ends-then (g at) (f at ws) _ _ (alike at ws) (λ next p s ws′. ih next (set c (7 - n) p) (set ms (7 - n) s) ws′)
-      go false ih = ih at c ms ws
+          (cond b (thenAdd (f at ws) (λ next p s u ws′. addChildren f k n (m / 2) next (set c (7 - n) p) (set ms (7 - n) s) (v + u) ws′)) (addChildren f k n (m / 2) at c ms v ws))
+      go true ih = ends-then (g at) (f at ws) _ _ (alike at ws) (λ next p s u ws′. ih next (set c (7 - n) p) (set ms (7 - n) s) (v + u) ws′)
+      go false ih = ih at c ms v ws
 
-leaf-ends : (file : List ℕ) (at : ℕ) (x : CellAdding) → Ends (leafAt file at) (endingAt (at + 8) x)
+leaf-ends : (file : List ℕ) (at n : ℕ) (x : CellAdding) → Ends (leafAt file at) (endingAt (at + 8) n x)
 unfolding leafAt
-leaf-ends file at x = go (ltb (length file) (at + 8)) (eqb (num 8 (drop at file)) 0)
+leaf-ends file at n x = go (ltb (length file) (at + 8)) (eqb (num 8 (drop at file)) 0)
   where
-    go : (a b : Bool) → Ends (cond a Broken (cond b Broken (EndsAt (at + 8)))) (endingAt (at + 8) x)
+    go : (a b : Bool) → Ends (cond a Broken (cond b Broken (EndsAt (at + 8)))) (endingAt (at + 8) n x)
     go true b = tt
     go false true = tt
-    go false false = ends-placed (at + 8) x
+    go false false = ends-placed (at + 8) n x
 
 pub record-ends : (file : List ℕ) (k at : ℕ) (ws : List ℕ) → Ends (recordAt file k at) (addRecord file k at ws)
 unfolding recordAt addRecord
-record-ends file zero at ws = leaf-ends file at _
-record-ends file (suc k) at ws = go (leb (length file) at) (eqb (getD file at 0) 0) (children-end (recordAt file k) (addRecord file k) (suc k) (record-ends file k) 8 (getD file at 0) (at + 1) (replicate 8 0) (replicate 8 0) ws)
+record-ends file zero at ws = leaf-ends file at _ _
+record-ends file (suc k) at ws = go (leb (length file) at) (eqb (getD file at 0) 0) (children-end (recordAt file k) (addRecord file k) (suc k) (record-ends file k) 8 (getD file at 0) (at + 1) (replicate 8 0) (replicate 8 0) 0 ws)
   where
-    go : (a b : Bool) → Ends (childrenAt (recordAt file k) 8 (getD file at 0) (at + 1)) (addChildren (addRecord file k) (suc k) 8 (getD file at 0) (at + 1) (replicate 8 0) (replicate 8 0) ws)
-        → Ends (cond a Broken (cond b Broken (childrenAt (recordAt file k) 8 (getD file at 0) (at + 1)))) (addChildren (addRecord file k) (suc k) 8 (getD file at 0) (at + 1) (replicate 8 0) (replicate 8 0) ws)
+    go : (a b : Bool) → Ends (childrenAt (recordAt file k) 8 (getD file at 0) (at + 1)) (addChildren (addRecord file k) (suc k) 8 (getD file at 0) (at + 1) (replicate 8 0) (replicate 8 0) 0 ws)
+        → Ends (cond a Broken (cond b Broken (childrenAt (recordAt file k) 8 (getD file at 0) (at + 1)))) (addChildren (addRecord file k) (suc k) 8 (getD file at 0) (at + 1) (replicate 8 0) (replicate 8 0) 0 ws)
     go true b h = tt
     go false true h = tt
     go false false h = h
 
 -- a record that is read to the end and taken is read to the position after it
-ends-at : (r : Reading) (x : RecordAdding) (next p s : ℕ) (u : List ℕ) → Whole r → Ends r x → x ≡ recordAdding (At next p s) u → r ≡ EndsAt next
-ends-at Broken x next p s u w h e = absurd w
-ends-at (EndsAt q) x next p s u w h e = rw (subst (Ends (EndsAt q)) e h)
+ends-at : (r : Reading) (x : RecordAdding) (next p s n : ℕ) (u : List ℕ) → Whole r → Ends r x → x ≡ recordAdding (At next p s n) u → r ≡ EndsAt next
+ends-at Broken x next p s n u w h e = absurd w
+ends-at (EndsAt q) x next p s n u w h e = rw (subst (Ends (EndsAt q)) e h)
 
-pub record-ended : (file : List ℕ) (k at : ℕ) (ws u : List ℕ) (next p s : ℕ) → Whole (recordAt file k at) → addRecord file k at ws ≡ recordAdding (At next p s) u
+pub record-ended : (file : List ℕ) (k at : ℕ) (ws u : List ℕ) (next p s n : ℕ) → Whole (recordAt file k at) → addRecord file k at ws ≡ recordAdding (At next p s n) u
     → recordAt file k at ≡ EndsAt next
-record-ended file k at ws u next p s w e = ends-at (recordAt file k at) (addRecord file k at ws) next p s u w (record-ends file k at ws) e
+record-ended file k at ws u next p s n w e = ends-at (recordAt file k at) (addRecord file k at ws) next p s n u w (record-ends file k at ws) e

@@ -8,23 +8,24 @@ ghost use Rattle.add_records.specs.RecordAdding.{recordAdding, endingAt,
 use add_cells::CellAdded;
 use add_cells::add_cell_in;
 use add_cells::add_leaf_in;
+use leaf::leaf_solid;
 use limits::CHILDREN;
 use limits::LEAF_BYTES;
 use limits::LEAF_HEIGHT;
 use numbers::be64;
 
-// What adding a record answers: the position after it, the cell's pointer and its symmetry; or its height is full.
+// What adding a record answers: the position after it, the cell's pointer, its symmetry, and how many solid voxels it has; or its height is full.
 pub enum RecordAdded {
-    At(usize, u32, u8),
+    At(usize, u32, u8, u64),
     Full,
 }
 
-// A cell that was added, its record ending at a position.
-fn ending_at(next: usize, place: CellAdded) -> RecordAdded
-    ensures { λ r. ⌜ ((ws : List ℕ) → recordAdding r ws ≡ endingAt next (cellAdding place ws)) ⌝ }
+// A cell of so many solid voxels that was added, its record ending at a position.
+fn ending_at(next: usize, solid: u64, place: CellAdded) -> RecordAdded
+    ensures { λ r. ⌜ ((ws : List ℕ) → recordAdding r ws ≡ endingAt next solid (cellAdding place ws)) ⌝ }
 {
     match place {
-        CellAdded::At(p, symmetry) => RecordAdded::At(next, p, symmetry),
+        CellAdded::At(p, symmetry) => RecordAdded::At(next, p, symmetry, solid),
         CellAdded::Full => RecordAdded::Full,
     }
 }
@@ -36,12 +37,14 @@ pub fn add_record(file: &[u8], store: &mut [u32], at: usize, height: u32) -> Rec
     ensures { λ r. ⌜ recordAdding r (now (store .exit)) ≡ addRecord (now (file .entry)) (height - 2) at (now (store .entry)) ⌝ }
 {
     if height == LEAF_HEIGHT {
-        return ending_at(at + LEAF_BYTES, add_leaf_in(store, be64(file, at)));
+        let leaf = be64(file, at);
+        return ending_at(at + LEAF_BYTES, leaf_solid(leaf), add_leaf_in(store, leaf));
     }
     let mut cell = [0u32; 8];
     let mut symmetries = [0u8; 8];
     let mut mask = file[at];
     let mut next = at + 1;
+    let mut solid = 0u64;
     let mut i = 0usize;
     while i < CHILDREN as usize {
         let child = i;
@@ -51,15 +54,17 @@ pub fn add_record(file: &[u8], store: &mut [u32], at: usize, height: u32) -> Rec
         if called == 0 {
             continue;
         }
-        let RecordAdded::At(end, p, symmetry) = add_record(file, store, next, height - 1) else {
+        let RecordAdded::At(end, p, symmetry, n) = add_record(file, store, next, height - 1) else {
             return RecordAdded::Full;
         };
         cell[child] = p;
         symmetries[child] = symmetry;
         next = end;
+        solid += n;
     }
     ending_at(
         next,
-        add_cell_in(store, height - LEAF_HEIGHT, cell, symmetries),
+        solid,
+        add_cell_in(store, height - LEAF_HEIGHT, cell, symmetries, solid),
     )
 }

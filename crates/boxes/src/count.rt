@@ -1,15 +1,16 @@
 // How many solid voxels a box of a cell holds. The cell is seen under a mirror. The box is given by its first voxel and its last, whose coordinates
 // are never reduced: what lies in a cell of edge S is counted from their remainders by S.
 ghost use mathlib.Core.Path.{_≡_};
-ghost use Prim.Native.Nat.{suc, _^_, _<_, _≤_};
+ghost use Prim.Native.Nat.{suc, _^_, _<_};
 ghost use lib.Dec.{T};
 ghost use Rattle.paper.specs.Outline.{edge as edge-of};
 ghost use Rattle.paper.specs.Rooms.{inChild};
+ghost use Rattle.paper.specs.Questions.{countTaken};
+ghost use Rattle.paper.specs.Calls.{sceneTally};
 ghost use Rattle.paper.specs.Store.{heights, mostScenes, keptCount, sceneDepth, keptOf, badPointer, headerOk, sceneOk};
 ghost use Rattle.points.specs.Points.{at};
 ghost use Rattle.boxes_parts.specs.Parts.{Upto, pastIn};
-ghost use Rattle.boxes_whole.specs.Tallies.{childrenSolid, childrenIn, mostSolid};
-ghost use Rattle.boxes.specs.Box.{InCell, childTaken, AtKept, tallyAt, cellPart, pointerPart, sceneBox};
+ghost use Rattle.boxes.specs.Box.{InCell, childTaken, AtKept, tallyAt, childrenIn, cellPart, pointerPart};
 use boxes_leaf::count_leaf;
 use boxes_parts::chosen;
 use boxes_parts::has_voxel;
@@ -18,13 +19,13 @@ use boxes_parts::last_of;
 use boxes_parts::shares;
 use boxes_parts::spreads;
 use boxes_parts::stored_number;
-use boxes_whole::Tally;
-use boxes_whole::count_whole;
 use limits::CHILDREN;
 use limits::LEAF_HEIGHT;
+use paper::Tally;
 use points::Point;
 use points::child_number;
 use store::cell_at;
+use store::count_at;
 use store::kept_count;
 use store::leaf_at;
 use store::scene_depth;
@@ -67,11 +68,11 @@ fn child_pointer(store: &[u32], k: u32, number: u32, mirror: u32, v: Point) -> u
 }
 
 // From what a pointer of list k stands for, seen under a mirror, down while the box lies in one child. Here and below only pointers on the way to a
-// voxel of the box are tested, as paper's `takenBad` says, not all eight of a cell.
+// voxel of the box are tested, as paper's `pointerTally` says, not all eight of a cell.
 fn down(store: &[u32], k: u32, pointer: u32, mirror: u32, low: Point, last: Point) -> Ended
     requires { ⌜ T (headerOk (now store)) ⌝ }
     requires { ⌜ InCell k mirror (at low) (at last) ⌝ }
-    ensures { λ r. ⌜ tallyAt (keptOf (now (store .entry))) (at low) (at last) r ≡ pointerPart (keptOf (now (store .entry))) k pointer mirror (at low) (at last) ⌝ }
+    ensures { λ r. ⌜ tallyAt (now (store .entry)) (at low) (at last) r ≡ pointerPart (now (store .entry)) k pointer mirror (at low) (at last) ⌝ }
     ensures { λ r. ⌜ AtKept (now (store .entry)) k (at low) (at last) r ⌝ }
 {
     let mut list = k;
@@ -92,11 +93,22 @@ fn down(store: &[u32], k: u32, pointer: u32, mirror: u32, low: Point, last: Poin
     Ended::Absent
 }
 
+// The count of a cell of list k, or damage where it is more than the cell has voxels.
+fn count_taken(k: u32, count: u64) -> Tally
+    requires { ⌜ k < heights ⌝ }
+    ensures { λ r. ⌜ r ≡ countTaken k count ⌝ }
+{
+    if 1u64 << (3 * (k + LEAF_HEIGHT)) < count {
+        return Tally::Damaged;
+    }
+    Tally::Solid(count)
+}
+
 // The solid voxels of what a pointer of list k stands for, seen under a mirror, in a box.
 fn count_pointer(store: &[u32], k: u32, p: u32, mirror: u32, low: Point, last: Point) -> Tally
     requires { ⌜ T (headerOk (now store)) ⌝ }
     requires { ⌜ InCell k mirror (at low) (at last) ⌝ }
-    ensures { λ r. ⌜ r ≡ pointerPart (keptOf (now (store .entry))) k p mirror (at low) (at last) ⌝ }
+    ensures { λ r. ⌜ r ≡ pointerPart (now (store .entry)) k p mirror (at low) (at last) ⌝ }
 {
     match down(store, k, p, mirror, low, last) {
         Ended::Absent => Tally::Solid(0),
@@ -110,13 +122,13 @@ fn count_cell(store: &[u32], k: u32, number: u32, mirror: u32, low: Point, last:
     requires { ⌜ T (headerOk (now store)) ⌝ }
     requires { ⌜ InCell k mirror (at low) (at last) ⌝ }
     requires { ⌜ number < keptCount (now store) k ⌝ }
-    ensures { λ r. ⌜ r ≡ cellPart (keptOf (now (store .entry))) k number mirror (at low) (at last) ⌝ }
+    ensures { λ r. ⌜ r ≡ cellPart (now (store .entry)) k number mirror (at low) (at last) ⌝ }
 {
     if k == 0 {
         return Tally::Solid(count_leaf(leaf_at(store, number), mirror, low, last));
     }
     if is_whole(k, low, last) {
-        return count_whole(store, k, number);
+        return count_taken(k, count_at(store, k, number));
     }
     count_children(store, k - 1, cell_at(store, k, number), mirror, low, last)
 }
@@ -133,8 +145,7 @@ fn count_children(
 ) -> Tally
     requires { ⌜ T (headerOk (now store)) ⌝ }
     requires { ⌜ InCell (suc k) mirror (at low) (at last) ⌝ }
-    requires { ⌜ childrenSolid (keptOf (now store)) k cell mirror 8 (inChild (edge-of (suc k)) (at low)) (pastIn (edge-of (suc k)) (at last)) ≤ mostSolid ⌝ }
-    ensures { λ r. ⌜ r ≡ childrenIn (keptOf (now (store .entry))) k cell mirror 8 (inChild (edge-of (suc k)) (at low)) (pastIn (edge-of (suc k)) (at last)) 0 ⌝ }
+    ensures { λ r. ⌜ r ≡ childrenIn (now (store .entry)) k cell mirror 8 (inChild (edge-of (suc k)) (at low)) (pastIn (edge-of (suc k)) (at last)) ⌝ }
 {
     let first = child_number(k, low);
     let past = child_number(k, last);
@@ -170,7 +181,7 @@ pub fn scene_box(store: &[u32], n: u32, low: Point, high: Point) -> Tally
     requires { ⌜ n < mostScenes ⌝ }
     requires { ⌜ T (sceneOk (now store) n) ⌝ }
     requires { ⌜ Upto (2 ^ sceneDepth (now store) n) (at high) ⌝ }
-    ensures { λ r. ⌜ r ≡ sceneBox (now (store .entry)) n (at low) (at high) ⌝ }
+    ensures { λ r. ⌜ r ≡ sceneTally (now (store .entry)) n (at low) (at high) ⌝ }
 {
     if has_voxel(low, high) {
         let k = scene_depth(store, n) - LEAF_HEIGHT;

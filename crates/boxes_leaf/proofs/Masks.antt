@@ -1,13 +1,14 @@
 -- The masks of a leaf's axes: they fit, and their bits are the coordinates between two ends. One computed test for each axis, over all ends and
 -- bits; masks joined pass where each does. Assumes nothing.
-use mathlib.Core.Path.{_≡_, refl, ap, ap₂, _∙_}
+use mathlib.Core.Path.{_≡_, refl, ap₂, _∙_}
 use mathlib.Core.Bool.{Bool, true, false, _&&_}
 use Prim.Native.Nat.{ℕ, _*_, _/_, _%_, _^_, _<_}
-use lib.Bits.{bitAnd, and-shr, and-mod}
+use lib.Bits.{bitAnd}
 use lib.Dec.{T, eqb, ltb, eqb→eq, ltb→lt}
 use Rattle.paper.specs.Numbers.{allBelow, bit, bitFor}
 use Rattle.paper.specs.Rooms.{Point}
 use Rattle.laws.proofs.Tests.{all-at, all-at2}
+use Rattle.leaf.proofs.Moving.{bit-and}
 use Rattle.boxes_leaf.specs.LeafBox.{Marks, inSide, inSides}
 
 -- ---- as the code writes them
@@ -57,9 +58,6 @@ pub y-fits : (a b : ℕ) → a < 4 → b < 4 → yMask a b < 2 ^ 64
 y-fits = fits yMask tt
 
 -- ---- joined
-
-pub bit-and : (a b k : ℕ) → bit (bitAnd a b) k ≡ bitAnd (bit a k) (bit b k)
-bit-and a b k = ap (λ (x : ℕ). x % 2) (and-shr a b k) ∙ and-mod (a / 2 ^ k) (b / 2 ^ k) 1
 
 tests-and : (p q : Bool) → bitAnd (bitFor p) (bitFor q) ≡ bitFor (p && q)
 tests-and true true = refl

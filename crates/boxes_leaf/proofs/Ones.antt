@@ -1,57 +1,24 @@
--- A leaf's solid voxels are its ones, and those in a box the ones under the box's mask. The mask is that of the box mirrored as the leaf is seen: a
--- voxel passes it where its image lies in the box. By sums over bits, and one computed test for an axis. Assumes nothing.
+-- A leaf's solid voxels in a box are the ones under the box's mask. The mask is that of the box mirrored as the leaf is seen: a voxel passes it
+-- where its image lies in the box. By sums over bits, and one computed test for an axis. Assumes nothing.
 use mathlib.Core.Path.{_≡_, refl, sym, ap, ap₂, _∙_}
-use mathlib.Core.Bool.{Bool, true, false, cond, _&&_}
-use Prim.Native.Nat.{ℕ, zero, suc, _+_, _-_, _/_, _%_, _^_, _<_}
-use native.Mathlib.Nat.{add-zero, zero-add, add-assoc, mul-comm, div-one, div-div-eq-div-mul, div-eq-of-lt, pow-succ', lt-of-le-of-lt}
+use mathlib.Core.Bool.{Bool, true, false, cond, _&&_, Bool·beq}
+use Prim.Native.Nat.{ℕ, _+_, _-_, _/_, _%_, _^_, _<_}
+use native.Mathlib.Nat.{lt-of-le-of-lt}
 use native.Mathlib.Omega.{arith}
 use lib.Bits.{bitAnd, and-le-l}
-use lib.Count.{ones, ones-step}
+use lib.Count.{ones}
 use lib.Dec.{T, leb, ltb}
 use Rattle.paper.specs.Numbers.{sum, allBelow, bit, bitFor}
 use Rattle.paper.specs.Rooms.{Point, Room, Inside, flip, markX, markY, markZ, mirror, mirrored, inChild, inBox, boxCount}
-use Rattle.paper.specs.Leaf.{bitOf, voxelOf, leafVoxel}
-use Rattle.laws.proofs.Bits.{bit-lt, test-bitFor}
-use Rattle.laws.proofs.Leaves.{bitOf-voxelOf}
+use Rattle.paper.specs.Leaf.{voxelOf, leafVoxel}
 use Rattle.laws.proofs.Mirrors.{mirror-twice}
-use Rattle.laws.specs.Boxes.{origin, far}
-use Rattle.laws.proofs.Boxes.{box-leaf}
 use Rattle.laws.proofs.Sums.{sum-same, sum3-same, sum3-mirrored, sum3-leaf}
-use Rattle.laws.proofs.Tests.{T-true, beq-eq, all-at, all-at2}
-use mathlib.Core.Bool.{Bool·beq}
+use Rattle.laws.proofs.Tests.{beq-eq, all-at, all-at2}
+use Rattle.laws.proofs.Counts.{voxel-bit}
+use Rattle.leaf.proofs.Moving.{bit-and}
+use Rattle.leaf.proofs.Ones.{all-ones}
 use Rattle.boxes_parts.specs.Parts.{chosen, pastIn}
 use Rattle.boxes_leaf.specs.LeafBox.{Marks, inSide, inSides, behindIn}
-use Rattle.boxes_leaf.proofs.Masks.{bit-and}
-
--- ---- ones, bit by bit
-
--- the lowest n bits one by one, and the ones above them
-bits-ones : (n x : ℕ) → ones x ≡ sum n (bit x) + ones (x / 2 ^ n)
-unfolding sum
-bits-ones zero x = ap ones (sym (div-one x)) ∙ sym (zero-add (ones (x / 2 ^ 0)))
-bits-ones (suc n) x =
-    let half : x / 2 ^ n / 2 ≡ x / 2 ^ suc n = div-div-eq-div-mul x (2 ^ n) 2 ∙ ap (λ (m : ℕ). x / m) (mul-comm (2 ^ n) 2 ∙ sym (pow-succ' 2 n)) in
-    bits-ones n x
-    ∙ ap (λ (m : ℕ). sum n (bit x) + m) (ones-step (x / 2 ^ n) ∙ ap (λ (m : ℕ). bit x n + ones m) half)
-    ∙ sym (add-assoc (sum n (bit x)) (bit x n) (ones (x / 2 ^ suc n)))
-
-all-ones : (x : ℕ) → x < 2 ^ 64 → ones x ≡ sum 64 (bit x)
-unfolding ones
-all-ones x h = bits-ones 64 x ∙ ap (λ (m : ℕ). sum 64 (bit x) + ones m) (div-eq-of-lt h) ∙ add-zero (sum 64 (bit x))
-
--- a leaf's voxels are its bits
-voxel-bit : (leaf j : ℕ) → j < 64 → bit leaf j ≡ bitFor (leafVoxel leaf (voxelOf j))
-voxel-bit leaf j h = ap (bit leaf) (sym (bitOf-voxelOf j h)) ∙ sym (test-bitFor (bit leaf (bitOf (voxelOf j))) (bit-lt leaf (bitOf (voxelOf j))))
-
--- ---- the whole leaf
-
-pub leaf-ones : (leaf : ℕ) → leaf < 2 ^ 64 → ones leaf ≡ boxCount 4 (mirrored 0 4 (leafVoxel leaf)) origin (far 4)
-leaf-ones leaf h =
-    let inside : (j : ℕ) → j < 64 → inBox origin (far 4) (voxelOf j) ≡ true = λ j l. T-true (all-at 64 (λ i. inBox origin (far 4) (voxelOf i)) tt j l) in
-    all-ones leaf h
-    ∙ sum-same 64 (bit leaf) (λ j. cond (inBox origin (far 4) (voxelOf j)) (bitFor (leafVoxel leaf (voxelOf j))) 0)
-    (λ j l. voxel-bit leaf j l ∙ sym (ap (λ (b : Bool). cond b (bitFor (leafVoxel leaf (voxelOf j))) 0) (inside j l)))
-    ∙ sym (box-leaf (mirrored 0 4 (leafVoxel leaf)) origin (far 4))
 
 -- ---- a box of a leaf seen under a mirror
 

@@ -1,10 +1,9 @@
-// A leaf's solid voxels in a box, and in all of it: a mask for each axis, and the ones of what is left. No store.
+// A leaf's solid voxels in a box: a mask for each axis, and the ones of what is left. No store.
 ghost use mathlib.Core.Path.{_≡_};
 ghost use Prim.Native.Nat.{_/_, _%_, _<_};
 ghost use Rattle.paper.specs.Rooms.{Inside, mirrored, inChild, boxCount};
 ghost use Rattle.paper.specs.Leaf.{leafVoxel};
 ghost use Rattle.points.specs.Points.{at};
-ghost use Rattle.laws.specs.Boxes.{origin, far};
 ghost use Rattle.boxes_parts.specs.Parts.{pastIn};
 ghost use Rattle.boxes_leaf.specs.LeafBox.{Marks, inSide, inSides, behindIn};
 use boxes_parts::chosen;
@@ -85,11 +84,4 @@ pub fn count_leaf(leaf: u64, mirror: u32, low: Point, last: Point) -> u64
     let end = behind(last);
     let within = mask(chosen(mirror, start, end), chosen(mirror, end, start));
     wider(u64::count_ones(leaf & within))
-}
-
-// The solid voxels of a leaf.
-pub fn whole_leaf(leaf: u64) -> u64
-    ensures { λ r. ⌜ r ≡ boxCount 4 (mirrored 0 4 (leafVoxel leaf)) origin (far 4) ⌝ }
-{
-    wider(u64::count_ones(leaf))
 }

@@ -11,17 +11,15 @@ use lib.Bits.{bitAnd, bitOr, bitXor}
 use lib.Dec.{eqb, leb, eqb→eq, leb→le, lit<}
 use borrow.Author.Tests.{le-ltb}
 use Rattle.paper.specs.Numbers.{allBelow}
-use Rattle.paper.specs.Rooms.{Point, point, markX, markY, markZ, inChild}
+use Rattle.paper.specs.Rooms.{Point, point, markX, markY, markZ, inChild, clip, clipped, far, hasVoxel, origin}
 use Rattle.paper.specs.Outline.{edge}
 use Rattle.paper.specs.Store.{heights}
-use Rattle.laws.specs.Boxes.{origin, far, clip, clipped}
 use Rattle.laws.proofs.Eight.{xorb, markX-xor, markY-xor, markZ-xor}
 use Rattle.laws.proofs.OutlineWriting.{edge-twice}
 use Rattle.laws.proofs.Tests.{true-T, beq-eq, and-left, and-right, all-at, all-at2}
 use Rattle.points.specs.Seeing.{childNoAt}
 use Rattle.points.proofs.Seen.{edge-pos}
-use Rattle.boxes_parts.specs.Parts.{chosen, pastIn}
-use Rattle.boxes_parts.specs.Parts.{hasVoxel, Spans, sharesIn}
+use Rattle.boxes_parts.specs.Parts.{chosen, pastIn, Spans, sharesIn}
 
 -- ---- one axis: S the edge of a half, the first voxel at x in half f, the last at y in half l
 

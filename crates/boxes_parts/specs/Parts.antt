@@ -2,16 +2,13 @@
 -- and which children it shares a voxel with. Definitions only.
 use mathlib.Core.Bool.{Bool, true, cond, not, _&&_}
 use Prim.Native.Nat.{ℕ, _+_, _-_, _/_, _%_, _<_, _≤_}
-use lib.Dec.{eqb, leb, ltb}
+use lib.Dec.{eqb, leb}
 use Rattle.paper.specs.Rooms.{Point, point, markX, markY, markZ}
 use Rattle.points.specs.Seeing.{childNoAt}
 
 -- ---- by its corners
 
--- a box has a voxel; its high corner then lies above 0 on each axis; its last voxel
-abbrev pub hasVoxel : Point → Point → Bool
-hasVoxel low high = ltb (low .x) (high .x) && ltb (low .y) (high .y) && ltb (low .z) (high .z)
-
+-- where a box has a voxel its high corner lies above 0 on each axis; its last voxel
 pub record Positive (high : Point) : Type 0 where
   pub posX : 0 < high .x
   pub posY : 0 < high .y
@@ -25,13 +22,6 @@ pub record Upto (S : ℕ) (high : Point) : Type 0 where
   pub uptoX : high .x ≤ S
   pub uptoY : high .y ≤ S
   pub uptoZ : high .z ≤ S
-
--- it has all of one side; it is that cube
-abbrev pub wholeSide : ℕ → ℕ → ℕ → Bool
-wholeSide S low high = eqb low 0 && eqb high S
-
-abbrev pub isWhole : ℕ → Point → Point → Bool
-isWhole S low high = wholeSide S (low .x) (high .x) && wholeSide S (low .y) (high .y) && wholeSide S (low .z) (high .z)
 
 -- ---- by its first voxel and its last, in a cell
 

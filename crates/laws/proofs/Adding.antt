@@ -196,10 +196,10 @@ module _ (C : ℕ) (hC : C ≤ mostCapacity) (K : List (List Cell)) (sd : Sound 
       j q l h
 
   -- a pointer that was found
-  found-small : {p : ℕ} (f : Found (λ b t. matches K k c b t) (cellsAt K k) 0 p) → suc (f .cell) < 2 ^ 29
+  pub found-small : {p : ℕ} (f : Found (λ b t. matches K k c b t) (cellsAt K k) 0 p) → suc (f .cell) < 2 ^ 29
   found-small f = omega (arith, f .is-cell, sd .few k)
 
-  found-pointer : {p : ℕ} (f : Found (λ b t. matches K k c b t) (cellsAt K k) 0 p) → pointer (f .mirror) (f .cell) ≡ p
+  pub found-pointer : {p : ℕ} (f : Found (λ b t. matches K k c b t) (cellsAt K k) 0 p) → pointer (f .mirror) (f .cell) ≡ p
   found-pointer f = sym (f .is ∙ ap (pointer (f .mirror)) (zero-add (f .cell)))
 
   module _ (A : Type 0) (inv : A → Invs K) (shape : A → Shape K k c) (solid : A → NonEmpty (edge k) (cellVoxel K k c)) where

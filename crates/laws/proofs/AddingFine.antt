@@ -12,11 +12,12 @@ use borrow.Author.Tests.{ltb-true, leb-false}
 use lib.Dec.{ltb}
 use lib.ListN.{length, set}
 use Rattle.paper.specs.Outline.{Tree, none, leaf, node, outlineTree, fileDepth}
-use Rattle.paper.specs.Store.{Cell, Store, cellsAt, pointer, mostScenes, stride, capacityOf, scenesHeld, keptOf, storeOf, wordsOf, used}
+use Rattle.paper.specs.Store.{Cell, Store, cellsAt, pointer, mostScenes, cellLength, capacityOf, scenesHeld, keptOf, storeOf, wordsOf, used}
 use Rattle.paper.specs.Match.{Adding, full, added, orKeep, keep, find, matches, addCell, inTurn, leafCell, addTree}
 use Rattle.paper.specs.Calls.{nextScene, scenesFull, adding, withScene}
 use Rattle.laws.proofs.OutlineFits.{Fits, outline-fits}
-use Rattle.laws.proofs.Words.{Lists, lists-snoc, Fine, scene-fine, wordsOf-length}
+use Rattle.laws.proofs.Rows.{Lists, lists-snoc}
+use Rattle.laws.proofs.Words.{Fine, scene-fine, wordsOf-length}
 use Rattle.laws.proofs.Undamaged.{FineHeader, header-fine}
 use Rattle.laws.proofs.Adding.{Answer, then-answer}
 use Rattle.laws.proofs.AddingTrees.{Each, enil, econs}
@@ -28,15 +29,15 @@ use Rattle.laws.proofs.Capacity.{Grows, addTree-grows}
 abbrev pub ListsAfter : ℕ → Adding ℕ → Type 0
 ListsAfter C x = Answer (Unit {0}) (λ p K. Lists C 0 K) x
 
-keep-lists : (C k : ℕ) (c : Cell) (K : List (List Cell)) → Lists C 0 K → length c ≡ stride k → ListsAfter C (keep C k c K)
+keep-lists : (C k : ℕ) (c : Cell) (K : List (List Cell)) → Lists C 0 K → length c ≡ cellLength k → ListsAfter C (keep C k c K)
 unfolding keep
 keep-lists C k c K h e = go (ltb (length (cellsAt K k)) C) refl
   where
     go : (b : Bool) → ltb (length (cellsAt K k)) C ≡ b → ListsAfter C (cond b (added (pointer 0 (length (cellsAt K k))) (set K k (cellsAt K k ++ (c ∷ [])))) full)
-    go true t = lists-snoc h k c (e ∙ ap stride (sym (zero-add k))) (ltb-true (length (cellsAt K k)) C t)
+    go true t = lists-snoc h k c (e ∙ ap cellLength (sym (zero-add k))) (ltb-true (length (cellsAt K k)) C t)
     go false t = tt
 
-cell-lists : (C k : ℕ) (c : Cell) (K : List (List Cell)) → Lists C 0 K → length c ≡ stride k → ListsAfter C (addCell C k c K)
+cell-lists : (C k : ℕ) (c : Cell) (K : List (List Cell)) → Lists C 0 K → length c ≡ cellLength k → ListsAfter C (addCell C k c K)
 unfolding addCell
 cell-lists C k c K h e = go (find (λ b t. matches K k c b t) (cellsAt K k) 0)
   where
@@ -60,7 +61,7 @@ inTurn-lists C k (econs {t} {ts} r rs) K h =
     (λ p K′ h′. then-answer (Unit {0}) (Unit {0}) (Turned C (length ts)) (Turned C (suc (length ts))) (inTurn (map (λ t. addTree C t k) ts) K′) _
     (inTurn-lists C k rs K′ h′) (λ u. u) (λ ps K″ g. (ap suc (g .0), g .1)))
 
-eight-words : (k : ℕ) → 0 < k → 8 ≡ stride k
+eight-words : (k : ℕ) → 0 < k → 8 ≡ cellLength k
 eight-words zero h = absurd (omega arith)
 eight-words (suc k) h = refl
 

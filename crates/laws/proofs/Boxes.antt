@@ -8,9 +8,8 @@ use native.Mathlib.Omega.{arith}
 use lib.Dec.{T, leb, ltb, leb→le, le→leb, ltb→lt, lt→ltb, lit<}
 use borrow.Author.Tests.{lt-ltb, le-leb}
 use Rattle.paper.specs.Numbers.{sum, bitFor}
-use Rattle.paper.specs.Rooms.{Point, Room, Inside, childRoom, mirrored, Same, inBox, sum3, boxCount}
+use Rattle.paper.specs.Rooms.{Point, Room, Inside, childRoom, mirrored, Same, inBox, sum3, boxCount, clip, clipped, far, origin}
 use Rattle.paper.specs.Leaf.{voxelOf}
-use Rattle.laws.specs.Boxes.{origin, far, clip, clipped}
 use Rattle.laws.proofs.Tests.{iff-eq, and-left, and-right}
 use Rattle.laws.proofs.Mirrors.{fromChild}
 use Rattle.laws.proofs.Sums.{sum-same, sum3-same, sum3-zero, sum3-most, sum3-pos, sum3-some, sum3-mirrored, sum3-leaf, sum3-children}

@@ -13,7 +13,7 @@ use lib.ListN.{length, getD}
 use Rattle.paper.specs.Numbers.{allBelow}
 use Rattle.paper.specs.Rooms.{depthOk, Same, NonEmpty, childNo, inChild}
 use Rattle.paper.specs.Outline.{edge, fileDepth, fileRoom}
-use Rattle.paper.specs.Store.{Cell, cellsAt, cellAt, leafNo, badPointer, anyBad, mostScenes, heights, sceneWords, cellLength, stride, freePlace, sceneDepth, sceneRoot, capacityOk, leafUsable, cellUsable, listUsable, storeOk}
+use Rattle.paper.specs.Store.{Cell, cellsAt, cellAt, leafNo, badPointer, anyBad, mostScenes, heights, sceneWords, cellLength, freePlace, sceneDepth, sceneRoot, capacityOk, leafUsable, cellUsable, listUsable, storeOk}
 use Rattle.paper.specs.Meaning.{pointerVoxel, cellVoxel}
 use Rattle.paper.specs.Runs.{Bytes, sceneOf, Held, Occurs}
 use Rattle.laws.proofs.Tests.{true-T, and-T, all-at, all-T, none-T}
@@ -22,8 +22,8 @@ use Rattle.laws.proofs.Mirrors.{childNo-lt}
 use Rattle.laws.proofs.Leaves.{leafOf-solid, leafOf-leafVoxel}
 use Rattle.laws.proofs.Invariant.{OkPointer, ok-not-bad, LowTag, Shape, pointer-none}
 use Rattle.laws.proofs.Adding.{Sound, Invs}
-use Rattle.laws.proofs.Kept.{cell-fills}
-use Rattle.laws.proofs.Words.{Lists, lnil, lcons, Fine, stored}
+use Rattle.laws.proofs.Rows.{Lists, lnil, lcons}
+use Rattle.laws.proofs.Words.{Fine, stored}
 use Rattle.laws.proofs.Padded.{Sized, snil, scons}
 use Rattle.laws.proofs.Outlines.{Accepted}
 use Rattle.laws.proofs.SoundWords.{sceneSound, heldIn, placeSound, soundStore, sound-words, depth-read, root-read}
@@ -64,13 +64,13 @@ sized-from : (w : ℕ) (cs : List Cell) → ((q : ℕ) → q < length cs → len
 sized-from w [] h = snil
 sized-from w (c ∷ cs) h = scons (h 0 (omega arith)) (sized-from w cs (λ q l. h (suc q) (omega arith)))
 
-lists-from : (C j : ℕ) (Ks : List (List Cell)) → ((m q : ℕ) → q < length (cellsAt Ks m) → length (cellAt Ks m q) ≡ stride (j + m))
+lists-from : (C j : ℕ) (Ks : List (List Cell)) → ((m q : ℕ) → q < length (cellsAt Ks m) → length (cellAt Ks m q) ≡ cellLength (j + m))
     → ((m : ℕ) → length (cellsAt Ks m) ≤ C) → Lists C j Ks
 lists-from C j [] h few = lnil
 lists-from C j (cs ∷ Ks) h few =
     let here : j + 0 ≡ j = omega arith in
-    lcons (sized-from (stride j) cs (λ q l. h 0 q l ∙ ap stride here)) (few 0)
-    (lists-from C (suc j) Ks (λ m q l. let e : j + suc m ≡ suc j + m = omega arith in h (suc m) q l ∙ ap stride e) (λ m. few (suc m)))
+    lcons (sized-from (cellLength j) cs (λ q l. h 0 q l ∙ ap cellLength here)) (few 0)
+    (lists-from C (suc j) Ks (λ m q l. let e : j + suc m ≡ suc j + m = omega arith in h (suc m) q l ∙ ap cellLength e) (λ m. few (suc m)))
 
 -- a leaf has two words, any other cell eight
 pub shape-words : (K : List (List Cell)) (k : ℕ) (c : Cell) → Shape K k c → length c ≡ cellLength k
@@ -83,7 +83,7 @@ filled-fine {C} {N} {S} {K} f = record {
   of-scenes = f .of-scenes;
   all-scenes = f .all-scenes;
   few-scenes = f .few-scenes;
-  of-cells = lists-from C 0 K (λ m q h. shape-words K m (cellAt K m q) (f .invs m .shape q h) ∙ cell-fills m ∙ ap stride (sym (zero-add m))) (f .sound .few);
+  of-cells = lists-from C 0 K (λ m q h. shape-words K m (cellAt K m q) (f .invs m .shape q h) ∙ ap cellLength (sym (zero-add m))) (f .sound .few);
 }
 
 -- ---- no cell is empty or has a bad pointer

@@ -1,5 +1,5 @@
--- Lists that grow: what the kept cells stand for stays, and so do their pointers, tags, matches and symmetries. By induction on the height, a cell
--- that is kept being found under its number in the longer list. Assumes nothing.
+-- Lists that grow: what the kept cells stand for stays, and so do their pointers, tags, matches, symmetries and counts of solid voxels. By induction on
+-- the height, a cell that is kept being found under its number in the longer list. Assumes nothing.
 use mathlib.Core.Path.{_≡_, refl, sym, _∙_, subst, ap}
 use mathlib.Core.List.{List, [], _++_, append-nil, append-assoc}
 use mathlib.Core.Logic.{inl, inr}
@@ -10,13 +10,14 @@ use lib.Bits.{bitXor}
 use lib.ListN.{getD, length, length-append, List·getD-append}
 use Rattle.paper.specs.Rooms.{Point, Inside, childNo, inChild, mirror, Same}
 use Rattle.paper.specs.Outline.{edge}
-use Rattle.paper.specs.Store.{Cell, cellsAt, cellAt, tagOf, cellNo}
+use Rattle.paper.specs.Store.{Cell, cellsAt, cellAt, tagOf, cellNo, solidOf}
 use Rattle.paper.specs.Meaning.{pointerVoxel, cellVoxel}
 use Rattle.paper.specs.Match.{pointerMatch, cellMatch, matches}
 use Rattle.laws.proofs.Tests.{all-same}
 use Rattle.laws.proofs.Mirrors.{mirror-inside, childNo-lt, inChild-inside}
 use Rattle.laws.proofs.Matching.{selfAt}
 use Rattle.laws.proofs.Invariant.{OkPointer, OkCell, OkCells, Alike, LowTag, Shape, names-lt, names-ne, pointer-none, pointer-at}
+use Rattle.laws.proofs.TrueCounts.{over-each}
 use Rattle.laws.specs.Symmetries.{symmetryOf}
 use Rattle.laws.proofs.Symmetries.{symmetry-same, pointer-agree}
 
@@ -91,6 +92,23 @@ module _ {K K′ : List (List Cell)} (x : Extends K K′) where
     pub ext-shape : (k : ℕ) (c : Cell) → OkCell K k c → Shape K k c → Shape K′ k c
     ext-shape zero c o h = h
     ext-shape (suc k) c o h = (h .0, λ i hi. ext-low k (getD c i 0) (o i hi) (h .1 i hi))
+
+    -- a cell has as many solid voxels as before
+    solid-same-at : (k : ℕ) → ((c : Cell) → OkCell K k c → solidOf K′ k c ≡ solidOf K k c)
+        → (p : ℕ) → OkPointer (length (cellsAt K k)) p → (p ≡ 0 → ⊥) → solidOf K′ k (cellAt K′ k (cellNo p)) ≡ solidOf K k (cellAt K k (cellNo p))
+    solid-same-at k ih p (inl e) ne = absurd (ne e)
+    solid-same-at k ih p (inr h) ne = ap (solidOf K′ k) (ext-cell k (cellNo p) (names-lt h)) ∙ ih (cellAt K k (cellNo p)) (ok k (cellNo p) (names-lt h))
+
+    pub ext-solid : (k : ℕ) (c : Cell) → OkCell K k c → solidOf K′ k c ≡ solidOf K k c
+    unfolding solidOf
+    ext-solid zero c o = refl
+    ext-solid (suc k) c o =
+        over-each (λ n. solidOf K′ k (cellAt K′ k n)) (λ n. solidOf K k (cellAt K k n)) c c (λ i h. refl)
+        (λ i h z. solid-same-at k (ext-solid k) (getD c i 0) (o i h) z)
+
+    -- of the cell that a pointer names
+    pub ext-solid-at : (k p : ℕ) → OkPointer (length (cellsAt K k)) p → (p ≡ 0 → ⊥) → solidOf K′ k (cellAt K′ k (cellNo p)) ≡ solidOf K k (cellAt K k (cellNo p))
+    ext-solid-at k = solid-same-at k (ext-solid k)
 
     self-same-at : (k : ℕ) → ((c : Cell) (u : ℕ) → u < 8 → OkCell K k c → matches K′ k c c u ≡ matches K k c c u)
         → (p : ℕ) → OkPointer (length (cellsAt K k)) p → (p ≡ 0 → ⊥) → (u : ℕ) → u < 8 → selfAt K′ k (cellNo p) u ≡ selfAt K k (cellNo p) u

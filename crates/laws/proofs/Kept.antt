@@ -2,7 +2,7 @@
 -- says. By the groups that the words are cut into. Assumes nothing.
 use mathlib.Core.Path.{_≡_, refl, sym, ap, _∙_}
 use mathlib.Core.List.{List, []}
-use Prim.Native.Nat.{ℕ, zero, suc, _+_, _*_, _<_}
+use Prim.Native.Nat.{ℕ, zero, suc, _+_, _*_, _<_, _≤_}
 use native.Mathlib.Nat.{le-of-suc-le-suc, mul-zero, zero-add}
 use native.Mathlib.Omega.{arith}
 use lib.ListN.{length, take, drop, getD}
@@ -23,14 +23,10 @@ groups-at s w (suc n) (suc q) l h =
     let e : s + s * q ≡ s * suc q = omega arith in
     groups-at s w n q (drop s l) (le-of-suc-le-suc h) ∙ ap (take w) (drop-drop (s * q) s l ∙ ap (λ (i : ℕ). drop i l) e)
 
--- a cell's words are all that a store has for it
-pub cell-fills : (k : ℕ) → cellLength k ≡ stride k
-cell-fills zero = refl
-cell-fills (suc k) = refl
-
-pub kept-rows : (ws : List ℕ) (k : ℕ) → keptIn ws k ≡ groups (stride k) (stride k) (keptCount ws k) (drop (listPosition (capacityOf ws) k) ws)
-unfolding keptIn
-kept-rows ws k = ap (λ (w : ℕ). groups (stride k) w (keptCount ws k) (drop (listPosition (capacityOf ws) k) ws)) (cell-fills k)
+-- a cell's words are the first of those that a store has for it
+pub cell-fits : (k : ℕ) → cellLength k ≤ stride k
+cell-fits zero = omega arith
+cell-fits (suc k) = omega arith
 
 pub kept-list : (ws : List ℕ) (k : ℕ) → k < heights → cellsAt (keptOf ws) k ≡ keptIn ws k
 unfolding keptOf

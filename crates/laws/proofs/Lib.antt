@@ -21,8 +21,10 @@ pub mod Outlines
 pub mod OutlineClaim
 -- words
 pub mod Kept
+pub mod TrueCounts
 pub mod Padded
 pub mod Regions
+pub mod Rows
 pub mod Words
 pub mod Undamaged
 pub mod SoundWords
@@ -55,9 +57,11 @@ pub mod Unseen
 -- a scene's record by its pointers
 pub mod StoreFacts
 pub mod Records
--- sums over cubes and boxes
+-- sums over cubes and boxes, solid counts
 pub mod Sums
 pub mod Boxes
+pub mod Counts
+pub mod BoxTallies
 -- any list of calls on a new store
 pub mod TreesRead
 pub mod MirrorClaim
@@ -68,6 +72,7 @@ pub mod Refusals
 pub mod Running
 pub mod Walks
 pub mod Holding
+pub mod CountClaim
 pub mod NoDamage
 pub mod Differing
 pub mod Alone

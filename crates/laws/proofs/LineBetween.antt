@@ -11,9 +11,8 @@ use native.Mathlib.Omega.{arith}
 use borrow.Author.Tests.{ltb-true, ltb-false}
 use lib.Dec.{ltb}
 use lib.ListN.{length, getD}
-use Rattle.paper.specs.Rooms.{Point}
+use Rattle.paper.specs.Rooms.{Point, origin}
 use Rattle.paper.specs.Lines.{Meets, Before, Between, tested, firstFailing}
-use Rattle.laws.specs.Boxes.{origin}
 use Rattle.laws.proofs.FirstFailing.{none-passes, passes-none, FailsFirst, first-is, is-first}
 use Rattle.laws.proofs.LineMeeting.{meets-reversed}
 use Rattle.laws.proofs.LineTested.{Has, tested-met, tested-not-start, tested-not-end, tested-order, tested-once, met-tested}

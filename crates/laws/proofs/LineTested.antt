@@ -7,9 +7,8 @@ use Prim.Native.Nat.{ℕ, zero, suc, _+_, _<_, _≤_}
 use native.Mathlib.Nat.{le-of-suc-le-suc, not-suc-le-zero}
 use native.Mathlib.Omega.{arith}
 use lib.ListN.{length, getD, length-map}
-use Rattle.paper.specs.Rooms.{Point}
+use Rattle.paper.specs.Rooms.{Point, origin}
 use Rattle.paper.specs.Lines.{PointIn, Meets, Before, distances, voxelAt, samePoint, stepsFrom, wholeOf, tested}
-use Rattle.laws.specs.Boxes.{origin}
 use Rattle.laws.specs.Lines.{AtMost, leaveOf}
 use Rattle.laws.proofs.Tests.{false-unless}
 use Rattle.laws.proofs.Lists.{map-at}

@@ -119,6 +119,10 @@ map-at f [] i d e h = absurd (not-suc-le-zero h)
 map-at f (x ∷ l) zero d e h = refl
 map-at f (x ∷ l) (suc i) d e h = map-at f l i d e (le-of-suc-le-suc h)
 
+pub map-append : {A B : Type 0} (f : A → B) (l r : List A) → map f (l ++ r) ≡ map f l ++ map f r
+map-append f [] r = refl
+map-append f (x ∷ l) r = ap (_∷_ (f x)) (map-append f l r)
+
 pub allIn-map : {A B : Type 0} (p : B → Bool) (g : A → B) (l : List A) → allIn p (map g l) ≡ allIn (λ x. p (g x)) l
 unfolding allIn
 allIn-map p g [] = refl

@@ -1,5 +1,5 @@
 -- No call answers 2 on a store that only the calls wrote: its header, its scenes and the whole of it pass the tests, and no walk meets a bad
--- pointer. Call by call, by the tests of its order. Assumes nothing.
+-- pointer or a count too great. Call by call, by the tests of its order. Assumes nothing.
 use mathlib.Core.Path.{_≡_, refl, sym, _∙_, ap}
 use mathlib.Core.Bool.{Bool, false, not}
 use mathlib.Core.List.{List, []}
@@ -16,8 +16,9 @@ use Rattle.paper.specs.Sight.{decider, givesTwo, sightDamaged, sightOutside, si
 use Rattle.paper.specs.Runs.{StoreQuestion, voxel, sight, cell, box, kept, outline, pack, FileQuestion, check, packedVoxel, opening, ask, detail, Call, new, add, ofStore, ofFile, Held, storeAnswer, fileAnswer, outcomeOf}
 use Rattle.laws.proofs.Tests.{T-true}
 use Rattle.laws.proofs.Refusals.{settled-number, never-2, sound-never-2, question-never-2}
-use Rattle.laws.proofs.Walks.{voxel-clear, cell-clear, box-clear}
+use Rattle.laws.proofs.Walks.{voxel-clear, cell-clear}
 use Rattle.laws.proofs.Holding.{Holds, header-ok, scene-ok, there-below}
+use Rattle.laws.proofs.CountClaim.{scene-box-clear}
 
 -- 2 is in no order of a question that looks at no store
 file-undamaged : (q : FileQuestion) → fileAnswer q .number ≡ 2 → ⊥
@@ -45,9 +46,8 @@ module _ {ws : List ℕ} {held : Held} (s : Holds ws held) where
   unfolding cellDamaged
   cell-undamaged n h c e = cell-clear (keptOf ws) (s .invs) (sceneDepth ws n) (sceneRoot ws n) (s .means n (there-below s n e) .okp) h c
 
-  pub box-undamaged : (n : ℕ) (low high : Point) → noScene ws n ≡ false → boxDamaged ws n low high ≡ false
-  unfolding boxDamaged
-  box-undamaged n low high e = box-clear (keptOf ws) (s .invs) (sceneDepth ws n) (sceneRoot ws n) (s .means n (there-below s n e) .okp) low high
+  box-undamaged : (n : ℕ) (low high : Point) → noScene ws n ≡ false → boxDamaged ws n low high ≡ false
+  box-undamaged n low high e = scene-box-clear ws (s .ok) n low high (there-below s n e)
 
   -- ---- the calls
 

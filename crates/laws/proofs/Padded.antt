@@ -1,16 +1,17 @@
--- Cells laid one after the other and filled up with zeros are cut back into those cells, and words that end in zeros are the words of the cells
--- cut from them. By induction on the cells. Assumes nothing.
-use mathlib.Core.Path.{_≡_, refl, sym, _∙_, ap}
+-- Rows laid one after the other and filled up with zeros are cut back into those rows, or into the first words of each, and words that end in zeros are
+-- the words of the rows cut from them. By induction on the rows. Assumes nothing.
+use mathlib.Core.Path.{_≡_, refl, sym, _∙_, ap, ap₂}
 use mathlib.Core.Bool.{true}
-use mathlib.Core.List.{List, [], _∷_, _++_, append-assoc, append-nil}
+use mathlib.Core.List.{List, [], _∷_, _++_, map, append-assoc, append-nil}
 use Prim.Native.Nat.{ℕ, zero, suc, _+_, _-_, _*_, _<_, _≤_}
-use native.Mathlib.Nat.{zero-mul, add-zero, not-suc-le-zero, le-of-suc-le-suc, mul-le-mul-right}
+use native.Mathlib.Nat.{le-refl, zero-mul, add-zero, not-suc-le-zero, le-of-suc-le-suc, mul-le-mul-right}
 use native.Mathlib.Omega.{arith}
 use lib.Dec.{T, eqb}
 use lib.ListN.{length, take, drop, getD, set, replicate, length-set, List·getD-append, length-append, length-replicate, length-drop}
-use lib.Seq.{sets, length-sets, set-append-left, take-at, drop-at, take-add, drop-drop, length-take-le}
+use lib.Seq.{sets, length-sets, set-append-left, take-all, take-append-le, take-at, drop-at, take-add, drop-drop, length-take-le}
 use Rattle.paper.specs.Numbers.{allIn, flatten}
 use Rattle.paper.specs.Store.{Cell, groups, padded, blank}
+use Rattle.laws.proofs.Kept.{groups-at}
 use Rattle.laws.proofs.Lists.{zeros-of, zeros-pass}
 use Rattle.laws.proofs.Put.{sets-right, sets-left, sets-all, sets-zeros}
 
@@ -21,6 +22,11 @@ pub data Sized (w : ℕ) : List Cell → Type 0 where
   snil : Sized w []
   scons : {c : Cell} {cs : List Cell} → length c ≡ w → Sized w cs → Sized w (c ∷ cs)
 
+pub sized-at : {w : ℕ} {cs : List Cell} → Sized w cs → (q : ℕ) → q < length cs → length (getD cs q []) ≡ w
+sized-at snil q h = absurd (not-suc-le-zero h)
+sized-at (scons e r) zero h = e
+sized-at (scons e r) (suc q) h = sized-at r q (le-of-suc-le-suc h)
+
 pub flatten-length : {w : ℕ} {cs : List Cell} → Sized w cs → length (flatten cs) ≡ length cs * w
 unfolding flatten
 flatten-length {w} snil = sym (zero-mul w)
@@ -30,15 +36,27 @@ pub padded-length : {w : ℕ} {cs : List Cell} (n : ℕ) → Sized w cs → leng
 unfolding padded
 padded-length {w} {cs} n r h = simp (length-append, length-replicate, flatten-length r) (omega arith)
 
--- read group by group, they are the groups
-groups-flatten : {w : ℕ} {cs : List Cell} (l : List ℕ) → Sized w cs → groups w w (length cs) (flatten cs ++ l) ≡ cs
+-- read group by group, of each the first w words, they are the first w words of each
+groups-flatten : {s : ℕ} {cs : List Cell} (w : ℕ) (l : List ℕ) → w ≤ s → Sized s cs → groups s w (length cs) (flatten cs ++ l) ≡ map (take w) cs
 unfolding flatten groups
-groups-flatten l snil = refl
-groups-flatten {w} l (scons {c} {cs} e r) = rw (append-assoc, take-at c (flatten cs ++ l) w e, drop-at c (flatten cs ++ l) w e, groups-flatten l r)
+groups-flatten w l h snil = refl
+groups-flatten {s} w l h (scons {c} {cs} e r) =
+    ap (groups s w (suc (length cs))) (append-assoc c (flatten cs) l)
+    ∙ ap₂ _∷_ (take-append-le w c (flatten cs ++ l) (omega arith)) (ap (groups s w (length cs)) (drop-at c (flatten cs ++ l) s e) ∙ groups-flatten w l h r)
 
-pub groups-padded : {w : ℕ} {cs : List Cell} (n : ℕ) (l : List ℕ) → Sized w cs → groups w w (length cs) (padded n cs ++ l) ≡ cs
+pub groups-padded : {s : ℕ} {cs : List Cell} (w n : ℕ) (l : List ℕ) → w ≤ s → Sized s cs → groups s w (length cs) (padded n cs ++ l) ≡ map (take w) cs
 unfolding padded
-groups-padded {w} {cs} n l r = rw append-assoc (groups-flatten (replicate (n - length (flatten cs)) 0 ++ l) r)
+groups-padded {s} {cs} w n l h r = rw append-assoc (groups-flatten w (replicate (n - length (flatten cs)) 0 ++ l) h r)
+
+-- all words of each
+pub take-sized : {w : ℕ} {cs : List Cell} → Sized w cs → map (take w) cs ≡ cs
+take-sized snil = refl
+take-sized {w} (scons {c} {cs} e r) = ap₂ _∷_ (take-all w c (omega arith)) (take-sized r)
+
+-- row q, the words behind it cut off
+pub padded-row : {w : ℕ} {cs : List Cell} (n : ℕ) (l : List ℕ) (q : ℕ) → Sized w cs → q < length cs → take w (drop (w * q) (padded n cs ++ l)) ≡ getD cs q []
+padded-row {w} {cs} n l q r h =
+    sym (groups-at w w (length cs) q (padded n cs ++ l) h) ∙ ap (λ (x : List Cell). getD x q []) (groups-padded w n l (le-refl w) r ∙ take-sized r)
 
 -- past the cells there are zeros
 padded-zeros : {w : ℕ} {cs : List Cell} (n : ℕ) (l : List ℕ) → Sized w cs
@@ -129,11 +147,11 @@ row-word n row l i h =
 
 -- ---- cells cut
 
-pub groups-sized : (w n : ℕ) (l : List ℕ) → n * w ≤ length l → Sized w (groups w w n l)
+pub groups-sized : (s w n : ℕ) (l : List ℕ) → w ≤ s → n * s ≤ length l → Sized w (groups s w n l)
 unfolding groups
-groups-sized w zero l h = snil
-groups-sized w (suc n) l h =
-    scons (length-take-le w l (omega arith)) (groups-sized w n (drop w l) (rw length-drop (omega arith)))
+groups-sized s w zero l f h = snil
+groups-sized s w (suc n) l f h =
+    scons (length-take-le w l (omega arith)) (groups-sized s w n (drop s l) f (rw length-drop (omega arith)))
 
 flatten-groups : (w n : ℕ) (l : List ℕ) → flatten (groups w w n l) ≡ take (n * w) l
 unfolding flatten groups

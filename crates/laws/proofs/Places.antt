@@ -27,6 +27,14 @@ use Rattle.laws.proofs.Undamaged.{Undamaged}
 pub kept-none : (ws : List ℕ) (k : ℕ) → heights ≤ k → cellsAt (keptOf ws) k ≡ []
 kept-none ws k h = List·getD-eq-default (keptOf ws) [] {n = k} (rw (kept-tall ws) h)
 
+-- so a kept cell is of a list that the store has, and below its count
+pub kept-placed : (ws : List ℕ) (k q : ℕ) → q < length (cellsAt (keptOf ws) k) → (k < heights) × (q < keptCount ws k)
+kept-placed ws k q l = go (decLt k heights)
+  where
+    go : Dec (k < heights) → (k < heights) × (q < keptCount ws k)
+    go (yes h) = (h, subst (λ (n : ℕ). q < n) (kept-length ws k h) l)
+    go (no n) = absurd (not-suc-le-zero (subst (λ (cs : List Cell). q < length cs) (kept-none ws k (omega arith)) l))
+
 -- word i of cell q of list k
 pub kept-word : (ws : List ℕ) (k q i : ℕ) → k < heights → q < keptCount ws k → i < cellLength k
     → getD (cellAt (keptOf ws) k q) i 0 ≡ getD ws (cellPosition (capacityOf ws) k q + i) 0

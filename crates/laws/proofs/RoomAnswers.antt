@@ -19,7 +19,7 @@ use Rattle.paper.specs.Walk.{Walk, solidAt, emptyHeight, onward, walkIn}
 use Rattle.paper.specs.Questions.{childFor, graphReading, voxelWalk, corner, pointerTo, cellNonEmpty}
 use Rattle.paper.specs.Answers.{told, outcome}
 use Rattle.paper.specs.Order.{firstOf}
-use Rattle.paper.specs.Calls.{over, questionOrder, voxelOutside, voxelDamaged, voxelOutcome, cellOutside, cellDamaged, cellOutcome, axisOutside, boxOutside, boxDamaged, boxOutcome, outlineBytes, outlineShort, outlineOutOrder, outlineOutcome}
+use Rattle.paper.specs.Calls.{over, questionOrder, voxelOutside, voxelDamaged, voxelOutcome, cellOutside, cellDamaged, cellOutcome, axisOutside, boxOutside, boxOutcome, outlineBytes, outlineShort, outlineOutOrder, outlineOutcome}
 use Rattle.paper.specs.Runs.{Scene, Held}
 use Rattle.laws.proofs.Tests.{T-true}
 use Rattle.laws.proofs.Occurring.{same-cell}
@@ -30,7 +30,8 @@ use Rattle.laws.proofs.Outlines.{depth-two, outline-same, read-written,
 use Rattle.laws.proofs.Refusals.{settled-accepted, question-accepted}
 use Rattle.laws.proofs.Boxes.{box-same}
 use Rattle.laws.proofs.Holding.{Holds, HeldAt, header-ok, scene-ok, below-there, root-room}
-use Rattle.laws.proofs.NoDamage.{voxel-undamaged, cell-undamaged, box-undamaged}
+use Rattle.laws.proofs.NoDamage.{voxel-undamaged, cell-undamaged}
+use Rattle.laws.proofs.CountClaim.{counts-hold}
 use Rattle.laws.proofs.CellVoxels.{voxel-untested, voxel-means}
 use Rattle.laws.proofs.CellPoints.{pointAt, inside-is}
 use Rattle.laws.proofs.CellWalk.{Ends, leads, ends-nonEmpty}
@@ -139,7 +140,7 @@ module _ {ws : List ℕ} {held : Held} (s : Holds ws held) (n : ℕ) {sc : Scene
   pub box-answer : (low high : Point)
       → (low .x ≤ high .x) × (high .x ≤ 2 ^ sc .depth) × (low .y ≤ high .y) × (high .y ≤ 2 ^ sc .depth) × (low .z ≤ high .z) × (high .z ≤ 2 ^ sc .depth)
       → boxOutcome ws n low high ≡ outcome (told 0 (boxCount (2 ^ sc .depth) (sc .room) low high ∷ [])) []
-  unfolding boxOutcome boxOutside
+  unfolding boxOutside
   box-answer low high (lx, hx, ly, hy, lz, hz) =
       let D : ℕ = sceneDepth ws n in
       let S : ℕ = 2 ^ D in
@@ -150,8 +151,7 @@ module _ {ws : List ℕ} {held : Held} (s : Holds ws held) (n : ℕ) {sc : Scene
         axis-passes S (low .y) (high .y) ly (subst (λ (x : ℕ). high .y ≤ x) e hy),
         axis-passes S (low .z) (high .z) lz (subst (λ (x : ℕ). high .z ≤ x) e hz),
       ) in
-      settled-accepted (firstOf (questionOrder ws n (boxOutside ws n low high) (boxDamaged ws n low high))) (boxCount S R low high ∷ []) [] []
-      (question-0 (boxOutside ws n low high) (boxDamaged ws n low high) out (box-undamaged s n low high (below-there s n (a .below))))
+      counts-hold ws (s .ok) .boxes n low high (a .below) out
       ∙ ap (λ (x : ℕ). outcome (told 0 (x ∷ [])) []) (box-same S R (sc .room) low high room-is ∙ ap (λ (x : ℕ). boxCount x (sc .room) low high) (sym e))
 
   -- the file that came

@@ -20,8 +20,9 @@ use Rattle.paper.specs.Order.{firstOf}
 use Rattle.paper.specs.Calls.{over, badSize, newOrder, newWords, newOutcome, nextScene, adding, isFull, cellsFull, addOrder, withScene, addWords, addOutcome}
 use Rattle.paper.specs.Runs.{Call, new, add, ofStore, ofFile, Bytes, Given, sceneOf, Held, nothing, holding, State, accepted, step, run, start, AllGiven, Reached}
 use Rattle.laws.proofs.Tests.{true-T, and-left}
-use Rattle.laws.proofs.Words.{lists-place, Fine, storeWith, stored, wordsOf-length, storeOf-wordsOf, capacity-read, kept-read, scenes-read}
+use Rattle.laws.proofs.Words.{Fine, storeWith, stored, wordsOf-length, storeOf-wordsOf, capacity-read, kept-read, scenes-read}
 use Rattle.laws.proofs.Regions.{inRow, regionPlace}
+use Rattle.laws.proofs.Rows.{lists-place}
 use Rattle.laws.proofs.Filled.{Filled, filled-fine}
 use Rattle.laws.proofs.Filling.{empty-filled, AddsFile, file-adds, S⁺, held⁺, add-filled}
 use Rattle.laws.proofs.Refusals.{settled-accepted, settled-refused, settled-number, Passed, add-passed}
@@ -41,11 +42,11 @@ no-words : (n : ℕ) → padded n [] ≡ replicate n 0
 unfolding padded flatten
 no-words n = let e : n - 0 ≡ n = omega arith in ap (λ (m : ℕ). replicate m 0) e
 
-no-lists : (C j n : ℕ) → inRow (listRegions C j (replicate n [])) ≡ replicate (regionPlace (listRegions C j (replicate n [])) n) 0
+no-lists : (K : List (List Cell)) (C j n : ℕ) → inRow (listRegions K C j (replicate n [])) ≡ replicate (regionPlace (listRegions K C j (replicate n [])) n) 0
 unfolding listRegions flatten regionPlace
-no-lists C j zero = refl
-no-lists C j (suc n) =
-    ap₂ (λ (a b : List ℕ). a ++ b) (no-words (stride j * C)) (no-lists C (suc j) n) ∙ replicate-append-replicate (stride j * C) (regionPlace (listRegions C (suc j) (replicate n [])) n) 0
+no-lists K C j zero = refl
+no-lists K C j (suc n) =
+    ap₂ (λ (a b : List ℕ). a ++ b) (no-words (stride j * C)) (no-lists K C (suc j) n) ∙ replicate-append-replicate (stride j * C) (regionPlace (listRegions K C (suc j) (replicate n [])) n) 0
 
 no-scenes : padded (sceneWords * mostScenes) (replicate mostScenes freePlace) ≡ replicate (sceneWords * mostScenes) 0
 unfolding padded flatten
@@ -59,11 +60,12 @@ bare-header C = refl
 empty-words : (C : ℕ) → wordsOf (storeWith C 0 (emptyStore C .scenes) (emptyStore C .kept)) ≡ C ∷ replicate (used C - 1) 0
 unfolding wordsOf emptyStore flatten
 empty-words C =
-    let n : ℕ = regionPlace (listRegions C 0 (replicate heights [])) heights in
+    let K : List (List Cell) = replicate heights [] in
+    let n : ℕ = regionPlace (listRegions K C 0 K) heights in
     let m : ℕ = sceneWords * mostScenes in
-    let place : firstList + n ≡ used C = lists-place C 0 (replicate heights []) heights (omega arith) in
+    let place : firstList + n ≡ used C = lists-place K C 0 K heights (omega arith) in
     let e : firstScene - 1 + (m + n) ≡ used C - 1 = omega (arith, place) in
-    ap₂ (λ (a b : List ℕ). a ++ b) (bare-header C) (ap₂ (λ (a b : List ℕ). a ++ b) no-scenes (no-lists C 0 heights) ∙ replicate-append-replicate m n 0)
+    ap₂ (λ (a b : List ℕ). a ++ b) (bare-header C) (ap₂ (λ (a b : List ℕ). a ++ b) no-scenes (no-lists K C 0 heights) ∙ replicate-append-replicate m n 0)
     ∙ ap (λ (a : List ℕ). C ∷ a) (replicate-append-replicate (firstScene - 1) (m + n) 0 ∙ ap (λ (j : ℕ). replicate j 0) e)
 
 pub new-words : (C : ℕ) (ws : List ℕ) → newWords C ws ≡ stored C 0 (emptyStore C .scenes) (emptyStore C .kept) (drop (used C) ws)

@@ -1,22 +1,25 @@
--- Whether the words of a fine store are undamaged is a test on its scenes and cells alone, whatever words follow. By what its words give back, and
--- the zeros that fill up the header, the scenes and each list. Assumes nothing.
-use mathlib.Core.Path.{_≡_, sym, ap, ap₂, _∙_}
-use mathlib.Core.Bool.{Bool, true, cond, not, _&&_}
+-- Whether the words of a fine store are undamaged is a test on its scenes and cells alone, whatever words follow. By what its words give back, the
+-- counts among them, and the zeros that fill up the header, the scenes and each list. Assumes nothing.
+use mathlib.Core.Path.{_≡_, refl, sym, ap, ap₂, _∙_, subst}
+use mathlib.Core.Bool.{Bool, true, false, cond, not, _&&_}
 use mathlib.Core.List.{List, [], _++_}
-use Prim.Native.Nat.{ℕ, suc, _+_, _-_, _*_, _<_}
+use Prim.Native.Nat.{ℕ, zero, suc, _+_, _-_, _*_, _<_}
 use native.Mathlib.Nat.{add-zero}
 use native.Mathlib.Omega.{arith}
+use borrow.Author.Tests.{eq-eqb}
 use lib.Dec.{T, eqb, ltb}
-use lib.ListN.{length, drop, getD, length-append}
+use lib.ListN.{length, drop, getD, length-append, length-map}
 use Rattle.paper.specs.Numbers.{allBelow}
 use Rattle.paper.specs.Rooms.{depthOk}
-use Rattle.paper.specs.Store.{Cell, Store, cellsAt, badPointer, mostScenes, heights, capacityOf, isHeld, keptCount, sceneWords, scenePosition, stride, listPosition, cellPosition}
-use Rattle.paper.specs.Store.{keptOf, sceneDepth, sceneRoot, listRegions, wordsOf, blank, capacityOk, headerOk, sceneOk, placeOk, listUsable, listBlank, storeOk}
-use Rattle.laws.proofs.Tests.{T-true, and-true, all-T, true-T, all-same}
+use Rattle.paper.specs.Store.{Cell, Store, cellsAt, cellAt, badPointer, mostScenes, heights, capacityOf, isHeld, keptCount, sceneWords, scenePosition, stride, listPosition, cellPosition}
+use Rattle.paper.specs.Store.{keptOf, overChildren, solidOf, countOf, sceneDepth, sceneRoot, rowOf, listRegions, wordsOf, blank, capacityOk, headerOk, sceneOk, placeOk, listUsable, countsOk, listBlank, storeOk}
+use Rattle.laws.proofs.Tests.{T-true, and-true, all-at, all-T, true-T, all-same}
 use Rattle.laws.proofs.Kept.{scene-word}
 use Rattle.laws.proofs.Padded.{padded-blank}
 use Rattle.laws.proofs.Regions.{inRow}
-use Rattle.laws.proofs.Words.{storeWith, Fine, wordsOf-length, cells-sized, cells-few, zeros-from, cells-from, capacity-read, scenes-read, count-read, kept-read, storeOf-wordsOf}
+use Rattle.laws.proofs.TrueCounts.{over-same, usable-sound}
+use Rattle.laws.proofs.Rows.{rows-sized}
+use Rattle.laws.proofs.Words.{storeWith, Fine, wordsOf-length, cells-sized, cells-few, zeros-from, cells-from, capacity-read, scenes-read, count-read, kept-read, storeOf-wordsOf, solid-read}
 use Rattle.laws.proofs.Undamaged.{FineHeader, fine-header-ok, depth-list, list-blank-at}
 
 -- a scene's depth is in range, and its root pointer not bad
@@ -33,6 +36,10 @@ placeSound N S K n = cond (heldIn N S n) (sceneSound K (getD S n [])) (eqb (getD
 
 unfoldable pub soundStore : Store → Bool
 soundStore s = allBelow mostScenes (placeSound (s .held) (s .scenes) (s .kept)) && allBelow heights (listUsable (s .kept))
+
+and-false : (b : Bool) → b && false ≡ false
+and-false true = refl
+and-false false = refl
 
 module _ (C N : ℕ) (S : List Cell) (Ks : List (List Cell)) (f : Fine C N S Ks) (l : List ℕ) where
   abbrev ws : List ℕ
@@ -82,18 +89,44 @@ module _ (C N : ℕ) (S : List Cell) (Ks : List (List Cell)) (f : Fine C N S Ks)
   list-blank k h =
       ap₂ (λ (c m : ℕ). blank ws (cellPosition c k m) (stride k * (c - m))) (capacity-read C N S Ks f l) (count-read C N S Ks f l k h)
       ∙ list-blank-at ws C k (length (cellsAt Ks k))
-      ∙ padded-blank ws (listPosition C k) (stride k * C) (inRow (drop (suc k) (listRegions C 0 Ks)) ++ l) (cells-sized C N S Ks f k h) (cells-from C N S Ks f l k h)
+      ∙ ap (λ (m : ℕ). blank ws (listPosition C k + m * stride k) (stride k * C - m * stride k)) (sym (length-map (cellsAt Ks k) (rowOf Ks k)))
+      ∙ padded-blank ws (listPosition C k) (stride k * C) (inRow (drop (suc k) (listRegions Ks C 0 Ks)) ++ l) (rows-sized Ks k (cells-sized C N S Ks f k h)) (cells-from C N S Ks f l k h)
+
+  -- ---- counts are true, where every pointer of a kept cell names a kept cell
+
+  module _ (usable : T (allBelow heights (listUsable Ks))) where
+    count-true : (k n : ℕ) → suc k < heights → n < length (cellsAt Ks (suc k)) → countOf ws (suc k) n ≡ overChildren (countOf ws k) (cellAt Ks (suc k) n)
+    unfolding solidOf
+    count-true k n h hn =
+        solid-read C N S Ks f l (suc k) n h hn
+        ∙ over-same (λ q. solidOf Ks k (cellAt Ks k q)) (countOf ws k) (length (cellsAt Ks k)) (cellAt Ks (suc k) n) (usable-sound Ks k n (all-at heights (listUsable Ks) usable (suc k) h) hn)
+        (λ q hq. sym (solid-read C N S Ks f l k q (omega arith) hq))
+
+    counts-pass : (k : ℕ) → k < heights → T (countsOk ws k)
+    unfolding countsOk
+    counts-pass zero h = tt
+    counts-pass (suc k) h =
+        all-T (keptCount ws (suc k)) (λ n. eqb (countOf ws (suc k) n) (overChildren (countOf ws k) (cellAt (keptOf ws) (suc k) n)))
+        (λ n hn.
+        true-T (eq-eqb (countOf ws (suc k) n) (overChildren (countOf ws k) (cellAt (keptOf ws) (suc k) n))
+        (count-true k n h (subst (λ (m : ℕ). n < m) (count-read C N S Ks f l (suc k) h) hn)
+        ∙ ap (λ (K : List (List Cell)). overChildren (countOf ws k) (cellAt K (suc k) n)) (sym (kept-read C N S Ks f l)))))
 
   -- ---- undamaged
 
-  join : (H S U B S′ U′ : Bool) → H ≡ true → S ≡ S′ → U ≡ U′ → B ≡ true → H && S && U && B ≡ S′ && U′
-  join H S U B S′ U′ h e u b = rw (h, e, u, b) (and-true (S′ && U′))
+  join : (H S U B N S′ U′ : Bool) → H ≡ true → S ≡ S′ → U ≡ U′ → B ≡ true → (T U′ → N ≡ true) → H && S && U && B && N ≡ S′ && U′
+  join H S U B N S′ U′ h e u b n = rw (h, e, u, b) (go U′ n)
+    where
+      go : (b : Bool) → (T b → N ≡ true) → S′ && b && true && N ≡ S′ && b
+      go true m = rw (m tt) (and-true (S′ && true && true) ∙ and-true (S′ && true))
+      go false m = rw (and-false S′)
 
   pub sound-words : T (capacityOk C) → storeOk (wordsOf (storeWith C N S Ks) ++ l) ≡ soundStore (storeWith C N S Ks)
   unfolding storeOk soundStore
   sound-words c =
-      join (headerOk ws) (allBelow mostScenes (placeOk ws)) (allBelow heights (listUsable (keptOf ws))) (allBelow heights (listBlank ws))
+      join (headerOk ws) (allBelow mostScenes (placeOk ws)) (allBelow heights (listUsable (keptOf ws))) (allBelow heights (listBlank ws)) (allBelow heights (countsOk ws))
       (allBelow mostScenes (placeSound N S Ks)) (allBelow heights (listUsable Ks))
       (T-true (fine-header-ok ws (words-header c))) (all-same mostScenes (placeOk ws) (placeSound N S Ks) place-sound)
       (ap (λ (K : List (List Cell)). allBelow heights (listUsable K)) (kept-read C N S Ks f l))
       (T-true (all-T heights (listBlank ws) (λ k h. true-T (list-blank k h))))
+      (λ t. T-true (all-T heights (countsOk ws) (counts-pass t)))

@@ -1,10 +1,11 @@
--- What the tests of a store say; the store that words with a good header hold is fine, and an undamaged store's words are the words of the store
--- that they hold, followed by the rest of the slice. By the regions of the words, each cut into cells and padded with zeros. Assumes nothing.
+-- What the tests of a store say; the store that words with a good header hold is fine, and an undamaged store's 32-bit words are the words of the store
+-- that they hold, followed by the rest of the slice. By the regions of the words, each cut into rows and padded with zeros; the counts are true.
+-- Assumes nothing.
 use mathlib.Core.Path.{_≡_, refl, sym, _∙_, subst, ap, ap₂}
 use mathlib.Core.Bool.{Bool, true, false, cond, not, _&&_}
 use mathlib.Core.List.{List, [], _∷_, _++_, map, append-nil}
-use Prim.Native.Nat.{ℕ, zero, suc, _+_, _-_, _*_, _<_, _≤_}
-use native.Mathlib.Nat.{zero-add}
+use Prim.Native.Nat.{ℕ, zero, suc, _+_, _-_, _*_, _/_, _%_, _^_, _<_, _≤_}
+use native.Mathlib.Nat.{zero-add, mul-le-mul-left}
 use native.Mathlib.Omega.{arith}
 use borrow.Author.Tests.{not-false, le-ltb}
 use lib.Dec.{T, leb, leb→le, le→leb, ltb→lt}
@@ -12,14 +13,17 @@ use lib.ListN.{length, take, drop, getD, replicate, length-map, length-drop, tak
 use lib.Seq.{take-add, drop-drop, length-take-le, ext-getD, getD-take, getD-drop}
 use Rattle.paper.specs.Numbers.{tabulate, allBelow, allIn, flatten}
 use Rattle.paper.specs.Rooms.{depthOk}
-use Rattle.paper.specs.Store.{Cell, mostScenes, heights, used, capacityOf, scenesHeld, isHeld, keptCount, zerosPosition, firstScene, sceneWords, stride, listPosition, cellPosition, keptIn, keptOf, storeOf, padded, region, regionWords, listRegions, headerRow, regions, wordsOf, blank, capacityOk, headerOk, sceneOk, isFree, placeOk, listUsable, listBlank, storeOk}
+use Rattle.paper.specs.Store.{Cell, cellAt, twoWords, mostScenes, heights, used, capacityOf, scenesHeld, isHeld, keptCount, zerosPosition, firstScene, sceneWords, cellLength, stride, listPosition, cellPosition, countPosition, groups, keptIn, keptOf, storeOf, solidOf, countOf}
+use Rattle.paper.specs.Store.{padded, regionWords, rowOf, listRegions, headerRow, regions, wordsOf, blank, capacityOk, headerOk, sceneOk, isFree, placeOk, listUsable, countsOk, listBlank, storeOk}
 use Rattle.paper.specs.Calls.{nextScene, noScene}
-use Rattle.laws.proofs.Tests.{T-true, true-T, and-right, and4, and5, and5-T, all-at, all-T}
+use Rattle.laws.proofs.Tests.{T-true, true-T, and-right, and5, and5-T, all-at, all-T}
 use Rattle.laws.proofs.Lists.{map-at}
-use Rattle.laws.proofs.Kept.{kept-rows, keptIn-length, kept-list, kept-length, kept-tall, places-length}
-use Rattle.laws.proofs.Padded.{Sized, groups-sized, blank-zeros, padded-groups}
+use Rattle.laws.proofs.Kept.{groups-length, groups-at, cell-fits, keptIn-length, kept-list, kept-length, kept-cell, kept-tall, places-length}
+use Rattle.laws.proofs.Padded.{groups-sized, blank-zeros, padded-groups}
 use Rattle.laws.proofs.Regions.{regionAt, regionPlace, regions-length, regions-back}
-use Rattle.laws.proofs.Words.{Lists, lnil, lcons, list-in, words-fit, lists-place, lists-many, list-region, Fine, store-fit, wordsOf-length}
+use Rattle.laws.proofs.TrueCounts.{counts-below}
+use Rattle.laws.proofs.Rows.{Lists, lnil, lcons, list-in, words-fit, lists-place, lists-many, listOf, list-region}
+use Rattle.laws.proofs.Words.{Fine, store-fit, wordsOf-length}
 
 -- ---- what the tests say
 
@@ -62,11 +66,12 @@ pub record Undamaged (ws : List ℕ) : Type 0 where
   pub places : (n : ℕ) → n < mostScenes → T (placeOk ws n)
   pub usable : (k : ℕ) → k < heights → T (listUsable (keptOf ws) k)
   pub list-zeros : (k : ℕ) → k < heights → T (listBlank ws k)
+  pub counts : (k : ℕ) → k < heights → T (countsOk ws k)
 
 store-tests : (ws : List ℕ) → T (storeOk ws)
-    → T (headerOk ws) × T (allBelow mostScenes (placeOk ws)) × T (allBelow heights (listUsable (keptOf ws))) × T (allBelow heights (listBlank ws))
+    → T (headerOk ws) × T (allBelow mostScenes (placeOk ws)) × T (allBelow heights (listUsable (keptOf ws))) × T (allBelow heights (listBlank ws)) × T (allBelow heights (countsOk ws))
 unfolding storeOk
-store-tests ws = and4 (headerOk ws) (allBelow mostScenes (placeOk ws)) (allBelow heights (listUsable (keptOf ws))) (allBelow heights (listBlank ws))
+store-tests ws = and5 (headerOk ws) (allBelow mostScenes (placeOk ws)) (allBelow heights (listUsable (keptOf ws))) (allBelow heights (listBlank ws)) (allBelow heights (countsOk ws))
 
 -- an undamaged store has a good header
 pub store-header : (ws : List ℕ) → T (storeOk ws) → T (headerOk ws)
@@ -85,6 +90,7 @@ undamaged ws t =
       places = all-at mostScenes (placeOk ws) (s .1);
       usable = all-at heights (listUsable (keptOf ws)) (s .2);
       list-zeros = all-at heights (listBlank ws) (s .3);
+      counts = all-at heights (countsOk ws) (s .4);
     }
 
 pub undamaged-header : {ws : List ℕ} → Undamaged ws → FineHeader ws
@@ -124,21 +130,21 @@ depth-list D f g e = go (depthOk D) refl
 
 module _ (ws : List ℕ) (h : FineHeader ws) where
   tables-fine : (n j : ℕ) → j + n ≡ heights → Lists (capacityOf ws) j (tabulate j n (keptIn ws))
-  unfolding tabulate
+  unfolding tabulate keptIn
   tables-fine zero j e = lnil
   tables-fine (suc n) j e =
       let C : ℕ = capacityOf ws in
       let m : ℕ = keptCount ws j in
       let hj : j < heights = omega arith in
       let hl : m * stride j ≤ length (drop (listPosition C j) ws) = rw length-drop (omega (arith, h .long, list-in C j hj, words-fit j m C (h .few j hj))) in
-      lcons (subst (Sized (stride j)) (sym (kept-rows ws j)) (groups-sized (stride j) m (drop (listPosition C j) ws) hl)) (rw (keptIn-length ws j) (h .few j hj))
+      lcons (groups-sized (stride j) (cellLength j) m (drop (listPosition C j) ws) (cell-fits j) hl) (rw (keptIn-length ws j) (h .few j hj))
       (tables-fine n (suc j) (omega arith))
 
   pub header-fine : Fine (capacityOf ws) (scenesHeld ws) (storeOf ws .scenes) (storeOf ws .kept)
   unfolding storeOf keptOf
   header-fine = record {
     lists = kept-tall ws;
-    of-scenes = groups-sized sceneWords mostScenes (drop firstScene ws) (rw length-drop (omega (arith, h .long)));
+    of-scenes = groups-sized sceneWords sceneWords mostScenes (drop firstScene ws) (omega arith) (rw length-drop (omega (arith, h .long)));
     all-scenes = places-length ws;
     few-scenes = h .held;
     of-cells = tables-fine heights 0 refl;
@@ -150,6 +156,13 @@ take2 : (ws : List ℕ) → 2 ≤ length ws → take 2 ws ≡ getD ws 0 0 ∷ ge
 take2 [] h = absurd (omega arith)
 take2 (x ∷ []) h = absurd (omega arith)
 take2 (x ∷ y ∷ ws) h = refl
+
+-- two words are those of their number
+pair-words : (h l : ℕ) → l < 2 ^ 32 → twoWords (h * 2 ^ 32 + l) ≡ h ∷ l ∷ []
+pair-words h l s =
+    let high : (h * 2 ^ 32 + l) / 2 ^ 32 ≡ h = omega arith in
+    let low : (h * 2 ^ 32 + l) % 2 ^ 32 ≡ l = omega arith in
+    λ i. high i ∷ low i ∷ []
 
 -- the zeros of list j, counted in groups
 pub list-blank-at : (ws : List ℕ) (C j n : ℕ) → blank ws (cellPosition C j n) (stride j * (C - n)) ≡ blank ws (listPosition C j + n * stride j) (stride j * C - n * stride j)
@@ -186,42 +199,77 @@ module _ (ws : List ℕ) (u : Undamaged ws) where
   unfolding storeOf blank allIn
   scenes-back = padded-groups ws firstScene sceneWords mostScenes (sceneWords * mostScenes) (omega arith) (omega (arith, u .long)) tt
 
-  list-back : (j : ℕ) → j < heights → padded (stride j * capacityOf ws) (keptIn ws j) ≡ take (stride j * capacityOf ws) (drop (listPosition (capacityOf ws) j) ws)
-  list-back j h =
-      let C : ℕ = capacityOf ws in
-      let n : ℕ = keptCount ws j in
-      ap (padded (stride j * C)) (kept-rows ws j)
-      ∙ padded-groups ws (listPosition C j) (stride j) n (stride j * C) (words-fit j n C (u .few j h)) (omega (arith, u .long, list-in C j h))
-      (subst T (list-blank-at ws C j n) (u .list-zeros j h))
-
   pub store-fine : Fine (capacityOf ws) (scenesHeld ws) (storeOf ws .scenes) (storeOf ws .kept)
   store-fine = header-fine ws (undamaged-header u)
+
+  -- each count is true
+  count-back : (j q : ℕ) → j < heights → q < keptCount ws j → countOf ws j q ≡ solidOf (keptOf ws) j (cellAt (keptOf ws) j q)
+  count-back j q h = counts-below ws (all-T heights (listUsable (keptOf ws)) (u .usable)) j h (λ i l. u .counts i (omega arith)) q
 
   words-long : length (wordsOf (storeOf ws)) ≡ used (capacityOf ws)
   unfolding storeOf
   words-long = wordsOf-length (capacityOf ws) (scenesHeld ws) (storeOf ws .scenes) (storeOf ws .kept) store-fine
 
-  -- each region's words stand where it starts
-  region-back : (i : ℕ) → i < length (regions (storeOf ws))
-      → regionWords (regionAt (regions (storeOf ws)) i) ≡ take (regionAt (regions (storeOf ws)) i .size) (drop (0 + regionPlace (regions (storeOf ws)) i) ws)
-  unfolding regionPlace storeOf
-  region-back zero h = header-back
-  region-back (suc zero) h = scenes-back
-  region-back (suc (suc k)) h =
-      let C : ℕ = capacityOf ws in
-      let K : List (List Cell) = keptOf ws in
-      let hk : k < heights = omega (arith, lists-many C 0 K, kept-tall ws) in
-      let there : regionAt (listRegions C 0 K) k ≡ region (stride k * C) (keptIn ws k) =
-      list-region C 0 K k (omega (arith, kept-tall ws)) ∙ ap₂ (λ (i : ℕ) (cs : List Cell). region (stride i * C) cs) (zero-add k) (kept-list ws k hk) in
-      let start : 0 + (firstScene + (sceneWords * mostScenes + regionPlace (listRegions C 0 K) k)) ≡ listPosition C k =
-      omega (arith, lists-place C 0 K k (omega (arith, kept-tall ws)) ∙ ap (listPosition C) (zero-add k)) in
-      rw (there, start) (list-back k hk)
+  module _ (words : (i : ℕ) → getD ws i 0 < 2 ^ 32) where
+    abbrev K : List (List Cell)
+    K = keptOf ws
 
-  pub words-front : wordsOf (storeOf ws) ≡ take (used (capacityOf ws)) ws
-  unfolding wordsOf storeOf
-  words-front =
-      regions-back ws 0 (regions (storeOf ws)) region-back ∙ ap (λ (n : ℕ). take n ws) (sym (regions-length (store-fit (storeOf ws .capacity) (storeOf ws .held) (storeOf ws .scenes) (storeOf ws .kept) store-fine)) ∙ words-long)
+    abbrev C : ℕ
+    C = capacityOf ws
 
-  -- the words are those of the store that they hold, and the rest of the slice
-  pub wordsOf-storeOf : wordsOf (storeOf ws) ++ drop (used (capacityOf ws)) ws ≡ ws
-  wordsOf-storeOf = ap (λ (x : List ℕ). x ++ drop (used (capacityOf ws)) ws) words-front ∙ take-append-drop (used (capacityOf ws)) ws
+    -- a cell's row is what stands at its place
+    row-back : (j q : ℕ) → j < heights → q < keptCount ws j → rowOf (keptOf ws) j (cellAt (keptOf ws) j q) ≡ take (stride j) (drop (cellPosition (capacityOf ws) j q) ws)
+    unfolding countOf
+    row-back zero q h hq = kept-cell ws 0 q h hq
+    row-back (suc j) q h hq =
+        let a : ℕ = cellPosition C (suc j) q in
+        let b : ℕ = countPosition C (suc j) q in
+        let l : List ℕ = drop b ws in
+        let low : getD l 1 0 < 2 ^ 32 = rw (getD-drop b ws 1 0) (words (b + 1)) in
+        let long : 2 ≤ length l = rw (length-drop b ws) (omega (arith, u .long, list-in C (suc j) h, mul-le-mul-left (stride (suc j)) (u .few (suc j) h), mul-le-mul-left (stride (suc j)) hq)) in
+        ap₂ (λ (c : Cell) (n : ℕ). c ++ twoWords n) (kept-cell ws (suc j) q h hq) (sym (count-back (suc j) q h hq))
+        ∙ ap (λ (r : List ℕ). take 8 (drop a ws) ++ r) (pair-words (getD l 0 0) (getD l 1 0) low ∙ sym (take2 l long) ∙ ap (take 2) (sym (drop-drop 8 a ws)))
+        ∙ sym (take-add 8 2 (drop a ws))
+
+    rows-back : (j : ℕ) → j < heights → map (rowOf (keptOf ws) j) (keptIn ws j) ≡ groups (stride j) (stride j) (keptCount ws j) (drop (listPosition (capacityOf ws) j) ws)
+    rows-back j h =
+        let w : ℕ = stride j in
+        let n : ℕ = keptCount ws j in
+        let p : ℕ = listPosition C j in
+        let long : length (map (rowOf K j) (keptIn ws j)) ≡ n = length-map (keptIn ws j) (rowOf K j) ∙ keptIn-length ws j in
+        ext-getD [] (map (rowOf K j) (keptIn ws j)) (groups w w n (drop p ws)) (long ∙ sym (groups-length w w n (drop p ws)))
+        (λ q l.
+        let hq : q < n = omega (arith, long) in
+        map-at (rowOf K j) (keptIn ws j) q [] [] (rw (keptIn-length ws j) hq) ∙ ap (λ (cs : List Cell). rowOf K j (getD cs q [])) (sym (kept-list ws j h))
+        ∙ row-back j q h hq ∙ sym (groups-at w w n q (drop p ws) hq ∙ ap (take w) (drop-drop (w * q) p ws)))
+
+    list-back : (j : ℕ) → j < heights
+        → padded (stride j * capacityOf ws) (map (rowOf (keptOf ws) j) (keptIn ws j)) ≡ take (stride j * capacityOf ws) (drop (listPosition (capacityOf ws) j) ws)
+    list-back j h =
+        let n : ℕ = keptCount ws j in
+        ap (padded (stride j * C)) (rows-back j h)
+        ∙ padded-groups ws (listPosition C j) (stride j) n (stride j * C) (words-fit j n C (u .few j h)) (omega (arith, u .long, list-in C j h))
+        (subst T (list-blank-at ws C j n) (u .list-zeros j h))
+
+    -- each region's words stand where it starts
+    region-back : (i : ℕ) → i < length (regions (storeOf ws))
+        → regionWords (regionAt (regions (storeOf ws)) i) ≡ take (regionAt (regions (storeOf ws)) i .size) (drop (0 + regionPlace (regions (storeOf ws)) i) ws)
+    unfolding regionPlace storeOf
+    region-back zero h = header-back
+    region-back (suc zero) h = scenes-back
+    region-back (suc (suc k)) h =
+        let hk : k < heights = omega (arith, lists-many K C 0 K, kept-tall ws) in
+        let there : regionAt (listRegions K C 0 K) k ≡ listOf K C k (keptIn ws k) =
+        list-region K C 0 K k (omega (arith, kept-tall ws)) ∙ ap₂ (λ (i : ℕ) (cs : List Cell). listOf K C i cs) (zero-add k) (kept-list ws k hk) in
+        let start : 0 + (firstScene + (sceneWords * mostScenes + regionPlace (listRegions K C 0 K) k)) ≡ listPosition C k =
+        omega (arith, lists-place K C 0 K k (omega (arith, kept-tall ws)) ∙ ap (listPosition C) (zero-add k)) in
+        rw (there, start) (list-back k hk)
+
+    pub words-front : wordsOf (storeOf ws) ≡ take (used (capacityOf ws)) ws
+    unfolding wordsOf storeOf
+    words-front =
+        regions-back ws 0 (regions (storeOf ws)) region-back ∙ ap (λ (n : ℕ). take n ws) (sym (regions-length (store-fit (storeOf ws .capacity) (storeOf ws .held) (storeOf ws .scenes) (storeOf ws .kept) store-fine)) ∙ words-long)
+
+    -- the words are those of the store that they hold, and the rest of the slice
+    pub wordsOf-storeOf : wordsOf (storeOf ws) ++ drop (used (capacityOf ws)) ws ≡ ws
+    wordsOf-storeOf = ap (λ (x : List ℕ). x ++ drop (used (capacityOf ws)) ws) words-front ∙ take-append-drop (used (capacityOf ws)) ws

@@ -11,19 +11,22 @@ use lib.ListN.{length}
 use Rattle.paper.specs.Numbers.{bitFor}
 use Rattle.paper.specs.Rooms.{Point, depthOk, inside}
 use Rattle.paper.specs.Outline.{longest, outlineOf}
-use Rattle.paper.specs.Store.{Cell, mostScenes, used, capacityOf, keptCount, headerOk, sceneOk, storeOk}
+use Rattle.paper.specs.Store.{Cell, mostScenes, heights, used, capacityOf, keptCount, keptOf, countOf, sceneDepth, sceneRoot, headerOk, sceneOk, storeOk}
 use Rattle.paper.specs.Meaning.{rootRoom}
 use Rattle.paper.specs.Walk.{isDamaged, solidAt, emptyHeight}
-use Rattle.paper.specs.Questions.{voxelWalk, cellNonEmpty, cellWalkDamaged, boxSolid, boxWalkDamaged}
+use Rattle.paper.specs.Questions.{voxelWalk, cellNonEmpty, cellWalkDamaged, boxTally, tallyDamaged, tallySolid}
+use Rattle.paper.specs.declared.Tally.{Tally}
 use Rattle.paper.specs.Pack.{packedFile}
 use Rattle.paper.specs.Answers.{Outcome, told, outcome}
 use Rattle.paper.specs.Order.{when, firstOf, settled}
-use Rattle.paper.specs.Calls.{over, cleared, noScene, ofScene, axisOutside, voxelOutside, voxelDamaged, voxelOutcome, cellOutside, cellDamaged, cellOutcome, boxOutside, boxDamaged, boxOutcome}
+use Rattle.paper.specs.Calls.{over, cleared, noScene, ofScene, axisOutside, voxelOutside, voxelDamaged, voxelOutcome, cellOutside, cellDamaged, cellOutcome, boxOutside, sceneTally, boxDamaged, boxOutcome}
 use Rattle.paper.specs.Calls.{keptOutcome, outShort, outlineBytes, outlineShort, outlineOutcome, packScratch, packBytes, packShort, packOutcome}
 use Rattle.paper.specs.Lines.{tested, firstFailing}
 use Rattle.paper.specs.Sight.{saysEmpty, decider, givesTwo, sightDamaged, sightOutside, blockedAt, sightOutcome}
 use Rattle.laws.proofs.Undamaged.{fine-header, depth-low, store-header, there-held, held-placed}
-use Rattle.laws.proofs.UnseenWords.{capacity-unseen, number-unseen, count-unseen, header-unseen, kept-unseen, depth-unseen, root-unseen, scene-unseen, undamaged-unseen}
+use Rattle.laws.proofs.UnseenWords.{capacity-unseen, number-unseen, count-unseen, header-unseen, kept-unseen, depth-unseen, root-unseen, scene-unseen, solid-unseen, undamaged-unseen}
+use Rattle.laws.proofs.Places.{kept-placed}
+use Rattle.laws.proofs.BoxTallies.{box-tally-same}
 
 -- ---- the answers, by what their tests give
 
@@ -43,14 +46,14 @@ question-same true true s s′ o o′ w w′ v v′ z q = ap (λ (l : List ℕ).
 question-same true false s s′ o o′ w w′ v v′ z q = let p : (s ≡ s′) × (o ≡ o′) × (w ≡ w′) × (v ≡ v′) = q tt refl in λ i. question true false (p .0 i) (p .1 i) (p .2 i) (p .3 i)
 
 -- kept: header, height, count
-abbrev countOf : Bool → Bool → ℕ → Outcome
-countOf h d v = settled (firstOf (when (not h) 2 ∷ when (not d) 10 ∷ [])) (v ∷ []) [] []
+abbrev keptFor : Bool → Bool → ℕ → Outcome
+keptFor h d v = settled (firstOf (when (not h) 2 ∷ when (not d) 10 ∷ [])) (v ∷ []) [] []
 
-countOf-same : (h d : Bool) (v v′ : ℕ) → (T d → v ≡ v′) → countOf h d v ≡ countOf h d v′
+keptFor-same : (h d : Bool) (v v′ : ℕ) → (T d → v ≡ v′) → keptFor h d v ≡ keptFor h d v′
 unfolding firstOf settled
-countOf-same false d v v′ q = refl
-countOf-same true false v v′ q = refl
-countOf-same true true v v′ q = ap (countOf true true) (q tt)
+keptFor-same false d v v′ q = refl
+keptFor-same true false v v′ q = refl
+keptFor-same true true v v′ q = ap (keptFor true true) (q tt)
 
 -- outline out: store, no scene, the bytes
 abbrev outlineFor : Bool → Bool → List ℕ → List ℕ → Outcome
@@ -94,16 +97,21 @@ module _ (f r : List ℕ) (whole : used (capacityOf f) ≤ length f) where
       let l : n < mostScenes = placed n h e in
       λ i. F (kept-unseen f r whole h i) (depth-unseen f r whole h n l i) (root-unseen f r whole h n l i)
 
+  -- whatever is looked at, if it is the same where there is a scene
+  question-by : (n : ℕ) (o o′ w w′ : Bool) (v v′ : List ℕ) → zerosFor v ≡ zerosFor v′ → (T (headerOk f) → noScene f n ≡ false → (o ≡ o′) × (w ≡ w′) × (v ≡ v′))
+      → question (headerOk (f ++ r)) (noScene (f ++ r) n) (sceneOk (f ++ r) n) o w v ≡ question (headerOk f) (noScene f n) (sceneOk f n) o′ w′ v′
+  question-by n o o′ w w′ v v′ z q =
+      ap₂ (λ (h e : Bool). question h e (sceneOk (f ++ r) n) o w v) (header-unseen f r whole) (no-scene-unseen n)
+      ∙ question-same (headerOk f) (noScene f n) (sceneOk (f ++ r) n) (sceneOk f n) o o′ w w′ v v′ z
+      (λ h e. let p : (o ≡ o′) × (w ≡ w′) × (v ≡ v′) = q h e in (scene-unseen f r whole h n (placed n h e), p .0, p .1, p .2))
+
   question-unseen : (n : ℕ) (O W : List (List Cell) → ℕ → ℕ → Bool) (N : List (List Cell) → ℕ → ℕ → List ℕ) (zeros : List ℕ)
       → ((K : List (List Cell)) (D p : ℕ) → zerosFor (N K D p) ≡ zeros)
       → question (headerOk (f ++ r)) (noScene (f ++ r) n) (sceneOk (f ++ r) n) (ofScene O (f ++ r) n) (ofScene W (f ++ r) n) (ofScene N (f ++ r) n)
       ≡ question (headerOk f) (noScene f n) (sceneOk f n) (ofScene O f n) (ofScene W f n) (ofScene N f n)
   question-unseen n O W N zeros z =
-      ap₂ (λ (h e : Bool). question h e (sceneOk (f ++ r) n) (ofScene O (f ++ r) n) (ofScene W (f ++ r) n) (ofScene N (f ++ r) n))
-      (header-unseen f r whole) (no-scene-unseen n)
-      ∙ question-same (headerOk f) (noScene f n) (sceneOk (f ++ r) n) (sceneOk f n) (ofScene O (f ++ r) n) (ofScene O f n) (ofScene W (f ++ r) n) (ofScene W f n)
-      (ofScene N (f ++ r) n) (ofScene N f n) (z _ _ _ ∙ sym (z _ _ _))
-      (λ h e. (scene-unseen f r whole h n (placed n h e), scene-part O n h e, scene-part W n h e, scene-part N n h e))
+      question-by n (ofScene O (f ++ r) n) (ofScene O f n) (ofScene W (f ++ r) n) (ofScene W f n) (ofScene N (f ++ r) n) (ofScene N f n) (z _ _ _ ∙ sym (z _ _ _))
+      (λ h e. (scene-part O n h e, scene-part W n h e, scene-part N n h e))
 
   pub voxel-unseen : (n : ℕ) (v : Point) → voxelOutcome (f ++ r) n v ≡ voxelOutcome f n v
   unfolding voxelOutcome voxelOutside voxelDamaged
@@ -132,18 +140,30 @@ module _ (f r : List ℕ) (whole : used (capacityOf f) ≤ length f) where
   cell-unseen n h c =
       question-unseen n (λ K D p. not (leb h D) || not (inside (2 ^ (D - h)) c)) (λ K D p. cellWalkDamaged K D p h c) (λ K D p. bitFor (cellNonEmpty K D p h c) ∷ []) (0 ∷ []) (λ K D p. refl)
 
+  -- what a box finds
+  tally-unseen : (n : ℕ) (low high : Point) → T (headerOk f) → noScene f n ≡ false → sceneTally (f ++ r) n low high ≡ sceneTally f n low high
+  unfolding sceneTally
+  tally-unseen n low high h e =
+      scene-part (λ K D p. boxTally K (countOf (f ++ r)) D p low high) n h e
+      ∙ box-tally-same (keptOf f) (countOf (f ++ r)) (countOf f)
+      (λ k q l. let w : (k < heights) × (q < keptCount f k) = kept-placed f k q l in solid-unseen f r whole h k q (w .0) (w .1))
+      (sceneDepth f n) (sceneRoot f n) low high
+
   pub box-unseen : (n : ℕ) (low high : Point) → boxOutcome (f ++ r) n low high ≡ boxOutcome f n low high
   unfolding boxOutcome boxOutside boxDamaged
   box-unseen n low high =
-      question-unseen n
-      (λ K D p. axisOutside (2 ^ D) (low .x) (high .x) || axisOutside (2 ^ D) (low .y) (high .y) || axisOutside (2 ^ D) (low .z) (high .z))
-      (λ K D p. boxWalkDamaged K D p low high) (λ K D p. boxSolid K D p low high ∷ []) (0 ∷ []) (λ K D p. refl)
+      let O : List (List Cell) → ℕ → ℕ → Bool =
+      λ K D p. axisOutside (2 ^ D) (low .x) (high .x) || axisOutside (2 ^ D) (low .y) (high .y) || axisOutside (2 ^ D) (low .z) (high .z) in
+      let t : Tally = sceneTally (f ++ r) n low high in
+      let t′ : Tally = sceneTally f n low high in
+      question-by n (ofScene O (f ++ r) n) (ofScene O f n) (tallyDamaged t) (tallyDamaged t′) (tallySolid t ∷ []) (tallySolid t′ ∷ []) refl
+      (λ h e. (scene-part O n h e, ap tallyDamaged (tally-unseen n low high h e), ap (λ (x : Tally). tallySolid x ∷ []) (tally-unseen n low high h e)))
 
   pub kept-answer-unseen : (h : ℕ) → keptOutcome (f ++ r) h ≡ keptOutcome f h
   unfolding keptOutcome
   kept-answer-unseen h =
-      ap (λ (b : Bool). countOf b (depthOk h) (keptCount (f ++ r) (h - 2))) (header-unseen f r whole)
-      ∙ countOf-same (headerOk f) (depthOk h) (keptCount (f ++ r) (h - 2)) (keptCount f (h - 2)) (λ d. count-unseen f r whole (h - 2) (depth-low h d))
+      ap (λ (b : Bool). keptFor b (depthOk h) (keptCount (f ++ r) (h - 2))) (header-unseen f r whole)
+      ∙ keptFor-same (headerOk f) (depthOk h) (keptCount (f ++ r) (h - 2)) (keptCount f (h - 2)) (λ d. count-unseen f r whole (h - 2) (depth-low h d))
 
   pub outline-unseen : (n : ℕ) (out : List ℕ) → outlineOutcome (f ++ r) n out ≡ outlineOutcome f n out
   unfolding outlineOutcome outlineShort outlineBytes

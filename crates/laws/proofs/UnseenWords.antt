@@ -1,23 +1,24 @@
 -- Words behind those that a store uses are not looked at: each reader and each test of a store long enough gives the same with words behind it.
 -- By the places that each looks at, all of them inside. Assumes nothing.
-use mathlib.Core.Path.{_≡_, refl, sym, ap, ap₂, _∙_}
+use mathlib.Core.Path.{_≡_, refl, sym, ap, ap₂, _∙_, subst}
 use mathlib.Core.Bool.{Bool, true, false, cond, not, _&&_}
 use mathlib.Core.List.{List, _∷_, _++_}
-use Prim.Native.Nat.{ℕ, zero, suc, _+_, _-_, _*_, _<_, _≤_}
+use Prim.Native.Nat.{ℕ, zero, suc, _+_, _-_, _*_, _^_, _<_, _≤_}
 use native.Mathlib.Nat.{zero-add, mul-le-mul-left, mul-sub}
 use native.Mathlib.Omega.{arith}
 use borrow.Author.Tests.{le-leb}
 use lib.Dec.{T, eqb, leb, ltb}
 use lib.ListN.{length, take, drop, getD, length-append, length-drop, List·getD-append}
-use lib.Seq.{take-append-le, drop-append-le}
+use lib.Seq.{take-append-le, drop-append-le, getD-drop}
 use Rattle.paper.specs.Numbers.{allBelow, allIn}
 use Rattle.paper.specs.Rooms.{depthOk}
-use Rattle.paper.specs.Store.{Cell, badPointer, mostScenes, heights, used, capacityOf, scenesHeld, isHeld, keptCount, zerosPosition, firstScene, sceneWords, scenePosition, cellLength, stride, firstList, listPosition, cellPosition}
-use Rattle.paper.specs.Store.{groups, keptIn, keptOf, storeOf, sceneDepth, sceneRoot, blank, capacityOk, headerOk, sceneOk, placeOk, listUsable, listBlank, storeOk}
-use Rattle.laws.proofs.Tests.{true-T, all-same}
+use Rattle.paper.specs.Store.{Cell, cellsAt, cellAt, pairNo, leafNo, badPointer, mostScenes, heights, used, capacityOf, scenesHeld, isHeld, keptCount, zerosPosition, firstScene, sceneWords, scenePosition, cellLength, stride, firstList, listPosition, cellPosition, countPosition}
+use Rattle.paper.specs.Store.{groups, keptIn, keptOf, storeOf, leafSolid, overChildren, countOf, sceneDepth, sceneRoot, blank, capacityOk, headerOk, sceneOk, placeOk, listUsable, countsOk, listBlank, storeOk}
+use Rattle.laws.proofs.Tests.{true-T, and-left, and-right, all-at, all-same}
 use Rattle.laws.proofs.Lists.{tabulate-same}
-use Rattle.laws.proofs.Kept.{cell-fills}
-use Rattle.laws.proofs.Words.{list-in}
+use Rattle.laws.proofs.Kept.{cell-fits, kept-length}
+use Rattle.laws.proofs.TrueCounts.{over-same, usable-sound}
+use Rattle.laws.proofs.Rows.{list-in}
 use Rattle.laws.proofs.Undamaged.{FineHeader, fine-header, depth-list}
 
 -- ---- parts of a list
@@ -40,7 +41,12 @@ blank-part f r a n h =
     ap (λ (l : List ℕ). allIn (eqb 0) (take n l)) (drop-append-le a f r (omega arith))
     ∙ ap (allIn (eqb 0)) (take-append-le n (drop a f) r (rw (length-drop a f) (omega arith)))
 
--- ---- a bad header
+-- ---- tests
+
+-- a test that is looked at only where another passes
+and-when : (a b c : Bool) → (T a → b ≡ c) → a && b ≡ a && c
+and-when true b c h = h tt
+and-when false b c h = refl
 
 pub no-header : (ws : List ℕ) → headerOk ws ≡ false → storeOk ws ≡ false
 unfolding storeOk
@@ -86,7 +92,7 @@ module _ (f r : List ℕ) (whole : used (capacityOf f) ≤ length f) where
         let w : ℕ = cellLength k in
         let n : ℕ = keptCount f k in
         ap₂ (λ (m c : ℕ). groups s w m (drop (listPosition c k) (f ++ r))) (count-unseen k l) capacity-unseen
-        ∙ groups-part s w n (listPosition C k) f r (omega (arith, cell-fills k)) (omega (arith, mul-le-mul-left s (h .few k l), list-in C k l))
+        ∙ groups-part s w n (listPosition C k) f r (cell-fits k) (omega (arith, mul-le-mul-left s (h .few k l), list-in C k l))
 
     pub kept-unseen : keptOf (f ++ r) ≡ keptOf f
     unfolding keptOf
@@ -127,11 +133,49 @@ module _ (f r : List ℕ) (whole : used (capacityOf f) ≤ length f) where
         ap₂ (λ (c m : ℕ). blank (f ++ r) (cellPosition c k m) (w * (c - m))) capacity-unseen (count-unseen k l)
         ∙ blank-part f r (cellPosition C k n) (w * (C - n)) (omega (arith, all, mul-sub w C n, list-in C k l))
 
+    -- ---- counts
+
+    count-word-unseen : (k n i : ℕ) → suc k < heights → n < keptCount f (suc k) → i < 2
+        → getD (drop (countPosition (capacityOf f) (suc k) n) (f ++ r)) i 0 ≡ getD (drop (countPosition (capacityOf f) (suc k) n) f) i 0
+    count-word-unseen k n i l h hi =
+        let C : ℕ = capacityOf f in
+        let a : ℕ = countPosition C (suc k) n in
+        let inside : a + i < length f = omega (arith, list-in C (suc k) l, mul-le-mul-left (stride (suc k)) (fine-header f head .few (suc k) l), mul-le-mul-left (stride (suc k)) h) in
+        getD-drop a (f ++ r) i 0 ∙ List·getD-append f r 0 (a + i) inside ∙ sym (getD-drop a f i 0)
+
+    pub solid-unseen : (k n : ℕ) → k < heights → n < keptCount f k → countOf (f ++ r) k n ≡ countOf f k n
+    unfolding countOf
+    solid-unseen zero n l h = ap (λ (K : List (List Cell)). leafSolid (leafNo (cellAt K 0 n))) kept-unseen
+    solid-unseen (suc k) n l h =
+        ap (λ (C : ℕ). pairNo (drop (countPosition C (suc k) n) (f ++ r))) capacity-unseen
+        ∙ ap₂ (λ (a b : ℕ). a * 2 ^ 32 + b) (count-word-unseen k n 0 l h (omega arith)) (count-word-unseen k n 1 l h (omega arith))
+
+    -- the sums, where every pointer of a kept cell names a kept cell
+    counts-unseen : T (allBelow heights (listUsable (keptOf f))) → (k : ℕ) → k < heights → countsOk (f ++ r) k ≡ countsOk f k
+    unfolding countsOk
+    counts-unseen u zero l = refl
+    counts-unseen u (suc k) l =
+        let K : List (List Cell) = keptOf f in
+        let same : (w : List ℕ) → List (List Cell) → ℕ → Bool = λ w L n. eqb (countOf w (suc k) n) (overChildren (countOf w k) (cellAt L (suc k) n)) in
+        ap₂ (λ (m : ℕ) (L : List (List Cell)). allBelow m (same (f ++ r) L)) (count-unseen (suc k) l) kept-unseen
+        ∙ all-same (keptCount f (suc k)) (same (f ++ r) K) (same f K)
+        (λ n h.
+        ap₂ eqb (solid-unseen (suc k) n l h)
+        (over-same (countOf (f ++ r) k) (countOf f k) (length (cellsAt K k)) (cellAt K (suc k) n)
+        (usable-sound K k n (all-at heights (listUsable K) u (suc k) l) (rw (kept-length f (suc k) l) h))
+        (λ q hq. solid-unseen k q (omega arith) (subst (λ (m : ℕ). q < m) (kept-length f k (omega arith)) hq))))
+
     tests-unseen : storeOk (f ++ r) ≡ storeOk f
     unfolding storeOk
     tests-unseen =
-        ap₂ _&&_ (ap₂ _&&_ (ap₂ _&&_ header-unseen (all-same mostScenes (placeOk (f ++ r)) (placeOk f) place-unseen)) (ap (λ (K : List (List Cell)). allBelow heights (listUsable K)) kept-unseen))
-        (all-same heights (listBlank (f ++ r)) (listBlank f) list-blank-unseen)
+        let U : Bool = allBelow heights (listUsable (keptOf f)) in
+        let X : Bool = headerOk f && allBelow mostScenes (placeOk f) in
+        let B : Bool = allBelow heights (listBlank f) in
+        ap (λ (b : Bool). b && allBelow heights (countsOk (f ++ r)))
+        (ap₂ _&&_ (ap₂ _&&_ (ap₂ _&&_ header-unseen (all-same mostScenes (placeOk (f ++ r)) (placeOk f) place-unseen)) (ap (λ (K : List (List Cell)). allBelow heights (listUsable K)) kept-unseen))
+        (all-same heights (listBlank (f ++ r)) (listBlank f) list-blank-unseen))
+        ∙ and-when (X && U && B) (allBelow heights (countsOk (f ++ r))) (allBelow heights (countsOk f))
+        (λ t. all-same heights (countsOk (f ++ r)) (countsOk f) (counts-unseen (and-right X U (and-left (X && U) B t))))
 
   pub undamaged-unseen : storeOk (f ++ r) ≡ storeOk f
   undamaged-unseen = go (headerOk f) refl

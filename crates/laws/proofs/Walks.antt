@@ -1,23 +1,22 @@
--- On lists as they should be no walk meets a bad pointer, whatever the voxel: every pointer of a kept cell is none or names a kept cell, so what is
+-- On lists as they should be no walk to a voxel or a cell meets a bad pointer: every pointer of a kept cell is none or names a kept cell, so what is
 -- entered is kept. By induction on the height. Assumes nothing.
 use mathlib.Core.Path.{_≡_, refl, ap, subst, _∙_}
 use mathlib.Core.Bool.{Bool, true, false, cond, not}
 use mathlib.Core.List.{List}
 use mathlib.Core.Logic.{inl, inr}
-use Prim.Native.Nat.{ℕ, zero, suc, _-_, _<_, _^_}
+use Prim.Native.Nat.{ℕ, zero, suc, _-_, _<_}
 use native.Mathlib.Decide.{decLt}
 use native.Mathlib.Omega.{arith}
 use borrow.Author.Tests.{eqb-false}
-use lib.Dec.{eqb, leb, ltb}
+use lib.Dec.{eqb, leb}
 use lib.ListN.{length, getD, List·getD-eq-default}
 use Rattle.paper.specs.Rooms.{Point}
-use Rattle.paper.specs.Store.{Cell, cellsAt, cellAt, tagOf, cellNo, badPointer, anyBad}
+use Rattle.paper.specs.Store.{Cell, cellsAt, cellAt, tagOf, cellNo, anyBad}
 use Rattle.paper.specs.Walk.{isDamaged, none, to, rootWalk}
-use Rattle.paper.specs.Questions.{childFor, graphReading, keptReading, voxelWalk, taken, below, inBelow, walkDamaged, takenBad, fromRoot, cellWalkDamaged, boxWalkDamaged}
-use Rattle.laws.proofs.Invariant.{Names, OkPointer, names-lt, ok-not-bad}
+use Rattle.paper.specs.Questions.{childFor, graphReading, keptReading, voxelWalk, taken, below, inBelow, walkDamaged, cellWalkDamaged}
+use Rattle.laws.proofs.Invariant.{Names, OkPointer, names-lt}
 use Rattle.laws.proofs.Adding.{Invs}
 use Rattle.laws.proofs.Filled.{none-bad}
-use Rattle.laws.proofs.Boxes.{box-clear as count-clear}
 use Rattle.laws.proofs.Walking.{SameChild, Agree, walks-same}
 use Rattle.laws.proofs.CellVoxels.{graph-sound}
 
@@ -80,22 +79,8 @@ module _ (K : List (List Cell)) (I : Invs K) where
       (none-bad (length (cellsAt K k)) c (λ i h. s i))
       (λ e. walk-clear stop k (below K k p) (inBelow k p v) (kept-sure k (cellNo p) (names-lt (named (s _) e))))
 
-  taken-clear : (k : ℕ) (c : Cell) (v : Point) → Sure K k c → takenBad K k c v ≡ false
-  unfolding takenBad
-  taken-clear zero c v s = refl
-  taken-clear (suc k) c v s =
-      let p : ℕ = taken k c v in
-      quiet false (badPointer (length (cellsAt K k)) p) (eqb p 0) (takenBad K k (below K k p) (inBelow k p v))
-      (ok-not-bad (length (cellsAt K k)) p (s _))
-      (λ e. taken-clear k (below K k p) (inBelow k p v) (kept-sure k (cellNo p) (names-lt (named (s _) e))))
-
   -- from a root that is none or names a kept cell
   module _ (D p : ℕ) (ok : OkPointer (length (cellsAt K (D - 2))) p) where
-    root-clear : (way : ℕ → Cell → Point → Bool) → ((c : Cell) (v : Point) → Sure K (D - 2) c → way (D - 2) c v ≡ false) → (v : Point) → fromRoot way K D p v ≡ false
-    root-clear way clear v =
-        quiet false false (eqb p 0) (way (D - 2) (below K (D - 2) p) _) refl
-        (λ e. clear (below K (D - 2) p) _ (kept-sure (D - 2) (cellNo p) (names-lt (named ok e))))
-
     pub voxel-clear : (v : Point) → isDamaged (voxelWalk K D p v .end) ≡ false
     unfolding voxelWalk
     voxel-clear v = go (eqb p 0) refl
@@ -107,15 +92,6 @@ module _ (K : List (List Cell)) (I : Invs K) where
             ∙ graph-sound K (D - 2) (cellNo p) (tagOf p) v
 
     pub cell-clear : (h : ℕ) (c : Point) → cellWalkDamaged K D p h c ≡ false
-    cell-clear h c = root-clear (walkDamaged K (h - 2)) (walk-clear (h - 2) (D - 2)) _
-
-    taken-root-clear : (v : Point) → fromRoot (takenBad K) K D p v ≡ false
-    taken-root-clear v = root-clear (takenBad K) (taken-clear (D - 2)) v
-
--- ---- box counts
-
-module _ (K : List (List Cell)) (I : Invs K) (D p : ℕ) (ok : OkPointer (length (cellsAt K (D - 2))) p) where
-  pub box-clear : (low high : Point) → boxWalkDamaged K D p low high ≡ false
-  unfolding boxWalkDamaged
-  box-clear low high =
-      ap (ltb 0) (count-clear (2 ^ D) (fromRoot (takenBad K) K D p) low high (λ v l. taken-root-clear K I D p ok v))
+    cell-clear h c =
+        quiet false false (eqb p 0) (walkDamaged K (h - 2) (D - 2) (below K (D - 2) p) _) refl
+        (λ e. walk-clear (h - 2) (D - 2) (below K (D - 2) p) _ (kept-sure (D - 2) (cellNo p) (names-lt (named ok e))))

@@ -1,103 +1,24 @@
--- The words of a store: how many they are, that they give the store back, and that a cell or a scene more is its count and its words stored at
--- their places. By the laws of regions, and induction on the lists. Assumes nothing.
+-- The words of a store: how many they are, that they give the store and the solid counts back, and that a cell or a scene more is its count and its row
+-- stored at their places, the counts of the other cells staying. By the laws of regions, and induction on the lists. Assumes nothing.
 use mathlib.Core.Path.{_≡_, refl, sym, _∙_, subst, ap, ap₂}
 use mathlib.Core.Bool.{true}
 use mathlib.Core.List.{List, [], _∷_, _++_, map}
-use Prim.Native.Nat.{ℕ, zero, suc, _+_, _-_, _*_, _<_, _≤_, zero-le}
-use native.Mathlib.Nat.{le-of-suc-le-suc, not-suc-le-zero, add-zero, zero-add, mul-comm, mul-le-mul-left}
+use Prim.Native.Nat.{ℕ, zero, suc, _+_, _-_, _*_, _^_, _<_, _≤_}
+use native.Mathlib.Nat.{zero-add, mul-comm, mul-le-mul-left}
 use native.Mathlib.Omega.{arith}
-use lib.ListN.{length, drop, getD, set, length-map, length-set}
-use lib.Seq.{sets, ext-getD}
-use Rattle.paper.specs.Store.{Cell, Store, mostScenes, heights, used, capacityOf, scenesHeld, keptCount, zerosPosition, firstScene, sceneWords, scenePosition, stride, firstList, listPosition, cellPosition, groups, keptIn, keptOf, storeOf, padded, blank}
-use Rattle.paper.specs.Store.{Region, region, regionWords, listRegions, headerRow, regions, wordsOf}
+use lib.ListN.{length, take, drop, getD, set, length-map, length-set}
+use lib.Seq.{sets, ext-getD, drop-drop, getD-take, getD-drop, getD-append-add}
+use Rattle.paper.specs.Store.{Cell, Store, cellsAt, cellAt, twoWords, pairNo, leafNo, mostScenes, heights, used, capacityOf, scenesHeld, keptCount, zerosPosition, firstScene, sceneWords, scenePosition, cellLength, stride, firstList, listPosition, cellPosition, countPosition}
+use Rattle.paper.specs.Store.{groups, keptIn, keptOf, storeOf, leafSolid, solidOf, countOf, padded, Region, region, regionWords, rowOf, listRegions, headerRow, regions, wordsOf, blank}
 use Rattle.laws.proofs.Put.{put, stored-before}
-use Rattle.laws.proofs.Padded.{Sized, snil, scons, padded-length, sized-snoc, padded-snoc, sized-set, padded-set, row-set, row-word, groups-padded, padded-blank}
-use Rattle.laws.proofs.Regions.{inRow, regionAt, Fit, fnil, fcons, regionPlace, regions-length, region-from, region-set}
-use Rattle.laws.proofs.Lists.{length-snoc, map-at}
-use Rattle.laws.proofs.Kept.{kept-rows, kept-list, kept-tall}
-
--- ---- the lists of cells
-
--- the lists from list j on have cells of their words, and at most C of them
-pub data Lists (C : ℕ) : ℕ → List (List Cell) → Type 0 where
-  lnil : {j : ℕ} → Lists C j []
-  lcons : {j : ℕ} {cs : List Cell} {Ks : List (List Cell)} → Sized (stride j) cs → length cs ≤ C → Lists C (suc j) Ks → Lists C j (cs ∷ Ks)
-
--- where the next list stands, and that the words of each are used
-pub list-next : (C j : ℕ) → listPosition C (suc j) ≡ listPosition C j + stride j * C
-list-next C zero = omega arith
-list-next C (suc j) = omega arith
-
-pub list-in : (C j : ℕ) → j < heights → listPosition C j + stride j * C ≤ used C
-list-in C j h = omega (arith, list-next C j, mul-le-mul-left (stride 1 * C) (le-of-suc-le-suc h))
-
-pub words-fit : (j n C : ℕ) → n ≤ C → n * stride j ≤ stride j * C
-words-fit zero n C h = omega arith
-words-fit (suc j) n C h = omega arith
-
-list-length : (C j : ℕ) (cs : List Cell) → Sized (stride j) cs → length cs ≤ C → length (padded (stride j * C) cs) ≡ stride j * C
-list-length C j cs r h = padded-length (stride j * C) r (words-fit j (length cs) C h)
-
--- their regions: each has room for its cells, stands at its place, and has the cells of its list
-pub lists-fit : {C j : ℕ} {Ks : List (List Cell)} → Lists C j Ks → Fit (listRegions C j Ks)
-unfolding listRegions
-lists-fit lnil = fnil
-lists-fit {C} {j} (lcons {cs = cs} r h t) = fcons (list-length C j cs r h) (lists-fit t)
-
-pub lists-place : (C j : ℕ) (Ks : List (List Cell)) (m : ℕ) → m ≤ length Ks → listPosition C j + regionPlace (listRegions C j Ks) m ≡ listPosition C (j + m)
-unfolding listRegions regionPlace
-lists-place C j Ks zero h = add-zero (listPosition C j) ∙ ap (listPosition C) (sym (add-zero j))
-lists-place C j [] (suc m) h = absurd (not-suc-le-zero h)
-lists-place C j (cs ∷ Ks) (suc m) h =
-    let ji : suc j + m ≡ j + suc m = omega arith in
-    let next : listPosition C j + (stride j * C + regionPlace (listRegions C (suc j) Ks) m) ≡ listPosition C (suc j) + regionPlace (listRegions C (suc j) Ks) m = omega (arith, list-next C j) in
-    next ∙ lists-place C (suc j) Ks m (le-of-suc-le-suc h) ∙ ap (listPosition C) ji
-
-pub lists-many : (C j : ℕ) (Ks : List (List Cell)) → length (listRegions C j Ks) ≡ length Ks
-unfolding listRegions
-lists-many C j [] = refl
-lists-many C j (cs ∷ Ks) = ap suc (lists-many C (suc j) Ks)
-
-pub list-region : (C j : ℕ) (Ks : List (List Cell)) (m : ℕ) → m < length Ks → regionAt (listRegions C j Ks) m ≡ region (stride (j + m) * C) (getD Ks m [])
-unfolding listRegions
-list-region C j [] m h = absurd (not-suc-le-zero h)
-list-region C j (cs ∷ Ks) zero h = ap (λ (i : ℕ). region (stride i * C) cs) (sym (add-zero j))
-list-region C j (cs ∷ Ks) (suc m) h =
-    let ji : suc j + m ≡ j + suc m = omega arith in
-    list-region C (suc j) Ks m (le-of-suc-le-suc h) ∙ ap (λ (i : ℕ). region (stride i * C) (getD Ks m [])) ji
-
--- other cells in list j + m
-pub list-set : (C j : ℕ) (Ks : List (List Cell)) (m : ℕ) (X : List Cell) → listRegions C j (set Ks m X) ≡ set (listRegions C j Ks) m (region (stride (j + m) * C) X)
-unfolding listRegions
-list-set C j [] m X = refl
-list-set C j (cs ∷ Ks) zero X = ap (λ (i : ℕ). region (stride i * C) X ∷ listRegions C (suc j) Ks) (sym (add-zero j))
-list-set C j (cs ∷ Ks) (suc m) X =
-    let ji : suc j + m ≡ j + suc m = omega arith in
-    ap (λ (rs : List Region). region (stride j * C) cs ∷ rs)
-    (list-set C (suc j) Ks m X ∙ ap (λ (i : ℕ). set (listRegions C (suc j) Ks) m (region (stride i * C) X)) ji)
-
--- list j + m has cells of its words, at most C of them
-lists-sized : {C j : ℕ} {Ks : List (List Cell)} → Lists C j Ks → (m : ℕ) → m < length Ks → Sized (stride (j + m)) (getD Ks m [])
-lists-sized lnil m h = absurd (not-suc-le-zero h)
-lists-sized {j} (lcons {cs = cs} r q t) zero h = rw (add-zero j) r
-lists-sized {j} (lcons r q t) (suc m) h =
-    let ji : j + suc m ≡ suc j + m = omega arith in
-    rw ji (lists-sized t m (le-of-suc-le-suc h))
-
-lists-few : {C j : ℕ} {Ks : List (List Cell)} → Lists C j Ks → (m : ℕ) → length (getD Ks m []) ≤ C
-lists-few lnil m = zero-le
-lists-few (lcons r q t) zero = q
-lists-few (lcons r q t) (suc m) = lists-few t m
-
--- a cell more in list j + m
-pub lists-snoc : {C j : ℕ} {Ks : List (List Cell)} → Lists C j Ks → (m : ℕ) (c : Cell) → length c ≡ stride (j + m) → length (getD Ks m []) < C
-    → Lists C j (set Ks m (getD Ks m [] ++ (c ∷ [])))
-lists-snoc lnil m c e l = lnil
-lists-snoc {C} {j} (lcons {cs = cs} r q t) zero c e l =
-    lcons (sized-snoc c r (e ∙ ap stride (add-zero j))) (rw (length-snoc cs c) l) t
-lists-snoc {C} {j} (lcons r q t) (suc m) c e l =
-    let ji : j + suc m ≡ suc j + m = omega arith in
-    lcons r q (lists-snoc t m c (e ∙ ap stride ji) l)
+use Rattle.laws.proofs.Padded.{Sized, snil, scons, sized-at, padded-length, padded-snoc, sized-set, padded-set, row-set, row-word, groups-padded, take-sized, padded-row, padded-blank}
+use Rattle.laws.proofs.Regions.{inRow, regionAt, Fit, fcons, regionPlace, regions-length, region-from, region-set}
+use Rattle.laws.proofs.Rows.{row-length, rows-sized, rows-cells, Lists, list-in, words-fit, lists-sized, lists-few, lists-snoc, lists-fit, lists-place, lists-many, listOf, list-region, list-set, lists-same}
+use Rattle.laws.proofs.Lists.{length-snoc, map-at, map-append}
+use Rattle.laws.proofs.Kept.{cell-fits, kept-list, kept-tall}
+use Rattle.laws.proofs.Invariant.{OkCell, OkCells}
+use Rattle.laws.proofs.Growing.{Extends, ext-cell, ext-solid}
+use Rattle.laws.proofs.Keeping.{K⁺, keep-extends, keep-cell, keep-each}
 
 -- ---- the whole store
 
@@ -108,6 +29,26 @@ storeWith C N S Ks = record { capacity = C; held = N; scenes = S; kept = Ks }
 -- its words, and l behind them
 abbrev pub stored : ℕ → ℕ → List Cell → List (List Cell) → List ℕ → List ℕ
 stored C N S Ks l = wordsOf (storeWith C N S Ks) ++ l
+
+-- its words, but with the counts that lists G give
+unfoldable pub countedBy : List (List Cell) → ℕ → ℕ → List Cell → List (List Cell) → List ℕ
+countedBy G C N S Ks = inRow (region firstScene (headerRow (storeWith C N S Ks) ∷ []) ∷ region (sceneWords * mostScenes) S ∷ listRegions G C 0 Ks)
+
+pub counted-own : (C N : ℕ) (S : List Cell) (Ks : List (List Cell)) → wordsOf (storeWith C N S Ks) ≡ countedBy Ks C N S Ks
+unfolding wordsOf countedBy
+counted-own C N S Ks = refl
+
+pub counted-same : (G G′ : List (List Cell)) (C N : ℕ) (S : List Cell) (Ks : List (List Cell))
+    → ((k q : ℕ) → q < length (cellsAt Ks k) → solidOf G k (cellAt Ks k q) ≡ solidOf G′ k (cellAt Ks k q)) → countedBy G C N S Ks ≡ countedBy G′ C N S Ks
+unfolding countedBy
+counted-same G G′ C N S Ks e =
+    ap (λ (rs : List Region). inRow (region firstScene (headerRow (storeWith C N S Ks) ∷ []) ∷ region (sceneWords * mostScenes) S ∷ rs))
+    (lists-same G G′ C 0 Ks (λ m q h. subst (λ (i : ℕ). solidOf G i (cellAt Ks m q) ≡ solidOf G′ i (cellAt Ks m q)) (sym (zero-add m)) (e m q h)))
+
+-- lists that grow give the same counts of the cells kept before
+pub counted-grown : (C N : ℕ) (S : List Cell) {Ks G : List (List Cell)} → Extends Ks G → OkCells Ks → countedBy G C N S Ks ≡ wordsOf (storeWith C N S Ks)
+counted-grown C N S {Ks} {G} x ok =
+    counted-same G Ks C N S Ks (λ k q h. ext-solid x ok k (cellAt Ks k q) (ok k q h)) ∙ sym (counted-own C N S Ks)
 
 -- a store that its words can hold
 pub record Fine (C N : ℕ) (S : List Cell) (Ks : List (List Cell)) : Type 0 where
@@ -125,7 +66,13 @@ map-set g [] k X = refl
 map-set g (L ∷ Ls) zero X = refl
 map-set g (L ∷ Ls) (suc k) X = ap {B = List ℕ} (λ r. g L ∷ r) (map-set g Ls k X)
 
-module _ (C N : ℕ) (S : List Cell) (Ks : List (List Cell)) (f : Fine C N S Ks) where
+-- a number is that of its two words
+pair-back : (n : ℕ) → pairNo (twoWords n) ≡ n
+pair-back n = omega arith
+
+-- ---- with the counts that lists G give
+
+module _ (G : List (List Cell)) (C N : ℕ) (S : List Cell) (Ks : List (List Cell)) (f : Fine C N S Ks) where
   -- the header's row, and the regions: header, scenes, lists
   abbrev row : List ℕ
   row = headerRow (storeWith C N S Ks)
@@ -137,10 +84,10 @@ module _ (C N : ℕ) (S : List Cell) (Ks : List (List Cell)) (f : Fine C N S Ks)
   P = region (sceneWords * mostScenes) S
 
   abbrev L : List Region
-  L = listRegions C 0 Ks
+  L = listRegions G C 0 Ks
 
-  row-length : length row ≡ zerosPosition
-  row-length = simp length-map (omega (arith, f .lists))
+  header-row-length : length row ≡ zerosPosition
+  header-row-length = simp length-map (omega (arith, f .lists))
 
   header-length : (x : List ℕ) → length x ≡ zerosPosition → length (padded firstScene (x ∷ [])) ≡ firstScene
   header-length x e = padded-length firstScene (scons e snil) (omega arith)
@@ -150,84 +97,156 @@ module _ (C N : ℕ) (S : List Cell) (Ks : List (List Cell)) (f : Fine C N S Ks)
 
   -- every region has its room, under any header
   fit-under : (x : List ℕ) → length x ≡ zerosPosition → Fit (region firstScene (x ∷ []) ∷ P ∷ L)
-  fit-under x e = fcons (header-length x e) (fcons scenes-length (lists-fit (f .of-cells)))
+  fit-under x e = fcons (header-length x e) (fcons scenes-length (lists-fit G (f .of-cells)))
 
-  pub store-fit : Fit (regions (storeWith C N S Ks))
-  store-fit = fit-under row row-length
+  fit-by : Fit (H ∷ P ∷ L)
+  fit-by = fit-under row header-row-length
 
   -- list k is region k + 2
-  pub list-start : (k : ℕ) → k ≤ heights → regionPlace (regions (storeWith C N S Ks)) (suc (suc k)) ≡ listPosition C k
+  start-by : (k : ℕ) → k ≤ heights → regionPlace (H ∷ P ∷ L) (suc (suc k)) ≡ listPosition C k
   unfolding regionPlace
-  list-start k h =
-      let p : firstList + regionPlace L k ≡ listPosition C k = lists-place C 0 Ks k (omega (arith, f .lists)) ∙ ap (listPosition C) (zero-add k) in
+  start-by k h =
+      let p : firstList + regionPlace L k ≡ listPosition C k = lists-place G C 0 Ks k (omega (arith, f .lists)) ∙ ap (listPosition C) (zero-add k) in
       omega (arith, p)
 
   -- 'uses the first'
-  pub wordsOf-length : length (wordsOf (storeWith C N S Ks)) ≡ used C
-  unfolding wordsOf
-  wordsOf-length =
-      regions-length store-fit ∙ ap (λ (n : ℕ). regionPlace (regions (storeWith C N S Ks)) (suc (suc n))) (lists-many C 0 Ks ∙ f .lists) ∙ list-start heights (omega arith)
+  pub length-by : length (countedBy G C N S Ks) ≡ used C
+  unfolding countedBy
+  length-by =
+      regions-length fit-by ∙ ap (λ (n : ℕ). regionPlace (H ∷ P ∷ L) (suc (suc n))) (lists-many G C 0 Ks ∙ f .lists) ∙ start-by heights (omega arith)
 
   -- a word of the header set
-  pub header-word : (i v : ℕ) → i < zerosPosition → inRow (region firstScene (set row i v ∷ []) ∷ P ∷ L) ≡ set (wordsOf (storeWith C N S Ks)) i v
-  unfolding wordsOf regionPlace
-  header-word i v h =
-      region-set store-fit 0 (region firstScene (set row i v ∷ [])) i (v ∷ []) (omega arith) (row-set firstScene row i v (omega (arith, row-length))) (omega arith)
+  header-by : (i v : ℕ) → i < zerosPosition → inRow (region firstScene (set row i v ∷ []) ∷ P ∷ L) ≡ set (countedBy G C N S Ks) i v
+  unfolding countedBy regionPlace
+  header-by i v h =
+      region-set fit-by 0 (region firstScene (set row i v ∷ [])) i (v ∷ []) (omega arith) (row-set firstScene row i v (omega (arith, header-row-length))) (omega arith)
       ∙ ap (λ (j : ℕ). set (inRow (H ∷ P ∷ L)) j v) (zero-add i)
 
   -- list k set to X, by words c from its word j on, and its count
-  pub list-words : (k : ℕ) (X : List Cell) (j : ℕ) (c : List ℕ) → k < heights → padded (stride k * C) X ≡ sets (padded (stride k * C) (getD Ks k [])) j c → j + length c ≤ stride k * C
-      → wordsOf (storeWith C N S (set Ks k X)) ≡ sets (set (wordsOf (storeWith C N S Ks)) (2 + k) (length X)) (listPosition C k + j) c
-  unfolding wordsOf regionPlace
-  list-words k X j c h e fit =
+  pub list-by : (k : ℕ) (X : List Cell) (j : ℕ) (c : List ℕ) → k < heights
+      → padded (stride k * C) (map (rowOf G k) X) ≡ sets (padded (stride k * C) (map (rowOf G k) (getD Ks k []))) j c → j + length c ≤ stride k * C
+      → countedBy G C N S (set Ks k X) ≡ sets (set (countedBy G C N S Ks) (2 + k) (length X)) (listPosition C k + j) c
+  unfolding countedBy regionPlace
+  list-by k X j c h e fit =
       let row′ : List ℕ = set row (2 + k) (length X) in
       let hk : k < length Ks = omega (arith, f .lists) in
-      let there : regionAt L k ≡ region (stride k * C) (getD Ks k []) = list-region C 0 Ks k hk ∙ ap (λ (i : ℕ). region (stride i * C) (getD Ks k [])) (zero-add k) in
+      let there : regionAt L k ≡ listOf G C k (getD Ks k []) = list-region G C 0 Ks k hk ∙ ap (λ (i : ℕ). listOf G C i (getD Ks k [])) (zero-add k) in
       let counts : C ∷ N ∷ map (length {A = Cell}) (set Ks k X) ≡ row′ = rw (two-add k) (ap (λ (r : List ℕ). C ∷ N ∷ r) (map-set length Ks k X)) in
-      let lists : listRegions C 0 (set Ks k X) ≡ set L k (region (stride k * C) X) = list-set C 0 Ks k X ∙ ap (λ (i : ℕ). set L k (region (stride i * C) X)) (zero-add k) in
+      let lists : listRegions G C 0 (set Ks k X) ≡ set L k (listOf G C k X) = list-set G C 0 Ks k X ∙ ap (λ (i : ℕ). set L k (listOf G C i X)) (zero-add k) in
       ap₂ (λ (x : List ℕ) (rs : List Region). inRow (region firstScene (x ∷ []) ∷ P ∷ rs)) counts lists
-      ∙ region-set (fit-under row′ (length-set row (2 + k) (length X) ∙ row-length)) (suc (suc k)) (region (stride k * C) X) j c
-      (omega (arith, lists-many C 0 Ks)) (rw there e) (rw there fit)
-      ∙ ap₂ (λ (x : List ℕ) (i : ℕ). sets x (i + j) c) (header-word (2 + k) (length X) (omega arith)) (list-start k (omega arith))
+      ∙ region-set (fit-under row′ (length-set row (2 + k) (length X) ∙ header-row-length)) (suc (suc k)) (listOf G C k X) j c
+      (omega (arith, lists-many G C 0 Ks)) (rw there e) (rw there fit)
+      ∙ ap₂ (λ (x : List ℕ) (i : ℕ). sets x (i + j) c) (header-by (2 + k) (length X) (omega arith)) (start-by k (omega arith))
+
+  -- a scene more, at place i: the count of scenes, and its two words
+  scene-by : (i : ℕ) (c : Cell) → length c ≡ sceneWords → i < mostScenes
+      → countedBy G C (suc N) (set S i c) Ks ≡ sets (set (countedBy G C N S Ks) 1 (suc N)) (scenePosition i) c
+  unfolding countedBy regionPlace
+  scene-by i c e l =
+      let row′ : List ℕ = set row 1 (suc N) in
+      let at : firstScene + 0 + i * sceneWords ≡ scenePosition i = omega arith in
+      region-set (fit-under row′ (length-set row 1 (suc N) ∙ header-row-length)) 1 (region (sceneWords * mostScenes) (set S i c)) (i * sceneWords) c (omega arith)
+      (padded-set sceneWords (sceneWords * mostScenes) S i c (f .of-scenes) e (omega (arith, f .all-scenes))) (omega arith)
+      ∙ ap₂ (λ (x : List ℕ) (j : ℕ). sets x j c) (header-by 1 (suc N) (omega arith)) at
+
+  -- read again, l being the words that follow: what stands at each place
+  module _ (l : List ℕ) where
+    abbrev ws : List ℕ
+    ws = countedBy G C N S Ks ++ l
+
+    header-from : ws ≡ padded firstScene (row ∷ []) ++ (inRow (P ∷ L) ++ l)
+    unfolding countedBy regionPlace
+    header-from = region-from l fit-by 0 (omega arith)
+
+    zeros-by : blank (countedBy G C N S Ks ++ l) zerosPosition (firstScene - zerosPosition) ≡ true
+    zeros-by = padded-blank ws 0 firstScene (inRow (P ∷ L) ++ l) (scons header-row-length snil) header-from
+
+    scenes-from : drop firstScene (countedBy G C N S Ks ++ l) ≡ padded (sceneWords * mostScenes) S ++ (inRow L ++ l)
+    unfolding countedBy regionPlace
+    scenes-from = region-from l fit-by 1 (omega arith)
+
+    rows-by : (k : ℕ) → k < heights
+        → drop (listPosition C k) (countedBy G C N S Ks ++ l) ≡ padded (stride k * C) (map (rowOf G k) (getD Ks k [])) ++ (inRow (drop (suc k) (listRegions G C 0 Ks)) ++ l)
+    unfolding countedBy
+    rows-by k h =
+        let hk : k < length Ks = omega (arith, f .lists) in
+        ap (λ (n : ℕ). drop n (inRow (H ∷ P ∷ L) ++ l)) (sym (start-by k (omega arith))) ∙ region-from l fit-by (suc (suc k)) (omega (arith, lists-many G C 0 Ks))
+        ∙ ap (λ (r : Region). regionWords r ++ (inRow (drop (suc k) L) ++ l)) (list-region G C 0 Ks k hk ∙ ap (λ (i : ℕ). listOf G C i (getD Ks k [])) (zero-add k))
+
+    -- what the words give back
+    row-read : (i : ℕ) → i < zerosPosition → getD ws i 0 ≡ getD row i 0
+    row-read i h = ap (λ (x : List ℕ). getD x i 0) header-from ∙ row-word firstScene row (inRow (P ∷ L) ++ l) i (omega (arith, header-row-length))
+
+    pub capacity-by : capacityOf (countedBy G C N S Ks ++ l) ≡ C
+    capacity-by = row-read 0 (omega arith)
+
+    scenes-by : scenesHeld (countedBy G C N S Ks ++ l) ≡ N
+    scenes-by = row-read 1 (omega arith)
+
+    pub count-by : (k : ℕ) → k < heights → keptCount (countedBy G C N S Ks ++ l) k ≡ length (getD Ks k [])
+    count-by k h =
+        row-read (2 + k) (omega arith) ∙ ap (λ (i : ℕ). getD row i 0) (two-add k) ∙ map-at length Ks k [] 0 (omega (arith, f .lists))
+
+-- ---- with its own counts
+
+module _ (C N : ℕ) (S : List Cell) (Ks : List (List Cell)) (f : Fine C N S Ks) where
+  pub store-fit : Fit (regions (storeWith C N S Ks))
+  store-fit = fit-by Ks C N S Ks f
+
+  -- list k is region k + 2
+  pub list-start : (k : ℕ) → k ≤ heights → regionPlace (regions (storeWith C N S Ks)) (suc (suc k)) ≡ listPosition C k
+  list-start = start-by Ks C N S Ks f
+
+  -- 'uses the first'
+  pub wordsOf-length : length (wordsOf (storeWith C N S Ks)) ≡ used C
+  wordsOf-length = ap length (counted-own C N S Ks) ∙ length-by Ks C N S Ks f
 
   -- the cells of list k
-  pub cells-sized : (k : ℕ) → k < heights → Sized (stride k) (getD Ks k [])
-  cells-sized k h = subst (λ (n : ℕ). Sized (stride n) (getD Ks k [])) (zero-add k) (lists-sized (f .of-cells) k (omega (arith, f .lists)))
+  pub cells-sized : (k : ℕ) → k < heights → Sized (cellLength k) (getD Ks k [])
+  cells-sized k h = subst (λ (n : ℕ). Sized (cellLength n) (getD Ks k [])) (zero-add k) (lists-sized (f .of-cells) k (omega (arith, f .lists)))
 
   pub cells-few : (k : ℕ) → length (getD Ks k []) ≤ C
   cells-few = lists-few (f .of-cells)
 
-  -- a cell more in list k: its count, and its words behind those of the others
-  pub keep-words : (k : ℕ) (c : Cell) → k < heights → length c ≡ stride k → length (getD Ks k []) < C
+  -- a cell more in list k: its count, and its row behind those of the others, whose counts stay
+  pub keep-words : (k : ℕ) (c : Cell) → k < heights → OkCells Ks → OkCell Ks k c → length c ≡ cellLength k → length (getD Ks k []) < C
       → wordsOf (storeWith C N S (set Ks k (getD Ks k [] ++ (c ∷ []))))
-      ≡ sets (set (wordsOf (storeWith C N S Ks)) (2 + k) (suc (length (getD Ks k [])))) (cellPosition C k (length (getD Ks k []))) c
-  keep-words k c h e l =
+      ≡ sets (set (wordsOf (storeWith C N S Ks)) (2 + k) (suc (length (getD Ks k [])))) (cellPosition C k (length (getD Ks k []))) (rowOf Ks k c)
+  keep-words k c h ok okc e l =
+      let hk : k < length Ks = omega (arith, f .lists) in
+      let K′ : List (List Cell) = K⁺ Ks k hk c in
+      let x : Extends Ks K′ = keep-extends Ks k hk c in
       let cs : List Cell = getD Ks k [] in
+      let rows : List (List ℕ) = map (rowOf Ks k) cs in
       let n : ℕ = length cs in
+      let m : length rows ≡ n = length-map cs (rowOf Ks k) in
+      let row : List ℕ = rowOf Ks k c in
       let fit : suc n * stride k ≤ stride k * C = words-fit k (suc n) C l in
-      let at : listPosition C k + n * stride k ≡ cellPosition C k n = ap (λ (m : ℕ). listPosition C k + m) (mul-comm n (stride k)) in
-      list-words k (cs ++ (c ∷ [])) (n * stride k) c h (padded-snoc (stride k) (stride k * C) cs c (cells-sized k h) e fit) (omega arith)
-      ∙ ap₂ (λ (m i : ℕ). sets (set (wordsOf (storeWith C N S Ks)) (2 + k) m) i c) (length-snoc cs c) at
+      let at : listPosition C k + length rows * stride k ≡ cellPosition C k n = ap (λ (j : ℕ). listPosition C k + j) (ap (λ (j : ℕ). j * stride k) m ∙ mul-comm n (stride k)) in
+      let okeach : (j q : ℕ) → q < length (cellsAt K′ j) → OkCell Ks j (cellAt K′ j q) =
+      keep-each Ks k hk c (λ j q. OkCell Ks j (cellAt K′ j q)) (λ j q hq. subst (OkCell Ks j) (sym (ext-cell x j q hq)) (ok j q hq)) (subst (OkCell Ks k) (sym (keep-cell Ks k hk c)) okc) in
+      counted-own C N S K′ ∙ counted-same K′ Ks C N S K′ (λ j q hq. ext-solid x ok j (cellAt K′ j q) (okeach j q hq))
+      ∙ list-by Ks C N S Ks f k (cs ++ (c ∷ [])) (length rows * stride k) row h
+      (ap (padded (stride k * C)) (map-append (rowOf Ks k) cs (c ∷ []))
+      ∙ padded-snoc (stride k) (stride k * C) rows row (rows-sized Ks k (cells-sized k h)) (row-length Ks k c e) (rw m fit))
+      (rw m (omega (arith, row-length Ks k c e)))
+      ∙ (λ i. sets (set (sym (counted-own C N S Ks) i) (2 + k) (length-snoc cs c i)) (at i) row)
 
-  pub keep-fine : (k : ℕ) (c : Cell) → length c ≡ stride k → length (getD Ks k []) < C → Fine C N S (set Ks k (getD Ks k [] ++ (c ∷ [])))
+  pub keep-fine : (k : ℕ) (c : Cell) → length c ≡ cellLength k → length (getD Ks k []) < C → Fine C N S (set Ks k (getD Ks k [] ++ (c ∷ [])))
   keep-fine k c e l = record {
     lists = length-set Ks k (getD Ks k [] ++ (c ∷ [])) ∙ f .lists;
     of-scenes = f .of-scenes;
     all-scenes = f .all-scenes;
     few-scenes = f .few-scenes;
-    of-cells = lists-snoc (f .of-cells) k c (e ∙ ap stride (sym (zero-add k))) l;
+    of-cells = lists-snoc (f .of-cells) k c (e ∙ ap cellLength (sym (zero-add k))) l;
   }
 
   -- a scene more, at place i: the count of scenes, and its two words
   pub scene-words : (i : ℕ) (c : Cell) → length c ≡ sceneWords → i < mostScenes
       → wordsOf (storeWith C (suc N) (set S i c) Ks) ≡ sets (set (wordsOf (storeWith C N S Ks)) 1 (suc N)) (scenePosition i) c
-  unfolding wordsOf regionPlace
   scene-words i c e l =
-      let row′ : List ℕ = set row 1 (suc N) in
-      let at : firstScene + 0 + i * sceneWords ≡ scenePosition i = omega arith in
-      region-set (fit-under row′ (length-set row 1 (suc N) ∙ row-length)) 1 (region (sceneWords * mostScenes) (set S i c)) (i * sceneWords) c (omega arith)
-      (padded-set sceneWords (sceneWords * mostScenes) S i c (f .of-scenes) e (omega (arith, f .all-scenes))) (omega arith)
-      ∙ ap₂ (λ (x : List ℕ) (j : ℕ). sets x j c) (header-word 1 (suc N) (omega arith)) at
+      counted-own C (suc N) (set S i c) Ks ∙ scene-by Ks C N S Ks f i c e l
+      ∙ ap (λ (w : List ℕ). sets (set w 1 (suc N)) (scenePosition i) c) (sym (counted-own C N S Ks))
 
   pub scene-fine : (i : ℕ) (c : Cell) → length c ≡ sceneWords → N < mostScenes → Fine C (suc N) (set S i c) Ks
   scene-fine i c e l = record {
@@ -239,14 +258,14 @@ module _ (C N : ℕ) (S : List Cell) (Ks : List (List Cell)) (f : Fine C N S Ks)
   }
 
   -- the same with other words x behind
-  pub keep-words-before : (k : ℕ) (c : Cell) (x : List ℕ) → k < heights → length c ≡ stride k → length (getD Ks k []) < C
+  pub keep-words-before : (k : ℕ) (c : Cell) (x : List ℕ) → k < heights → OkCells Ks → OkCell Ks k c → length c ≡ cellLength k → length (getD Ks k []) < C
       → wordsOf (storeWith C N S (set Ks k (getD Ks k [] ++ (c ∷ [])))) ++ x
-      ≡ put (cellPosition C k (length (getD Ks k []))) c (set (wordsOf (storeWith C N S Ks) ++ x) (2 + k) (suc (length (getD Ks k []))))
-  keep-words-before k c x h e l =
+      ≡ put (cellPosition C k (length (getD Ks k []))) (rowOf Ks k c) (set (wordsOf (storeWith C N S Ks) ++ x) (2 + k) (suc (length (getD Ks k []))))
+  keep-words-before k c x h ok okc e l =
       let n : ℕ = length (getD Ks k []) in
-      ap (λ (r : List ℕ). r ++ x) (keep-words k c h e l)
-      ∙ stored-before (wordsOf (storeWith C N S Ks)) x c (cellPosition C k n) (2 + k) (suc n)
-      (omega (arith, wordsOf-length)) (omega (arith, wordsOf-length, list-in C k h, mul-le-mul-left (stride k) l))
+      ap (λ (r : List ℕ). r ++ x) (keep-words k c h ok okc e l)
+      ∙ stored-before (wordsOf (storeWith C N S Ks)) x (rowOf Ks k c) (cellPosition C k n) (2 + k) (suc n)
+      (omega (arith, wordsOf-length)) (omega (arith, wordsOf-length, list-in C k h, mul-le-mul-left (stride k) l, row-length Ks k c e))
 
   pub scene-words-before : (i : ℕ) (c : Cell) (x : List ℕ) → length c ≡ sceneWords → i < mostScenes
       → wordsOf (storeWith C (suc N) (set S i c) Ks) ++ x ≡ put (scenePosition i) c (set (wordsOf (storeWith C N S Ks) ++ x) 1 (suc N))
@@ -257,60 +276,81 @@ module _ (C N : ℕ) (S : List Cell) (Ks : List (List Cell)) (f : Fine C N S Ks)
   -- ---- read again, l being the words that follow
 
   module _ (l : List ℕ) where
-    abbrev ws : List ℕ
-    ws = stored C N S Ks l
+    abbrev words : List ℕ
+    words = stored C N S Ks l
 
-    -- what stands at each place: the header, the scenes, list k
-    header-from : ws ≡ padded firstScene (row ∷ []) ++ (inRow (P ∷ L) ++ l)
-    unfolding wordsOf regionPlace
-    header-from = region-from l store-fit 0 (omega arith)
+    own : words ≡ countedBy Ks C N S Ks ++ l
+    own = ap (λ (w : List ℕ). w ++ l) (counted-own C N S Ks)
 
     pub zeros-from : blank (wordsOf (storeWith C N S Ks) ++ l) zerosPosition (firstScene - zerosPosition) ≡ true
-    zeros-from = padded-blank ws 0 firstScene (inRow (P ∷ L) ++ l) (scons row-length snil) header-from
+    zeros-from = ap (λ (w : List ℕ). blank w zerosPosition (firstScene - zerosPosition)) own ∙ zeros-by Ks C N S Ks f l
 
-    scenes-from : drop firstScene ws ≡ padded (sceneWords * mostScenes) S ++ (inRow L ++ l)
-    unfolding wordsOf regionPlace
-    scenes-from = region-from l store-fit 1 (omega arith)
-
-    pub cells-from : (k : ℕ) → k < heights → drop (listPosition C k) (wordsOf (storeWith C N S Ks) ++ l) ≡ padded (stride k * C) (getD Ks k []) ++ (inRow (drop (suc k) (listRegions C 0 Ks)) ++ l)
-    unfolding wordsOf
-    cells-from k h =
-        let hk : k < length Ks = omega (arith, f .lists) in
-        ap (λ (n : ℕ). drop n ws) (sym (list-start k (omega arith))) ∙ region-from l store-fit (suc (suc k)) (omega (arith, lists-many C 0 Ks))
-        ∙ ap (λ (r : Region). regionWords r ++ (inRow (drop (suc k) L) ++ l)) (list-region C 0 Ks k hk ∙ ap (λ (i : ℕ). region (stride i * C) (getD Ks k [])) (zero-add k))
-
-    -- what the words give back
-    row-read : (i : ℕ) → i < zerosPosition → getD ws i 0 ≡ getD row i 0
-    row-read i h = ap (λ (x : List ℕ). getD x i 0) header-from ∙ row-word firstScene row (inRow (P ∷ L) ++ l) i (omega (arith, row-length))
+    pub cells-from : (k : ℕ) → k < heights
+        → drop (listPosition C k) (wordsOf (storeWith C N S Ks) ++ l) ≡ padded (stride k * C) (map (rowOf Ks k) (getD Ks k [])) ++ (inRow (drop (suc k) (listRegions Ks C 0 Ks)) ++ l)
+    cells-from k h = ap (drop (listPosition C k)) own ∙ rows-by Ks C N S Ks f l k h
 
     pub capacity-read : capacityOf (wordsOf (storeWith C N S Ks) ++ l) ≡ C
-    capacity-read = row-read 0 (omega arith)
+    capacity-read = ap capacityOf own ∙ capacity-by Ks C N S Ks f l
 
     pub scenes-read : scenesHeld (wordsOf (storeWith C N S Ks) ++ l) ≡ N
-    scenes-read = row-read 1 (omega arith)
+    scenes-read = ap scenesHeld own ∙ scenes-by Ks C N S Ks f l
 
     pub count-read : (k : ℕ) → k < heights → keptCount (wordsOf (storeWith C N S Ks) ++ l) k ≡ length (getD Ks k [])
-    count-read k h =
-        row-read (2 + k) (omega arith) ∙ ap (λ (i : ℕ). getD row i 0) (two-add k) ∙ map-at length Ks k [] 0 (omega (arith, f .lists))
+    count-read k h = ap (λ (w : List ℕ). keptCount w k) own ∙ count-by Ks C N S Ks f l k h
 
-    list-read : (k : ℕ) → k < heights → keptIn ws k ≡ getD Ks k []
+    list-read : (k : ℕ) → k < heights → keptIn words k ≡ getD Ks k []
+    unfolding keptIn
     list-read k h =
-        kept-rows ws k ∙ ap₂ (λ (n c : ℕ). groups (stride k) (stride k) n (drop (listPosition c k) ws)) (count-read k h) capacity-read
-        ∙ ap (groups (stride k) (stride k) (length (getD Ks k []))) (cells-from k h)
-        ∙ groups-padded (stride k * C) (inRow (drop (suc k) L) ++ l) (cells-sized k h)
+        let cs : List Cell = getD Ks k [] in
+        let rows : List (List ℕ) = map (rowOf Ks k) cs in
+        ap₂ (λ (n c : ℕ). groups (stride k) (cellLength k) n (drop (listPosition c k) words)) (count-read k h ∙ sym (length-map cs (rowOf Ks k))) capacity-read
+        ∙ ap (groups (stride k) (cellLength k) (length rows)) (cells-from k h)
+        ∙ groups-padded (cellLength k) (stride k * C) (inRow (drop (suc k) (listRegions Ks C 0 Ks)) ++ l) (cell-fits k) (rows-sized Ks k (cells-sized k h))
+        ∙ rows-cells Ks k (cells-sized k h)
 
     pub kept-read : keptOf (wordsOf (storeWith C N S Ks) ++ l) ≡ Ks
     kept-read =
-        ext-getD [] (keptOf ws) Ks (kept-tall ws ∙ sym (f .lists))
+        ext-getD [] (keptOf words) Ks (kept-tall words ∙ sym (f .lists))
         (λ k h.
-        let hk : k < heights = omega (arith, kept-tall ws) in
-        kept-list ws k hk ∙ list-read k hk)
+        let hk : k < heights = omega (arith, kept-tall words) in
+        kept-list words k hk ∙ list-read k hk)
 
-    places-read : groups sceneWords sceneWords mostScenes (drop firstScene ws) ≡ S
+    places-read : groups sceneWords sceneWords mostScenes (drop firstScene words) ≡ S
     places-read =
-        ap₂ (groups sceneWords sceneWords) (sym (f .all-scenes)) scenes-from ∙ groups-padded (sceneWords * mostScenes) (inRow L ++ l) (f .of-scenes)
+        ap₂ (groups sceneWords sceneWords) (sym (f .all-scenes)) (ap (drop firstScene) own ∙ scenes-from Ks C N S Ks f l)
+        ∙ groups-padded sceneWords (sceneWords * mostScenes) (inRow (listRegions Ks C 0 Ks) ++ l) (omega arith) (f .of-scenes) ∙ take-sized (f .of-scenes)
 
     -- the words give the store back, whatever follows them
     pub storeOf-wordsOf : storeOf (wordsOf (storeWith C N S Ks) ++ l) ≡ storeWith C N S Ks
     unfolding storeOf
     storeOf-wordsOf = λ i. storeWith (capacity-read i) (scenes-read i) (places-read i) (kept-read i)
+
+    -- and each cell's row, in it the count
+    row-from : (k n : ℕ) → k < heights → n < length (cellsAt Ks k) → take (stride k) (drop (cellPosition C k n) words) ≡ rowOf Ks k (cellAt Ks k n)
+    row-from k n h hn =
+        let cs : List Cell = cellsAt Ks k in
+        ap (take (stride k)) (sym (drop-drop (stride k * n) (listPosition C k) words) ∙ ap (drop (stride k * n)) (cells-from k h))
+        ∙ padded-row (stride k * C) (inRow (drop (suc k) (listRegions Ks C 0 Ks)) ++ l) n (rows-sized Ks k (cells-sized k h)) (rw (length-map cs (rowOf Ks k)) hn)
+        ∙ map-at (rowOf Ks k) cs n [] [] hn
+
+    count-word : (k n i : ℕ) → suc k < heights → n < length (cellsAt Ks (suc k)) → i < 2 → length (cellAt Ks (suc k) n) ≡ 8
+        → getD (drop (countPosition C (suc k) n) words) i 0 ≡ getD (twoWords (solidOf Ks (suc k) (cellAt Ks (suc k) n))) i 0
+    count-word k n i h hn hi e =
+        let a : ℕ = cellPosition C (suc k) n in
+        let c : Cell = cellAt Ks (suc k) n in
+        let s : List ℕ = twoWords (solidOf Ks (suc k) c) in
+        let at : countPosition C (suc k) n + i ≡ a + (8 + i) = omega arith in
+        getD-drop (countPosition C (suc k) n) words i 0 ∙ ap (λ (j : ℕ). getD words j 0) at ∙ sym (getD-drop a words (8 + i) 0)
+        ∙ sym (getD-take 10 (drop a words) (8 + i) 0 (omega arith)) ∙ ap (λ (r : List ℕ). getD r (8 + i) 0) (row-from (suc k) n h hn)
+        ∙ ap (λ (j : ℕ). getD (c ++ s) (j + i) 0) (sym e) ∙ getD-append-add c s i 0
+
+    -- the count that is read is the number of the cell's solid voxels
+    pub solid-read : (k n : ℕ) → k < heights → n < length (cellsAt Ks k) → countOf (wordsOf (storeWith C N S Ks) ++ l) k n ≡ solidOf Ks k (cellAt Ks k n)
+    unfolding countOf solidOf
+    solid-read zero n h hn = ap (λ (K : List (List Cell)). leafSolid (leafNo (cellAt K 0 n))) kept-read
+    solid-read (suc k) n h hn =
+        let c : Cell = cellAt Ks (suc k) n in
+        let e : length c ≡ 8 = sized-at (cells-sized (suc k) h) n hn in
+        ap (λ (D : ℕ). pairNo (drop (countPosition D (suc k) n) words)) capacity-read
+        ∙ ap₂ (λ (a b : ℕ). a * 2 ^ 32 + b) (count-word k n 0 h hn (omega arith) e) (count-word k n 1 h hn (omega arith) e)
+        ∙ pair-back (solidOf Ks (suc k) c)

@@ -1,4 +1,3 @@
 -- Definitions that several crates' contracts cite.
-pub mod Boxes
 pub mod Symmetries
 pub mod Lines

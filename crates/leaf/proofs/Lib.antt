@@ -1,2 +1,3 @@
--- Laws that belong to no one function: bits that change places, and a leaf whose bits are so moved.
+-- Laws that belong to no one function: bits that change places, a leaf whose bits are so moved, and the ones of a number.
 pub mod Moving
+pub mod Ones

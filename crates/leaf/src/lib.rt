@@ -5,9 +5,11 @@ ghost use Prim.Native.Nat.{_*_, _<_};
 ghost use lib.Dec.{T, eqb};
 ghost use Rattle.paper.specs.Numbers.{bitFor};
 ghost use Rattle.paper.specs.Leaf.{mirrorLeaf};
+ghost use Rattle.paper.specs.Store.{leafSolid};
 ghost use Rattle.laws.specs.Symmetries.{symmetryFor};
 ghost use Rattle.leaf.specs.Moves.{moved, swaps, axis};
 use limits::MIRRORS;
+use numbers::wider;
 
 // The bits whose number lacks a step of 1, 2, 4, 8, 16 or 32: those that change places with the bit so far above.
 const BELOW_1: u64 = 0x5555555555555555;
@@ -79,4 +81,11 @@ pub fn leaf_symmetry(leaf: u64) -> u8
         symmetry = 2 * symmetry + leaf_bit(leaf, t);
     }
     symmetry
+}
+
+// How many solid voxels a leaf has.
+pub fn leaf_solid(leaf: u64) -> u64
+    ensures { λ r. ⌜ r ≡ leafSolid leaf ⌝ }
+{
+    wider(u64::count_ones(leaf))
 }

@@ -9,7 +9,7 @@ use lib.Dec.{T, lit<}
 use lib.ListN.{length, getD, drop, length-drop}
 use lib.Seq.{length-take-le}
 use Rattle.paper.specs.Numbers.{bytes, flatten}
-use Rattle.paper.specs.Store.{Cell, heights, used, capacityOf, keptCount, cellPosition, keptOf, cellAt, leafNo, headerOk}
+use Rattle.paper.specs.Store.{Cell, heights, used, capacityOf, keptCount, stride, cellPosition, keptOf, cellAt, leafNo, headerOk}
 use Rattle.paper.specs.Pack.{leafBytes}
 use Rattle.laws.proofs.Kept.{kept-cell}
 use Rattle.laws.proofs.Places.{kept-word}
@@ -29,7 +29,7 @@ module _ (ws : List ℕ) (ok : T (headerOk ws)) where
       let a : ℕ = cellPosition (capacityOf ws) (suc k) q in
       let r : FineHeader ws = fine-header ws ok in
       let few : keptCount ws (suc k) ≤ capacityOf ws = r .few (suc k) hk in
-      let room : a + 8 * (capacityOf ws - q) ≤ used (capacityOf ws) = cells-fit (capacityOf ws) (suc k) q (λ e. omega arith) hk (omega arith) in
+      let room : a + stride 1 * (capacityOf ws - q) ≤ used (capacityOf ws) = cells-fit (capacityOf ws) (suc k) q (λ e. omega arith) hk (omega arith) in
       ap length (kept-cell ws (suc k) q hk h) ∙ length-take-le 8 (drop a ws) (rw (length-drop a ws) (omega (arith, r .long)))
 
 -- ---- a leaf's bytes

@@ -9,15 +9,16 @@ use lib.ListN.{length, drop, replicate, set}
 use Rattle.paper.specs.Numbers.{bitFor, sameList}
 use Rattle.paper.specs.Rooms.{Point, depthOk, inside}
 use Rattle.paper.specs.Outline.{outlineVersion, outlineHead, longest, outlineOf, versionOk, lengthOk, fileDepth, outlineRules, outlineTree}
-use Rattle.paper.specs.Store.{Cell, Store, mostScenes, used, capacityOf, scenesHeld, isHeld, keptCount, capacityOk, keptOf, storeOf, wordsOf, sceneDepth, sceneRoot, headerOk, sceneOk, storeOk}
+use Rattle.paper.specs.Store.{Cell, Store, mostScenes, used, capacityOf, scenesHeld, isHeld, keptCount, capacityOk, keptOf, countOf, storeOf, wordsOf, sceneDepth, sceneRoot, headerOk, sceneOk, storeOk}
 use Rattle.paper.specs.Meaning.{rootRoom}
 use Rattle.paper.specs.Match.{Adding, full, added, addTree}
 use Rattle.paper.specs.Walk.{End, isDamaged, solidAt, emptyHeight}
-use Rattle.paper.specs.Questions.{voxelWalk, cellNonEmpty, cellWalkDamaged, boxSolid, boxWalkDamaged}
+use Rattle.paper.specs.Questions.{voxelWalk, cellNonEmpty, cellWalkDamaged, boxTally, tallyDamaged, tallySolid}
 use Rattle.paper.specs.Packed.{packedVersion, packedHead, headOk, packedRules, fileWalk, startsOf}
 use Rattle.paper.specs.Pack.{packedFile}
 use Rattle.paper.specs.Answers.{Outcome}
 use Rattle.paper.specs.Order.{Test, when, firstOf, settled}
+use Rattle.paper.specs.declared.Tally.{Tally}
 
 -- the bytes written, then what was there beyond them ('past the written length')
 abbrev pub over : List ℕ → List ℕ → List ℕ
@@ -147,12 +148,16 @@ boxOutside ws n low high =
     axisOutside (2 ^ sceneDepth ws n) (low .x) (high .x) || axisOutside (2 ^ sceneDepth ws n) (low .y) (high .y)
     || axisOutside (2 ^ sceneDepth ws n) (low .z) (high .z)
 
+-- what a box finds in a scene
+unfoldable pub sceneTally : List ℕ → ℕ → Point → Point → Tally
+sceneTally ws n low high = boxTally (keptOf ws) (countOf ws) (sceneDepth ws n) (sceneRoot ws n) low high
+
 unfoldable pub boxDamaged : List ℕ → ℕ → Point → Point → Bool
-boxDamaged ws n low high = ofScene boxWalkDamaged ws n low high
+boxDamaged ws n low high = tallyDamaged (sceneTally ws n low high)
 
 unfoldable pub boxOutcome : List ℕ → ℕ → Point → Point → Outcome
 boxOutcome ws n low high =
-    let value : ℕ = ofScene boxSolid ws n low high in
+    let value : ℕ = tallySolid (sceneTally ws n low high) in
     settled (firstOf (questionOrder ws n (boxOutside ws n low high) (boxDamaged ws n low high))) (value ∷ []) [] []
 
 -- ---- kept

@@ -1,4 +1,4 @@
--- The claims C1 to C13, the demands of documents 01 and 02, as types. This file states all and proves none; docs/READING.md says where each is proved.
+-- The claims C1 to C14, the demands of documents 01 and 02, as types. This file states all and proves none; docs/READING.md says where each is proved.
 -- A claim that speaks of a call speaks of its outcome function (Calls, Detail); the promise of the call ties the code to that function.
 use mathlib.Core.Bool.{true, false, cond}
 use mathlib.Core.List.{List, [], _∷_}
@@ -13,9 +13,9 @@ use lib.Ieee.Exact.{HasValue}
 use lib.Ieee.Positive.{num, den}
 use lib.ListN.{length, take, drop, getD}
 use Rattle.paper.specs.Numbers.{allIn, bitFor, isIn}
-use Rattle.paper.specs.Rooms.{Point, point, Room, deepest, depthOk, Inside, cellOf, OneCell, cellAround, childRoom, mirror, mirrored, Same, Image, NonEmpty, boxCount, nonEmpty, emptyAt}
+use Rattle.paper.specs.Rooms.{Point, point, Room, deepest, depthOk, Inside, cellOf, OneCell, cellAround, childRoom, mirror, mirrored, Same, Image, NonEmpty, boxCount, origin, far, nonEmpty, emptyAt}
 use Rattle.paper.specs.Outline.{edge, IsOutline, outlineOf, fileDepth, fileRoom}
-use Rattle.paper.specs.Store.{Cell, leafNo, tagOf, cellNo, anyBad, capacityOf, isHeld, keptOf, cellsAt, cellAt}
+use Rattle.paper.specs.Store.{Cell, leafNo, tagOf, cellNo, anyBad, capacityOf, isHeld, keptOf, cellsAt, cellAt, countOf, sceneDepth, storeOk}
 use Rattle.paper.specs.Meaning.{cellVoxel, rootRoom}
 use Rattle.paper.specs.Match.{matches}
 use Rattle.paper.specs.Packed.{rootTag, isEmpty, topOf, graphOf, proper, packedRoom, packedPath, startsOf}
@@ -23,7 +23,7 @@ use Rattle.paper.specs.Pack.{layout, emptyFile, packedMost}
 use Rattle.paper.specs.Answers.{Outcome, told, outcome}
 use Rattle.paper.specs.Order.{firstOf}
 use Rattle.paper.specs.Detail.{factorOk, distanceOk, reaches, doubled}
-use Rattle.paper.specs.Calls.{over, cleared, nextScene, scenesFull, outlineOrder, ofScene, addOutcome, voxelOutcome, cellOutcome, boxOutcome, keptOutcome, outlineOutcome, scratchFor, packBytes, packOutcome, checkOutcome, packedVoxelOutcome, openOutcome, askOutcome}
+use Rattle.paper.specs.Calls.{over, cleared, nextScene, scenesFull, outlineOrder, ofScene, addOutcome, voxelOutcome, cellOutcome, boxOutside, boxOutcome, keptOutcome, outlineOutcome, scratchFor, packBytes, packOutcome, checkOutcome, packedVoxelOutcome, openOutcome, askOutcome}
 use Rattle.paper.specs.Runs.{Call, Bytes, Given, outcomeOf, wordsAfter, besides, Scene, sceneOf, holding, alone, State, Reached, Occurs, Outnumbered, Number, keptRoom, usedBy}
 use Rattle.paper.specs.Lines.{Before, Between, tested}
 use Rattle.paper.specs.Sight.{sightOutcome}
@@ -311,3 +311,22 @@ pub record C13 : Type 0 where
   -- on any words the line is clear from a to b exactly where it is from b to a
   pub bothWays : (ws : List ℕ) (n : ℕ) (a b : Point)
       → (sightOutcome ws n a b ≡ outcome (told 0 (0 ∷ 0 ∷ 0 ∷ 0 ∷ [])) []) ↔ (sightOutcome ws n b a ≡ outcome (told 0 (0 ∷ 0 ∷ 0 ∷ 0 ∷ [])) [])
+
+-- ---- C14, solid counts (document 02, request 1)
+
+-- how many voxels of a cube of edge S are solid
+abbrev pub solidCount : ℕ → Room → ℕ
+solidCount S r = boxCount S r origin (far S)
+
+pub record CountsTrue (ws : List ℕ) : Type 0 where
+  -- each kept cell's count is the number of its solid voxels
+  pub counts : (k q : ℕ) → q < length (cellsAt (keptOf ws) k) → countOf ws k q ≡ solidCount (edge k) (keptRoom ws k q)
+  -- a box of a scene held answers how many of the box's voxels are solid
+  pub boxes : (n : ℕ) (low high : Point) → T (isHeld ws n) → boxOutside ws n low high ≡ false
+      → boxOutcome ws n low high ≡ outcome (told 0 (boxCount (2 ^ sceneDepth ws n) (ofScene rootRoom ws n) low high ∷ [])) []
+
+pub record C14 : Type 0 where
+  -- on every store that passes the whole store's test, whoever wrote it
+  pub any : (ws : List ℕ) → T (storeOk ws) → CountsTrue ws
+  -- so on every store that only the calls wrote
+  pub ours : (s : State) → Reached s → CountsTrue (s .words)

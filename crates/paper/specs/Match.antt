@@ -4,14 +4,14 @@ use mathlib.Core.Bool.{Bool, false, cond}
 use mathlib.Core.List.{List, [], _∷_, _++_}
 use mathlib.Core.Option.{Option, some}
 use mathlib.Core.Option as O
-use Prim.Native.Nat.{ℕ, zero, suc, pred, _/_, _%_, _^_}
+use Prim.Native.Nat.{ℕ, zero, suc, pred}
 use lib.Dec.{eqb, ltb}
 use lib.Bits.{bitXor}
 use lib.ListN.{length, getD, set}
 use Rattle.paper.specs.Numbers.{allBelow}
 use Rattle.paper.specs.Leaf.{mirrorLeaf}
 use Rattle.paper.specs.Outline.{Tree, none, leaf, node}
-use Rattle.paper.specs.Store.{Cell, cellsAt, cellAt, leafNo, tagOf, cellNo, pointer}
+use Rattle.paper.specs.Store.{Cell, cellsAt, cellAt, twoWords, leafNo, tagOf, cellNo, pointer}
 
 -- pointers p of a and q of b, under t ('both none'): neither names a cell; or both name one cell, and it matches itself under the exclusive or of
 -- both tags and t. `self q u`: cell q matches itself under u
@@ -79,7 +79,7 @@ inTurn (f ∷ fs) K = then (f K) (λ a K′. then (inTurn fs K′) (λ rs K″. 
 
 -- a leaf's two words, high first
 abbrev pub leafCell : ℕ → Cell
-leafCell n = n / 2 ^ 32 ∷ n % 2 ^ 32 ∷ []
+leafCell n = twoWords n
 
 -- a tree of height k + 2 ('from the leaves up'): its children in turn, each added to what those before it left, then the cell of their pointers
 unfoldable pub addTree : ℕ → Tree → ℕ → List (List Cell) → Adding ℕ

@@ -3,7 +3,7 @@
 -- A room is a question on three coordinates; a cell of it is that question restricted and shifted. Nothing here speaks of trees or pointers.
 use mathlib.Core.Bool.{Bool, true, false, cond, _&&_}
 use mathlib.Core.Path.{_≡_}
-use Prim.Native.Nat.{ℕ, zero, suc, _+_, _-_, _*_, _/_, _%_, _^_, _<_}
+use Prim.Native.Nat.{ℕ, zero, suc, _+_, _-_, _*_, _/_, _%_, _^_, _<_, min}
 use lib.Dec.{eqb, leb, ltb}
 use Rattle.paper.specs.Numbers.{anyBelow, sum, bitFor}
 
@@ -116,6 +116,31 @@ sum3 S f = sum S (λ c. sum S (λ b. sum S (λ a. f (point a b c))))
 -- how many points of the box, in a cube of edge S, pass
 unfoldable pub boxCount : ℕ → Room → Point → Point → ℕ
 boxCount S r low high = sum3 S (λ v. cond (inBox low high v) (bitFor (r v)) 0)
+
+-- the box has a voxel
+abbrev pub hasVoxel : Point → Point → Bool
+hasVoxel low high = ltb (low .x) (high .x) && ltb (low .y) (high .y) && ltb (low .z) (high .z)
+
+-- the corner of all cubes, and the corner past the last voxel of a cube of edge S; the box from one to the other is the whole cube
+abbrev pub origin : Point
+origin = point 0 0 0
+
+abbrev pub far : ℕ → Point
+far S = point S S S
+
+-- along one axis the box is the cube's whole edge; the box is the whole cube
+abbrev pub wholeSide : ℕ → ℕ → ℕ → Bool
+wholeSide S low high = eqb low 0 && eqb high S
+
+abbrev pub isWhole : ℕ → Point → Point → Bool
+isWhole S low high = wholeSide S (low .x) (high .x) && wholeSide S (low .y) (high .y) && wholeSide S (low .z) (high .z)
+
+-- a coordinate seen from half b of an axis, S the edge of a half (0 below the half, S above it); a corner of a box seen from child i, so that both corners give the box's part in it
+abbrev pub clip : ℕ → ℕ → ℕ → ℕ
+clip S b c = min S (c - b * S)
+
+abbrev pub clipped : ℕ → ℕ → Point → Point
+clipped S i c = point (clip S (i % 2) (c .x)) (clip S (i / 2 % 2) (c .y)) (clip S (i / 4 % 2) (c .z))
 
 -- some voxel of a cube of edge S is solid: the test of NonEmpty
 unfoldable pub nonEmpty : ℕ → Room → Bool

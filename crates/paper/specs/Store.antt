@@ -1,12 +1,13 @@
--- Document 01, 'The store': the cells and scenes that a store holds, the words that hold them, and when a store is damaged. Definitions only.
+-- Document 01, 'The store': the cells and scenes that a store holds, the words that hold them, and when a store is damaged; document 02, request 1: the
+-- solid counts among its words. Definitions only.
 -- Heights are counted from 2: list k has the cells of height k + 2, so list 0 has the leaves. A cell is its words: a leaf two, high first,
--- any other eight pointers.
-use mathlib.Core.Bool.{Bool, cond, not, _&&_}
+-- any other eight pointers; its count is no part of it.
+use mathlib.Core.Bool.{Bool, true, cond, not, _&&_}
 use mathlib.Core.List.{List, [], _∷_, _++_, map}
 use Prim.Native.Nat.{ℕ, zero, suc, _+_, _-_, _*_, _/_, _%_, _^_}
 use lib.Dec.{eqb, leb, ltb}
 use lib.ListN.{length, take, drop, getD, replicate}
-use Rattle.paper.specs.Numbers.{allBelow, anyBelow, allIn, flatten, tabulate}
+use Rattle.paper.specs.Numbers.{allBelow, anyBelow, allIn, flatten, tabulate, sum, bit}
 use Rattle.paper.specs.Rooms.{depthOk}
 
 abbrev pub Cell : Type 0
@@ -26,9 +27,16 @@ cellsAt K k = getD K k []
 abbrev pub cellAt : List (List Cell) → ℕ → ℕ → Cell
 cellAt K k q = getD (cellsAt K k) q []
 
--- the number of a leaf's two words, high first
+-- a number's two words, high first, and the number of a list's first two words
+abbrev pub twoWords : ℕ → List ℕ
+twoWords n = n / 2 ^ 32 ∷ n % 2 ^ 32 ∷ []
+
+abbrev pub pairNo : List ℕ → ℕ
+pairNo l = getD l 0 0 * 2 ^ 32 + getD l 1 0
+
+-- the number that a leaf's two words are
 abbrev pub leafNo : Cell → ℕ
-leafNo c = getD c 0 0 * 2 ^ 32 + getD c 1 0
+leafNo c = pairNo c
 
 -- ---- pointers ('A pointer is 0'): 0 names nothing; any other has a mirror, its tag, above 29 bits that hold the cell's number, counted from 1
 
@@ -101,10 +109,11 @@ abbrev pub cellLength : ℕ → ℕ
 cellLength zero = 2
 cellLength (suc k) = 8
 
--- the words that a store has for a cell of list k: just the cell's
+-- the words that a store has for a cell of list k: a leaf's two; any other's pointers, then two for its solid count (document 02, request 1, 'two more
+-- words')
 abbrev pub stride : ℕ → ℕ
 stride zero = 2
-stride (suc k) = 8
+stride (suc k) = 10
 
 -- the lists ('Then C leaves'), lowest height first, each with room for C cells: where list k starts, where its cell n does. All lists above the
 -- leaves have one stride.
@@ -117,6 +126,10 @@ listPosition C (suc k) = firstList + stride 0 * C + stride 1 * C * k
 
 abbrev pub cellPosition : ℕ → ℕ → ℕ → ℕ
 cellPosition C k n = listPosition C k + stride k * n
+
+-- where its count is, k not 0: after the cell's own words
+abbrev pub countPosition : ℕ → ℕ → ℕ → ℕ
+countPosition C k n = cellPosition C k n + cellLength k
 
 -- how many words a store of capacity C has ('uses the first'): up to where a list after the last would start
 abbrev pub used : ℕ → ℕ
@@ -143,6 +156,26 @@ storeOf ws = record {
   kept = keptOf ws;
 }
 
+-- ---- solid counts (document 02, request 1, 'its solid count')
+
+-- how many solid voxels a leaf has: its bits that are 1
+abbrev pub leafSolid : ℕ → ℕ
+leafSolid n = sum 64 (bit n)
+
+-- what f gives for the cells that a cell's pointers name, summed; a cell named twice counts twice
+unfoldable pub overChildren : (ℕ → ℕ) → Cell → ℕ
+overChildren f c = sum 8 (λ i. let r = f (cellNo (getD c i 0)) in cond (eqb (getD c i 0) 0) 0 r)
+
+-- how many solid voxels a cell of list k has, by its pointers, none of them bad: a leaf its own, any other what its children have
+unfoldable pub solidOf : List (List Cell) → ℕ → Cell → ℕ
+solidOf K zero c = leafSolid (leafNo c)
+solidOf K (suc k) c = overChildren (λ n. solidOf K k (cellAt K k n)) c
+
+-- what the words say of cell n of list k: a leaf has no count, its bits say it; any other's count is two words, high first
+unfoldable pub countOf : List ℕ → ℕ → ℕ → ℕ
+countOf ws zero n = leafSolid (leafNo (cellAt (keptOf ws) 0 n))
+countOf ws (suc k) n = pairNo (drop (countPosition (capacityOf ws) (suc k) n) ws)
+
 -- a scene's two words
 abbrev pub sceneDepth : List ℕ → ℕ → ℕ
 sceneDepth ws n = getD ws (scenePosition n) 0
@@ -167,17 +200,22 @@ region n rows = record { size = n; rows = rows }
 abbrev pub regionWords : Region → List ℕ
 regionWords r = padded (r .size) (r .rows)
 
+-- a cell of list k as a store has it, K being kept: a leaf its words; any other its pointers, then its count
+abbrev pub rowOf : List (List Cell) → ℕ → Cell → List ℕ
+rowOf K zero c = c
+rowOf K (suc k) c = c ++ twoWords (solidOf K (suc k) c)
+
 -- the lists from list k on, each with room for C cells
-unfoldable pub listRegions : ℕ → ℕ → List (List Cell) → List Region
-listRegions C k [] = []
-listRegions C k (cs ∷ Ks) = region (stride k * C) cs ∷ listRegions C (suc k) Ks
+unfoldable pub listRegions : List (List Cell) → ℕ → ℕ → List (List Cell) → List Region
+listRegions K C k [] = []
+listRegions K C k (cs ∷ Ks) = region (stride k * C) (map (rowOf K k) cs) ∷ listRegions K C (suc k) Ks
 
 -- the header, the scenes, list 0, list 1, ..
 abbrev pub headerRow : Store → List ℕ
 headerRow s = s .capacity ∷ s .held ∷ map length (s .kept)
 
 abbrev pub regions : Store → List Region
-regions s = region firstScene (headerRow s ∷ []) ∷ region (sceneWords * mostScenes) (s .scenes) ∷ listRegions (s .capacity) 0 (s .kept)
+regions s = region firstScene (headerRow s ∷ []) ∷ region (sceneWords * mostScenes) (s .scenes) ∷ listRegions (s .kept) (s .capacity) 0 (s .kept)
 
 unfoldable pub wordsOf : Store → List ℕ
 wordsOf s = flatten (map regionWords (regions s))
@@ -227,13 +265,20 @@ unfoldable pub listUsable : List (List Cell) → ℕ → Bool
 listUsable K zero = allIn leafUsable (cellsAt K 0)
 listUsable K (suc k) = allIn (cellUsable (length (cellsAt K k))) (cellsAt K (suc k))
 
+-- each count of list k is the sum of its children's ('the sum of its children's'), as whole numbers; leaves have none
+unfoldable pub countsOk : List ℕ → ℕ → Bool
+countsOk ws zero = true
+countsOk ws (suc k) =
+    allBelow (keptCount ws (suc k)) (λ n. eqb (countOf ws (suc k) n) (overChildren (countOf ws k) (cellAt (keptOf ws) (suc k) n)))
+
 -- nothing stands past the cells kept in list k
 abbrev pub listBlank : List ℕ → ℕ → Bool
 listBlank ws k =
     blank ws (cellPosition (capacityOf ws) k (keptCount ws k)) (stride k * (capacityOf ws - keptCount ws k))
 
--- the whole store is not damaged ('for the whole store'): its header, every place of a scene, every kept cell, and nothing where nothing is kept
+-- the whole store is not damaged ('for the whole store'): its header, every place of a scene, every kept cell, nothing where nothing is kept, and every
+-- count
 unfoldable pub storeOk : List ℕ → Bool
 storeOk ws =
     headerOk ws && allBelow mostScenes (placeOk ws) && allBelow heights (listUsable (keptOf ws))
-    && allBelow heights (listBlank ws)
+    && allBelow heights (listBlank ws) && allBelow heights (countsOk ws)

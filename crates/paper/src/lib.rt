@@ -1,4 +1,4 @@
-// Document 01's public types: what the calls take and answer. Their reading as this paper's number and values is
+// The documents' public types: what the calls take and answer. Their reading as this paper's number and values is
 // specs/Answers.antt; the calls themselves are those of the crate `rooms`.
 
 ghost use mathlib.Core.Path.{_≡_};
@@ -252,6 +252,12 @@ impl Counted {
             Counted::Refused(_) => 0,
         }
     }
+}
+
+// What a walk over a box finds: so many solid voxels, or damage.
+pub enum Tally {
+    Solid(u64),
+    Damaged,
 }
 
 // Kept: the cells kept at a height.

@@ -32,6 +32,7 @@ fn main() {
     play(b"stop.script");
     play(b"emptiness.script");
     play(b"sight.script");
+    play(b"counts.script");
     play(b"questions.script");
     play(b"adding.script");
     play(b"packing.script");

@@ -1,5 +1,5 @@
 // The public calls of the room store. Each promise stands in `paper`, by name, as one equation: the outcome read from the answer
-// is document 01's. No call asks anything of its caller.
+// is the documents'. No call asks anything of its caller.
 ghost use Rattle.points.specs.Points.{at};
 ghost use Rattle.paper.specs.Promises.{NewStorePromise, AddPromise, VoxelPromise, SightPromise, CellPromise, BoxPromise, KeptPromise, OutlinePromise, PackPromise, CheckPromise, PackedVoxelPromise, DetailPromise};
 

@@ -9,7 +9,7 @@ use Prim.Native.Nat.{ℕ, _^_, _<_}
 use lib.Dec.{T, eqb}
 use lib.ListN.{length, getD}
 use Rattle.paper.specs.Numbers.{bitFor}
-use Rattle.paper.specs.Rooms.{Point, Inside, inside}
+use Rattle.paper.specs.Rooms.{Point, Inside, inside, origin}
 use Rattle.paper.specs.Store.{Cell, keptOf}
 use Rattle.paper.specs.Walk.{End, damaged, absent, inLeaf, isDamaged, solidAt}
 use Rattle.paper.specs.Answers.{Told, told, Outcome, outcome, numberOf}
@@ -18,7 +18,6 @@ use Rattle.paper.specs.Questions.{voxelWalk}
 use Rattle.paper.specs.Calls.{voxelOutside, voxelOutcome}
 use Rattle.paper.specs.Sight.{saysEmpty, decider, givesTwo, sightDamaged, sightOutside, blockedAt, sightOutcome}
 use Rattle.paper.specs.declared.Refusal.{Refusal}
-use Rattle.laws.specs.Boxes.{origin}
 use Rattle.laws.proofs.Tests.{true-T}
 use Rattle.laws.proofs.CellPoints.{is-inside, inside-is}
 use Rattle.laws.proofs.FirstFailing.{first-same, first-is, passes-none}

@@ -21,8 +21,8 @@ pub const HEIGHTS: u32 = 15;
 // The first list's place: the words before it are there at any capacity.
 pub const FIRST_LIST: usize = 160;
 
-// The words of all lists for each unit of capacity: 2 and 14 times 8.
-const WORDS_PER_UNIT: usize = 114;
+// The words of all lists for each unit of capacity: 2 and 14 times 10.
+const WORDS_PER_UNIT: usize = 142;
 
 // The place of list 0's count; the counts of the other lists follow.
 pub const FIRST_COUNT: u32 = 2;

@@ -10,6 +10,7 @@ pub use cells::HIGH_WORD;
 pub use cells::LEAF_STRIDE;
 pub use cells::cell_at;
 pub use cells::cell_position;
+pub use cells::count_at;
 pub use cells::leaf_at;
 pub use header::FIRST_COUNT;
 pub use header::HEIGHTS;

@@ -1,3 +1,4 @@
--- Laws that belong to no one function: usable cells and the store's parts, unused words.
+-- Laws that belong to no one function: usable cells and the store's parts, unused words, counts.
 pub mod Usable
 pub mod Spare
+pub mod Counting

@@ -10,7 +10,7 @@ use lib.ListN.{length, drop, getD, drop-of-length-le}
 use lib.Seq.{drop-cons}
 use borrow.Author.Tests.{lt-ltb, le-ltb}
 use Rattle.paper.specs.Numbers.{allBelow, allIn}
-use Rattle.paper.specs.Store.{Cell, cellsAt, leafNo, mostScenes, heights, isHeld, keptOf, headerOk, sceneOk, isFree, placeOk, leafUsable, cellUsable, listUsable, listBlank, storeOk}
+use Rattle.paper.specs.Store.{Cell, cellsAt, leafNo, mostScenes, heights, isHeld, keptOf, headerOk, sceneOk, isFree, placeOk, leafUsable, cellUsable, listUsable, countsOk, listBlank, storeOk}
 
 -- ---- a leaf
 
@@ -73,18 +73,24 @@ module _ (ws : List ℕ) where
   abbrev usable : Bool
   usable = allBelow heights (listUsable (keptOf ws))
 
-  abbrev parts : Bool → Bool → Bool → Bool
-  parts h s u = h && s && u && allBelow heights (listBlank ws)
+  abbrev spare : Bool
+  spare = allBelow heights (listBlank ws)
 
-  in-parts : storeOk ws ≡ parts (headerOk ws) scenes usable
+  abbrev parts : Bool → Bool → Bool → Bool → Bool
+  parts h s u b = h && s && u && b && allBelow heights (countsOk ws)
+
+  in-parts : storeOk ws ≡ parts (headerOk ws) scenes usable spare
   unfolding storeOk
   in-parts = refl
 
   pub store-scenes : headerOk ws ≡ true → scenes ≡ false → storeOk ws ≡ false
-  store-scenes e f = in-parts ∙ ap₂ (λ (h s : Bool). parts h s usable) e f
+  store-scenes e f = in-parts ∙ ap₂ (λ (h s : Bool). parts h s usable spare) e f
 
   pub store-unusable : headerOk ws ≡ true → scenes ≡ true → usable ≡ false → storeOk ws ≡ false
-  store-unusable e f u = in-parts ∙ ap₂ (λ (h s : Bool). parts h s usable) e f ∙ ap (λ (v : Bool). parts true true v) u
+  store-unusable e f u = in-parts ∙ ap₂ (λ (h s : Bool). parts h s usable spare) e f ∙ ap (λ (v : Bool). parts true true v spare) u
 
-  pub store-rest : headerOk ws ≡ true → scenes ≡ true → usable ≡ true → storeOk ws ≡ allBelow heights (listBlank ws)
-  store-rest e f u = in-parts ∙ ap₂ (λ (h s : Bool). parts h s usable) e f ∙ ap (λ (v : Bool). parts true true v) u
+  pub store-unblank : headerOk ws ≡ true → scenes ≡ true → usable ≡ true → spare ≡ false → storeOk ws ≡ false
+  store-unblank e f u b = in-parts ∙ ap₂ (λ (h s : Bool). parts h s usable spare) e f ∙ ap₂ (λ (v w : Bool). parts true true v w) u b
+
+  pub store-rest : headerOk ws ≡ true → scenes ≡ true → usable ≡ true → spare ≡ true → storeOk ws ≡ allBelow heights (countsOk ws)
+  store-rest e f u b = in-parts ∙ ap₂ (λ (h s : Bool). parts h s usable spare) e f ∙ ap₂ (λ (v w : Bool). parts true true v w) u b

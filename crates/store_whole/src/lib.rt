@@ -1,10 +1,11 @@
-// The whole store's tests: every place of a scene, every cell kept, and the unused words.
+// The whole store's tests: every place of a scene, every cell kept, the unused words, and every count.
 ghost use mathlib.Core.Path.{_≡_};
-ghost use mathlib.Core.Bool.{not};
+ghost use mathlib.Core.Bool.{false, not};
 ghost use Prim.Native.Nat.{_≤_, _<_};
 ghost use lib.Dec.{T};
 ghost use Rattle.paper.specs.Numbers.{allBelow};
-ghost use Rattle.paper.specs.Store.{mostScenes, heights, keptOf, headerOk, placeOk, listUsable, listBlank, storeOk};
+ghost use Rattle.paper.specs.Store.{mostScenes, heights, keptCount, keptOf, badPointer, anyBad, overChildren, countOf, headerOk, placeOk, listUsable, countsOk, listBlank, storeOk};
+ghost use Rattle.store_whole.specs.Counts.{shareOf, Bounded, Countable};
 use store::CELL_STRIDE;
 use store::HEIGHTS;
 use store::LEAF_STRIDE;
@@ -12,6 +13,7 @@ use store::MOST_SCENES;
 use store::capacity;
 use store::cell_at;
 use store::cell_position;
+use store::count_at;
 use store::header_bad;
 use store::kept_count;
 use store::leaf_at;
@@ -21,6 +23,7 @@ use store::scene_bad;
 use store::scene_depth;
 use store::scene_root;
 use store_pointers::cell_bad;
+use store_pointers::cell_number;
 
 // Whether place n is damaged: a place that holds no scene is not two zeros, or the scene held is bad.
 fn place_bad(store: &[u32], n: u32) -> bool
@@ -129,7 +132,67 @@ fn lists_not_blank(store: &[u32]) -> bool
     false
 }
 
-// Whether the store is damaged anywhere: header, scenes, cells, unused words.
+// How many solid voxels a pointer of list k stands for, as the words say.
+fn pointer_count(store: &[u32], k: u32, p: u32) -> u64
+    requires { ⌜ T (headerOk (now store)) ⌝ }
+    requires { ⌜ (k < heights) × (badPointer (keptCount (now store) k) p ≡ false) ⌝ }
+    ensures { λ r. ⌜ r ≡ shareOf (now (store .entry)) k p ⌝ }
+{
+    if p == 0 {
+        return 0;
+    }
+    count_at(store, k, cell_number(p))
+}
+
+// How many the children of a cell, of list k, have.
+fn children_count(store: &[u32], k: u32, cell: [u32; 8]) -> u64
+    requires { ⌜ T (headerOk (now store)) ⌝ }
+    requires { ⌜ (k < heights) × (anyBad (keptCount (now store) k) cell ≡ false) ⌝ }
+    requires { ⌜ Bounded (now store) k ⌝ }
+    ensures { λ r. ⌜ r ≡ overChildren (countOf (now (store .entry)) k) cell ⌝ }
+{
+    let mut sum = 0u64;
+    let mut i = 0usize;
+    while i < 8 {
+        sum += pointer_count(store, k, cell[i]);
+        i += 1;
+    }
+    sum
+}
+
+// Whether a count of list k, k not 0, isn't the sum of its children's.
+fn list_miscounted(store: &[u32], k: u32) -> bool
+    requires { ⌜ T (headerOk (now store)) ⌝ }
+    requires { ⌜ Countable (now store) k ⌝ }
+    ensures { λ r. ⌜ r ≡ not (countsOk (now (store .entry)) k) ⌝ }
+{
+    let mut n = kept_count(store, k);
+    while n != 0 {
+        n -= 1;
+        if count_at(store, k, n) != children_count(store, k - 1, cell_at(store, k, n)) {
+            return true;
+        }
+    }
+    false
+}
+
+// Whether a count is wrong: from the leaves up, so that no sum passes the voxels of a cell.
+fn miscounted(store: &[u32]) -> bool
+    requires { ⌜ T (headerOk (now store)) ⌝ }
+    requires { ⌜ T (allBelow heights (listUsable (keptOf (now store)))) ⌝ }
+    ensures { λ r. ⌜ r ≡ not (allBelow heights (countsOk (now (store .entry)))) ⌝ }
+{
+    let mut k = 1u32;
+    while k < HEIGHTS {
+        if list_miscounted(store, k) {
+            return true;
+        }
+        k += 1;
+    }
+    false
+}
+
+// Whether the store is damaged anywhere: header, scenes, cells, unused words, counts.
 pub fn store_bad(store: &[u32]) -> bool
     ensures { λ r. ⌜ r ≡ not (storeOk (now (store .entry))) ⌝ }
 {
@@ -142,5 +205,8 @@ pub fn store_bad(store: &[u32]) -> bool
     if lists_bad(store) {
         return true;
     }
-    lists_not_blank(store)
+    if lists_not_blank(store) {
+        return true;
+    }
+    miscounted(store)
 }

@@ -112,6 +112,12 @@ impl Compare {
             if self.random.once_in(8) {
                 stores::empty_a_cell(&mut self.random, &mut words);
             }
+            if self.random.once_in(4) {
+                stores::wrong_count(&mut self.random, &mut words);
+            }
+            if self.random.once_in(30) {
+                stores::wrapping_counts(&mut self.random, &mut words);
+            }
             if self.random.once_in(8) {
                 stores::header_end(&mut self.random, &mut words);
             }
@@ -167,6 +173,7 @@ impl Compare {
             self.box_count(&store, n, [0; 3], [edge; 3]);
             self.box_count(&store, n, [0, edge / 2, 0], [edge / 2, edge, edge / 2]);
             self.box_count(&store, n, [edge - 1; 3], [edge; 3]);
+            self.box_count(&store, n, [0, edge / 4, 0], [edge, edge / 2, 3 * (edge / 4)]);
             self.box_count(&store, n, [5, 0, 9], [6, 3, 100]);
             for _ in 0..4 {
                 let at = self.random.point(depth);
@@ -299,6 +306,29 @@ impl Compare {
         }
     }
 
+    /// Boxes in rooms with a wrong count or two, and bad pointers below counts: the answer shows which counts are taken.
+    fn counts(&mut self) {
+        let mut store = self.fresh(60);
+        for _ in 0..3 {
+            let file = room(&mut self.random, 25).outline();
+            self.add(&mut store, &file);
+        }
+        for _ in 0..10 {
+            let mut words = store.slice().to_vec();
+            for _ in 0..self.random.below(4) {
+                stores::wrong_count(&mut self.random, &mut words);
+            }
+            if self.random.once_in(2) {
+                stores::bad_pointer(&mut self.random, &mut words);
+            }
+            let one = self.lend_words(&words);
+            for _ in 0..12 {
+                self.ask_box(&one);
+            }
+            self.ask_outline(&one);
+        }
+    }
+
     /// Deep rooms with little in them: lines from end to end, and long ones through something solid.
     fn long_lines(&mut self) {
         let mut store = self.fresh(60);
@@ -357,7 +387,7 @@ impl Compare {
                 _ => stores::used(capacity) + self.random.below(3),
             };
             let asked = match self.random.below(6) {
-                0 => self.random.pick(&[0, 65_536, 65_537, 1 << 31, u32::MAX, 37_675_152, 1 << 26]),
+                0 => self.random.pick(&[0, 65_536, 65_537, 1 << 31, u32::MAX, 30_246_249, 1 << 26]),
                 _ => capacity as u32,
             };
             let mut store = self.noise_words(length);
@@ -401,11 +431,13 @@ impl Compare {
             _ if episode % 300 == 1 => self.far(),
             _ if episode % 300 == 2 => self.long_lines(),
             _ => match self.random.below(40) {
-                0..=9 => self.rooms(),
+                0..=8 => self.rooms(),
+                9 => self.counts(),
                 10..=11 => self.many(),
                 12..=14 => self.outlines(),
                 15..=20 => self.damaged_stores(),
-                21..=24 => self.by_hand(),
+                21..=23 => self.by_hand(),
+                24 => self.counts(),
                 25 => self.lines(),
                 26 => self.full(),
                 27..=28 => self.noise(),

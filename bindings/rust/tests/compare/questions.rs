@@ -9,7 +9,7 @@ use crate::Compare;
 /// Lines are so long on an axis, but for a few: the twin tests every voxel.
 const LONGEST: u32 = 300;
 
-/// Boxes that walk more cells than this are left out: they cost time and show nothing else.
+/// Of scenes with more cells than this, boxes other than small ones and whole cells are left out: they cost time and show nothing else.
 const MOST_CELLS: u64 = 6_000;
 
 impl Compare {
@@ -106,7 +106,7 @@ impl Compare {
         let heavy = stores::weight(store.slice(), depth as usize, root, MOST_CELLS) >= MOST_CELLS;
         let any = |random: &mut Random| random.below(edge as usize + 1) as u32;
         let (mut low, mut high) = ([0; 3], [edge; 3]);
-        match self.random.below(if heavy { 2 } else { 10 }) {
+        match self.random.below(if heavy { 4 } else { 14 }) {
             // about a voxel
             0 | 1 => {
                 let at = self.some_voxel(store, scene);
@@ -116,8 +116,24 @@ impl Compare {
                 }
             }
             2 => {}
+            // a cell; where that costs little, with faces a voxel off
+            3..=6 => {
+                let height = self.random.below(depth as usize + 1) as u32;
+                let at = self.some_voxel(store, scene).map(|c| c.min(edge - 1) >> height << height);
+                let off = if heavy { 0 } else { self.random.below(3) };
+                for axis in 0..3 {
+                    (low[axis], high[axis]) = (at[axis], at[axis] + (1 << height));
+                    if off > 0 && self.random.once_in(3) {
+                        low[axis] = self.random.pick(&[low[axis] + 1, low[axis].saturating_sub(1)]);
+                    }
+                    if off > 0 && self.random.once_in(3) {
+                        high[axis] = self.random.pick(&[high[axis] - 1, (high[axis] + 1).min(edge)]);
+                    }
+                    high[axis] = high[axis].max(low[axis]);
+                }
+            }
             // with a voxel in it
-            3..=5 => {
+            7..=9 => {
                 let at = self.some_voxel(store, scene);
                 for axis in 0..3 {
                     let at = at[axis].min(edge - 1);
@@ -126,7 +142,7 @@ impl Compare {
                 }
             }
             // aligned to cells
-            6 => {
+            10 => {
                 let height = self.random.below(depth as usize + 1) as u32;
                 for axis in 0..3 {
                     let (a, b) = (any(&mut self.random) >> height << height, any(&mut self.random) >> height << height);

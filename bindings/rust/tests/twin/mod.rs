@@ -1,10 +1,10 @@
 //! Document 01 written once more, in plain Rust, slow and clear: its thirteen calls on slices, with what document 02 adds to them
-//! (its request 2: the height of the empty cell; its request 3: sight lines). It shares no code with the proved store; the tests
-//! compare the two.
+//! (its request 2: the height of the empty cell; its request 3: sight lines; its request 1: the solid count kept with each inner
+//! cell). It shares no code with the proved store; the tests compare the two.
 //!
 //! A call answers its values, or a refusal: its number and which clause of document 01 it was. Lent memory is changed as the
-//! page says. Where the page's words would take for ever (does a cell match itself, how many voxels has a whole cell), what was
-//! found once is remembered; nothing else is done for speed.
+//! page says. Where the page's words would take for ever (does a cell match itself), what was found once is remembered; nothing
+//! else is done for speed.
 
 use std::collections::{HashMap, HashSet};
 
@@ -92,7 +92,7 @@ fn corner(half: u64, i: usize) -> Point {
 // ---- the store
 
 fn used(c: u64) -> u64 {
-    160 + 114 * c
+    160 + 142 * c
 }
 
 fn tag(p: u32) -> u32 {
@@ -124,7 +124,7 @@ fn place(w: &Words, h: usize, n: usize) -> usize {
     if h == 2 {
         160 + 2 * n
     } else {
-        160 + 2 * c + 8 * c * (h - 3) + 8 * n
+        160 + 2 * c + 10 * ((h - 3) * c + n)
     }
 }
 
@@ -138,6 +138,26 @@ fn cell_at(w: &Words, h: usize, n: usize) -> [u32; 8] {
     let mut c = [0; 8];
     c.copy_from_slice(&w[at..at + 8]);
     c
+}
+
+/// The solid count kept with a cell of height 3 and up: two words behind its eight pointers, high first.
+fn count_at(w: &Words, h: usize, n: usize) -> u64 {
+    let at = place(w, h, n) + 8;
+    (w[at] as u64) << 32 | w[at + 1] as u64
+}
+
+/// What a child of height h gives to its parent's count: a leaf its ones, any other its own count, none nothing.
+fn share(w: &Words, h: usize, p: u32) -> u64 {
+    match (p, h) {
+        (0, _) => 0,
+        (_, 2) => leaf_at(w, number(p)).count_ones() as u64,
+        _ => count_at(w, h, number(p)),
+    }
+}
+
+/// The sum of eight children's shares, as a whole number.
+fn shares(w: &Words, h: usize, cell: [u32; 8]) -> u128 {
+    cell.iter().map(|&p| share(w, h - 1, p) as u128).sum()
 }
 
 /// A pointer that claims to name a cell of the height pointed to and does not.
@@ -158,7 +178,7 @@ fn scene_ok(w: &Words, n: usize) -> bool {
     depth_ok(d) && !bad(w, d as usize, p)
 }
 
-/// The whole store's test of add, outline and pack: header, scenes, every used cell, and nothing in unused words.
+/// The whole store's test of add, outline and pack: header, scenes, every used cell with its count, and nothing in unused words.
 fn whole_store(w: &Words) -> Answer<()> {
     need(header_ok(w), 2, "header")?;
     let c = w[0] as usize;
@@ -174,6 +194,7 @@ fn whole_store(w: &Words) -> Answer<()> {
                 let cell = cell_at(w, h, n);
                 need(!zero(&cell), 2, "empty cell")?;
                 need(!cell.iter().any(|&p| bad(w, h - 1, p)), 2, "pointer")?;
+                need(count_at(w, h, n) as u128 == shares(w, h, cell), 2, "count")?;
             }
         }
         need(zero(&w[place(w, h, count)..place(w, h, c)]), 2, "unused words")?;
@@ -317,29 +338,23 @@ pub fn cell(w: &Words, n: u32, h: u32, x: u32, y: u32, z: u32) -> Answer<u32> {
     cell_under(w, d, p, h, v.map(|c| c << h))
 }
 
-type Counts = HashMap<(usize, usize), Answer<u64>>;
-
-fn box_under(w: &Words, h: usize, p: u32, low: Point, high: Point, whole: &mut Counts) -> Answer<u64> {
+fn box_under(w: &Words, h: usize, p: u32, low: Point, high: Point) -> Answer<u64> {
     if p == 0 || (0..3).any(|a| low[a] >= high[a]) {
         return Ok(0);
     }
     let edge = 1u64 << h;
     let n = number(p);
-    let all = low == [0; 3] && high == [edge; 3];
-    if all {
-        if let Some(known) = whole.get(&(h, n)) {
-            return *known;
-        }
+    if h >= 3 && low == [0; 3] && high == [edge; 3] {
+        // wholly inside: its count is taken, the cell not entered
+        let count = count_at(w, h, n);
+        need(count <= 8u64.pow(h as u32), 2, "count taken")?;
+        return Ok(count);
     }
     let (low, high) = mirror_box(tag(p), edge, low, high);
-    let sum = box_in(w, h, n, low, high, whole);
-    if all {
-        whole.insert((h, n), sum);
-    }
-    sum
+    box_in(w, h, n, low, high)
 }
 
-fn box_in(w: &Words, h: usize, n: usize, low: Point, high: Point, whole: &mut Counts) -> Answer<u64> {
+fn box_in(w: &Words, h: usize, n: usize, low: Point, high: Point) -> Answer<u64> {
     if h == 2 {
         let leaf = leaf_at(w, n);
         let mut sum = 0;
@@ -366,7 +381,7 @@ fn box_in(w: &Words, h: usize, n: usize, low: Point, high: Point, whole: &mut Co
     need(!parts.iter().any(|&(p, _, _)| bad(w, h - 1, p)), 2, "walk")?;
     let mut sum = 0;
     for (p, l, g) in parts {
-        sum += box_under(w, h - 1, p, l, g, whole)?;
+        sum += box_under(w, h - 1, p, l, g)?;
     }
     Ok(sum)
 }
@@ -376,7 +391,7 @@ pub fn box_count(w: &Words, n: u32, low: [u32; 3], high: [u32; 3]) -> Answer<u64
     let (d, p) = asked(w, n)?;
     need((0..3).all(|a| low[a] <= high[a]), 10, "low above high")?;
     need((0..3).all(|a| high[a] as u64 <= 1 << d), 10, "box")?;
-    box_under(w, d, p, low.map(u64::from), high.map(u64::from), &mut HashMap::new())
+    box_under(w, d, p, low.map(u64::from), high.map(u64::from))
 }
 
 /// Kept: 2 (header), 10.
@@ -502,7 +517,11 @@ fn add_tree(w: &mut Words, h: usize, tree: &Tree, known: &mut Selves) -> Answer<
             }
             let n = room(w, h)?;
             let at = place(w, h, n);
+            // the store was tested whole, so no count is over 8^h
+            let count = shares(w, h, cell) as u64;
             w[at..at + 8].copy_from_slice(&cell);
+            w[at + 8] = (count >> 32) as u32;
+            w[at + 9] = count as u32;
             w[h] += 1;
             Ok(pointer(0, n))
         }

@@ -104,7 +104,7 @@ hold-scene-requires : tie.Need-hold-scene-requires
 hold-scene-requires c κs =
     let w = root c in
     let r = taken w in
-    hold-ready (ws r) (file r) (lent r) _ _ _ (vs r) (came-to r _ (w .root .given .1))
+    hold-ready (ws r) (file r) (lent r) _ _ _ _ (vs r) (came-to r _ (w .root .given .1))
 
 returns-2 : tie.Need-returns-2
 returns-2 c =
@@ -114,7 +114,7 @@ returns-2 c =
     let r = taken w in
     ap₂ (λ (n : ℕ) (l : List ℕ). outcome (added (Scene n)) (l ∷ [])) (holding (counting r) .scenes-held .ensures)
     (h .hold-scene .ensures ∙ ap (λ (D : ℕ). holdIn (D ∷ w .root .given .0 .1 .0 ∷ []) (vs r)) (d .depth .ensures))
-    ∙ taken-outcome (ws r) (file r) (lent r) _ _ _ (vs r) (came-to r _ (w .root .given .1))
+    ∙ taken-outcome (ws r) (file r) (lent r) _ _ _ _ (vs r) (came-to r _ (w .root .given .1))
 
 pub take-scene-spec : {M : Type 1} → statement M
 take-scene-spec =

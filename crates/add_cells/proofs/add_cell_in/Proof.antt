@@ -9,14 +9,14 @@ use Rattle.add_cells.proofs.add_cell_in.Tie as tie
 returns : tie.Need-returns
 returns c =
     let f = c .before .before .before in
-    sym (found-at _ _ _ _ _ _ (ap sought (c .before .p .given .1))) ∙ cell-by _ _ _ _ _ _ (f .find-cell .ensures) (f .before .before .cell-symmetry .ensures)
+    sym (found-at _ _ _ _ _ _ (ap sought (c .before .p .given .1))) ∙ cell-by _ _ _ _ _ _ _ (f .find-cell .ensures) (f .before .before .cell-symmetry .ensures)
 
 returns-2 : tie.Need-returns-2
 returns-2 c =
     let p = c .before .before in
     let e = p .before .before in
     let f = e .before .before in
-    p .keep-cell-in .ensures ∙ sym (found-nowhere _ _ _ _ _ (ap sought (e .enum-told .given .1))) ∙ cell-by _ _ _ _ _ _ (f .find-cell .ensures) (f .before .before .cell-symmetry .ensures)
+    p .keep-cell-in .ensures ∙ sym (found-nowhere _ _ _ _ _ (ap sought (e .enum-told .given .1))) ∙ cell-by _ _ _ _ _ _ _ (f .find-cell .ensures) (f .before .before .cell-symmetry .ensures)
 
 pub add-cell-in-spec : {M : Type 1} → statement M
 add-cell-in-spec =

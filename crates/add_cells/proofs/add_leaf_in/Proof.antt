@@ -20,7 +20,7 @@ returns-2 c =
     let e = w .before .before in
     let f = e .before .before in
     let a = f .before .before .before .before .args in
-    p .keep-leaf-in .ensures ∙ ap (λ (l : Cell). keptWith (f .before .before .leaf-symmetry .result) 0 l (a .store .now)) (w .leaf-words .ensures)
+    p .keep-leaf-in .ensures ∙ ap (λ (l : Cell). keptWith (f .before .before .leaf-symmetry .result) 0 l (a .store .now)) (w .two-words .ensures)
     ∙ sym (found-nowhere _ _ _ _ _ (ap sought (e .enum-told .given .1))) ∙ leaf-by _ _ _ _ (f .find-leaf .ensures) (f .before .before .leaf-symmetry .ensures)
 
 pub add-leaf-in-spec : {M : Type 1} → statement M

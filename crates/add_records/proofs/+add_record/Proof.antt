@@ -1,30 +1,32 @@
 -- `add_record`, which calls itself one height down, meets its contract: a leaf's record, or its children's in turn and the cell. The invariant: taking
 -- the children that are left, from here, comes to what the record does. Each way is a clause of taking by position. The height falls at every call.
 -- Assumes nothing.
-use mathlib.Core.Path.{_≡_, refl, sym, ap, subst, _∙_}
+use mathlib.Core.Path.{_≡_, refl, sym, ap, ap₂, subst, _∙_}
 use mathlib.Core.List.{List}
-use Prim.Native.Nat.{ℕ, _+_, _-_, _/_, _<_, _≤_}
+use Prim.Native.Nat.{ℕ, _+_, _-_, _*_, _/_, _^_, _<_, _≤_}
 use native.Mathlib.Omega.{arith}
 use lib.Dec.{T}
 use lib.ListN.{length, getD}
 use borrow.Author.Needs.{needs}
 use borrow.Fn.Kinds.{In, Out}
 use borrow.Fn.PlainCycle.{Measures, is, falls, and}
-use Rattle.paper.specs.Store.{headerOk}
+use Rattle.paper.specs.Store.{leafSolid, headerOk}
 use Rattle.outline.specs.Positions.{childrenAt, recordAt}
-use Rattle.add_cells.specs.CellAdding.{addLeafIn}
+use Rattle.add_cells.specs.CellAdding.{CellAdding, addLeafIn}
 use Rattle.add_records.specs.declared.RecordAdded.{RecordAdded}
 use Rattle.add_records.specs.declared.RecordAdded.the-variants.{At}
 use Rattle.add_records.specs.RecordAdding.{recordAdding, endingAt, addChildren, addRecord, Whole}
 use Rattle.add_records.proofs.Ways.{children-none, children-skip, children-full, children-next, record-leaf, record-inner}
 use Rattle.add_records.proofs.Wholes.{whole-leaf, whole-inner, whole-skip, whole-here, whole-next, record-ended}
 use Rattle.add_records.proofs.Lasting.{RecordAdded-header, record-header}
+use Rattle.add_records.proofs.CubeBound.{child-most}
 use Rattle.add_records.proofs.add_record.Reads as add-record
 use Rattle.add_records.proofs.add_record.Kinds as kinds
 use Rattle.add_records.proofs.+add_record.Lts-add_record as lts
 use Rattle.add_cells.proofs.add_cell_in.Reads as add-cell-in-reads
 use Rattle.add_cells.proofs.add_leaf_in.Reads as add-leaf-in-reads
 use Rattle.add_records.proofs.ending_at.Reads as ending-at-reads
+use Rattle.leaf.proofs.leaf_solid.Reads as leaf-solid-reads
 use Rattle.numbers.proofs.be64.Reads as be64-reads
 use Rattle.add_records.proofs.+add_record.{statement}
 use Rattle.add_records.proofs.+add_record.Tie.{close}
@@ -38,18 +40,20 @@ record-at t = and 2 kinds.ps (is 2 kinds.ps μ-record t) add-record.Pre
 abbrev record-below : ℕ → In 2 kinds.ps
 record-below t = and 2 kinds.ps (falls 2 kinds.ps _<_ μ-record t) add-record.Pre
 
--- before child i: the children left are whole, the header is in order, and taking them comes to the record
-record Turn (file ws₀ : List ℕ) (at height : ℕ) (ws cell symmetries : List ℕ) (mask next i : ℕ) : Type 0 where
+-- before child i: the children left are whole, the header is in order, those before it have at most a cube of solid voxels each, and taking the rest comes
+-- to the record
+record Turn (file ws₀ : List ℕ) (at height : ℕ) (ws cell symmetries : List ℕ) (mask next solid i : ℕ) : Type 0 where
   whole : Whole (childrenAt (recordAt file (height - 1 - 2)) (8 - i) mask next)
   header : T (headerOk ws)
   same-length : length ws ≡ length ws₀
-  rest : addChildren (addRecord file (height - 1 - 2)) (height - 2) (8 - i) mask next cell symmetries ws ≡ addRecord file (height - 2) at ws₀
+  few : solid ≤ i * 8 ^ 15
+  rest : addChildren (addRecord file (height - 1 - 2)) (height - 2) (8 - i) mask next cell symmetries solid ws ≡ addRecord file (height - 2) at ws₀
 
 abbrev Inv-loop : lts.InvT-loop
-Inv-loop file store₀ at height cell₀ symmetries₀ mask₀ next₀ i₀ store cell symmetries mask next i = Turn file store₀ at height store cell symmetries mask next i
+Inv-loop file store₀ at height cell₀ symmetries₀ mask₀ next₀ solid₀ i₀ store cell symmetries mask next solid i = Turn file store₀ at height store cell symmetries mask next solid i
 
 abbrev μ-loop : lts.MeasureT-loop
-μ-loop file store₀ at height cell₀ symmetries₀ mask₀ next₀ i₀ store cell symmetries mask next i = 8 - i
+μ-loop file store₀ at height cell₀ symmetries₀ mask₀ next₀ solid₀ i₀ store cell symmetries mask next solid i = 8 - i
 
 module _ (t : ℕ) where
   -- what the calls ask and give
@@ -57,6 +61,8 @@ module _ (t : ℕ) where
   known = (
     be64-reads.Asked,
     be64-reads.Learnt,
+    leaf-solid-reads.Asked,
+    leaf-solid-reads.Learnt,
     add-leaf-in-reads.Asked,
     add-leaf-in-reads.Learnt,
     ending-at-reads.Asked,
@@ -107,10 +113,13 @@ module _ (t : ℕ) where
   leaf-taken : Of lts.Need-returns
   leaf-taken c =
       let k = c .before .before .before in
-      let b = k .before in
-      let e = b .before .before in
+      let l = k .before .before in
+      let b = l .before in
+      let e = b .before in
       let a = begun (e .before) .args in
-      c .ending-at .ensures (k .add-leaf-in .last .0) ∙ ap (endingAt (a .at + 8)) (k .add-leaf-in .ensures ∙ ap (λ (n : ℕ). addLeafIn n (a .store .now)) (b .be64 .ensures))
+      c .ending-at .ensures (k .add-leaf-in .last .0)
+      ∙ ap₂ (λ (n : ℕ) (x : CellAdding). endingAt (a .at + 8) n x) (l .leaf-solid .ensures ∙ ap leafSolid (b .be64 .ensures))
+      (k .add-leaf-in .ensures ∙ ap (λ (n : ℕ). addLeafIn n (a .store .now)) (b .be64 .ensures))
       ∙ sym (record-leaf _ _ _ _ (e .if1 .taken))
 
   -- ---- a cell's record: its mask is there, and its children are whole
@@ -122,7 +131,7 @@ module _ (t : ℕ) where
   loop-holds : Of lts.Need-loop-holds
   loop-holds c =
       let e = c .before in
-      record { whole = mask-there e .1; header = begun (e .before) .pre .1 .header; same-length = refl; rest = sym (record-inner _ _ _ _ (omega arith)) }
+      record { whole = mask-there e .1; header = begun (e .before) .pre .1 .header; same-length = refl; few = omega arith; rest = sym (record-inner _ _ _ _ (omega arith)) }
 
   -- ---- a child that is not called for
 
@@ -134,7 +143,8 @@ module _ (t : ℕ) where
         whole = whole-skip _ _ _ _ (r .loop-test .taken) (l .inv .whole) (c .if2 .taken);
         header = l .inv .header;
         same-length = l .inv .same-length;
-        rest = sym (children-skip _ _ _ _ _ _ _ _ (r .loop-test .taken) (c .if2 .taken)) ∙ l .inv .rest;
+        few = omega (arith, l .inv .few);
+        rest = sym (children-skip _ _ _ _ _ _ _ _ _ (r .loop-test .taken) (c .if2 .taken)) ∙ l .inv .rest;
       }
 
   -- ---- a child's record
@@ -151,7 +161,7 @@ module _ (t : ℕ) where
   full c =
       let r = refused c in
       let e = called r in
-      sym (children-full _ _ _ _ _ _ _ _ (e .before .loop-test .taken) (e .if2 .left) _
+      sym (children-full _ _ _ _ _ _ _ _ _ (e .before .loop-test .taken) (e .if2 .left) _
       (sym (r .add-record .ensures) ∙ ap (λ (x : RecordAdded). recordAdding x (r .add-record .last .1 .0)) (c .enum-told .given .1)))
       ∙ turn r .loop .inv .rest
 
@@ -160,7 +170,7 @@ module _ (t : ℕ) where
   words r = r .add-record .last .1 .0
 
   told : (c : Of lts.After-known-told) → (let l = turn (taken c) in let a = start l .args in let g = c .before .end .given .0 in
-      addRecord (a .file .now) (a .height - 1 - 2) (l .loop .next) (l .loop .store) ≡ recordAdding (At (g .0) (g .1 .0) (g .1 .1 .0)) (words (taken c)))
+      addRecord (a .file .now) (a .height - 1 - 2) (l .loop .next) (l .loop .store) ≡ recordAdding (At (g .0) (g .1 .0) (g .1 .1 .0) (g .1 .1 .1 .0)) (words (taken c)))
   told c = sym (taken c .add-record .ensures) ∙ ap (λ (r : RecordAdded). recordAdding r (words (taken c))) (c .before .end .given .1)
 
   next-header : (c : Of lts.After-known-told) → T (headerOk (words (taken c)))
@@ -176,7 +186,17 @@ module _ (t : ℕ) where
       let l = turn (taken c) in
       let a = start l .args in
       whole-next _ _ _ _ (e .before .loop-test .taken) (l .loop .inv .whole) (e .if2 .left) _
-      (record-ended (a .file .now) (a .height - 1 - 2) (l .loop .next) (l .loop .store) (words (taken c)) _ _ _ (here e) (told c))
+      (record-ended (a .file .now) (a .height - 1 - 2) (l .loop .next) (l .loop .store) (words (taken c)) _ _ _ _ (here e) (told c))
+
+  -- how many solid voxels it has
+  next-few : (c : Of lts.After-known-told) → c .before .end .given .0 .1 .1 .1 .0 ≤ 8 ^ 15
+  next-few c =
+      let l = turn (taken c) in
+      let a = start l .args in
+      child-most (a .file .now) (a .height - 1 - 2) (l .loop .next) (l .loop .store) (words (taken c)) _ _ _ _ (omega (arith, start l .pre .1 .high)) (told c)
+
+  solid-fits : Of lts.Need-add-solid
+  solid-fits c = omega (arith, next-few c, turn (taken c) .loop .inv .few, called (taken c) .before .loop-test .taken)
 
   next : Of lts.Need-loop-again-2
   next c =
@@ -186,7 +206,8 @@ module _ (t : ℕ) where
         whole = next-whole c;
         header = next-header c;
         same-length = taken c .add-record .kept .1 .0 ∙ l .inv .same-length;
-        rest = sym (children-next _ _ _ _ _ _ _ _ (e .before .loop-test .taken) (e .if2 .left) _ _ _ _ (told c)) ∙ l .inv .rest;
+        few = omega (arith, next-few c, l .inv .few);
+        rest = sym (children-next _ _ _ _ _ _ _ _ _ (e .before .loop-test .taken) (e .if2 .left) _ _ _ _ _ (told c)) ∙ l .inv .rest;
       }
 
   -- ---- all children are taken
@@ -199,7 +220,7 @@ module _ (t : ℕ) where
       let k = sought c in
       let e = last k in
       let l = e .before .loop in
-      c .ending-at2 .ensures (k .add-cell-in .last .0) ∙ ap (endingAt (l .next)) (k .add-cell-in .ensures) ∙ sym (children-none _ _ _ _ _ _ _ _ (e .loop-test .left)) ∙ l .inv .rest
+      c .ending-at2 .ensures (k .add-cell-in .last .0) ∙ ap (endingAt (l .next) (l .solid)) (k .add-cell-in .ensures) ∙ sym (children-none _ _ _ _ _ _ _ _ _ (e .loop-test .left)) ∙ l .inv .rest
 
   -- ---- the store keeps its length
 
@@ -213,8 +234,9 @@ pub +add-record-spec : {M : Type 1} → statement M
 +add-record-spec =
     close μ-record
     (λ t. lts.spec (known t) (record-at t) add-record.Post Inv-loop μ-loop
-    (λ c. omega (arith, leaf-there t c))
-    (λ c κs. leaf-there t (c .before))
+    (λ c κs. leaf-there t c)
+    (λ c. omega (arith, leaf-there t (c .before)))
+    (λ c κs. search needs)
     (λ c κs. search needs)
     (λ c κs. search needs)
     (λ c. search needs)
@@ -235,6 +257,7 @@ pub +add-record-spec : {M : Type 1} → statement M
     (λ c. search needs)
     (λ c. search needs)
     (λ c. search needs)
+    (solid-fits t)
     (λ c. search needs)
     (next t)
     (λ c. search needs)

@@ -5,11 +5,10 @@ use Prim.Native.Nat.{ℕ, suc, _+_, _^_, _<_, _≤_}
 use native.Mathlib.Omega.{arith}
 use lib.Pow.{pow-mono, pow-pos}
 use borrow.Author.Needs.{needs}
-use Rattle.paper.specs.Rooms.{inChild}
+use Rattle.paper.specs.Rooms.{inChild, isWhole}
 use Rattle.paper.specs.Outline.{edge}
 use Rattle.points.specs.Points.{at}
 use Rattle.boxes_parts.specs.Parts.{pastIn}
-use Rattle.boxes_parts.specs.Parts.{isWhole}
 use Rattle.boxes_parts.proofs.is_whole.Statement.{statement}
 use Rattle.boxes_parts.proofs.is_whole.Tie as tie
 

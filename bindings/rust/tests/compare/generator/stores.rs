@@ -3,13 +3,13 @@
 use super::Random;
 
 pub fn used(capacity: usize) -> usize {
-    160 + 114 * capacity
+    160 + 142 * capacity
 }
 
 fn place(capacity: usize, height: usize, n: usize) -> usize {
     match height {
         2 => 160 + 2 * n,
-        _ => 160 + 2 * capacity + 8 * capacity * (height - 3) + 8 * n,
+        _ => 160 + 2 * capacity + 10 * ((height - 3) * capacity + n),
     }
 }
 
@@ -21,7 +21,89 @@ fn pointer(random: &mut Random, count: u32) -> u32 {
     }
 }
 
-/// A store with cells, tags and scenes as they come: undamaged, but for what chance leaves empty.
+fn count(w: &[u32], at: usize) -> u64 {
+    (w[at + 8] as u64) << 32 | w[at + 9] as u64
+}
+
+fn put_count(w: &mut [u32], at: usize, count: u64) {
+    w[at + 8] = (count >> 32) as u32;
+    w[at + 9] = count as u32;
+}
+
+/// What a pointer gives to its parent's count, by the words of the cell that it names: a leaf's ones, or its own count; nothing where it
+/// is bad.
+fn share(w: &[u32], height: usize, p: u32) -> u64 {
+    match cell(w, height, p) {
+        Some(&[high, low]) => (high.count_ones() + low.count_ones()) as u64,
+        Some(_) => count(w, place(w[0] as usize, height, (p & 0x1fff_ffff) as usize - 1)),
+        None => 0,
+    }
+}
+
+/// The counts of all kept cells from a height up made the sums of their children's, where those don't pass 64 bits.
+pub fn sum_counts(w: &mut [u32], from: usize) {
+    let capacity = w[0] as usize;
+    for h in from.max(3)..=16 {
+        for n in 0..(w[h] as usize).min(capacity) {
+            let at = place(capacity, h, n);
+            let sum = (0..8).fold(0u64, |sum, i| sum.wrapping_add(share(w, h - 1, w[at + i])));
+            put_count(w, at, sum);
+        }
+    }
+}
+
+/// The words of a kept inner cell, most often of a low one: its height, and where they are.
+fn inner(random: &mut Random, w: &[u32]) -> Option<(usize, usize)> {
+    let heights: Vec<usize> = (3..=16).filter(|&h| w[h] > 0).collect();
+    if heights.is_empty() {
+        return None;
+    }
+    let height = heights[random.below(heights.len()).min(random.below(heights.len()))];
+    Some((height, place(w[0] as usize, height, random.below(w[height] as usize))))
+}
+
+/// The count of a kept cell made wrong: a little off, at 8^h or over it, its words exchanged, its high word alone; and sometimes the cells
+/// above it summed up anew, so that it is the only wrong one.
+pub fn wrong_count(random: &mut Random, w: &mut [u32]) {
+    let Some((height, at)) = inner(random, w) else { return };
+    let (now, most) = (count(w, at), 1u64 << (3 * height));
+    let wrong = match random.below(16) {
+        0..=2 => now.wrapping_add(1),
+        3..=4 => now.wrapping_sub(1),
+        5 => 0,
+        6..=7 => most,
+        8 => most - 1,
+        9..=10 => most + 1,
+        11 => now.rotate_left(32),
+        12 => now.wrapping_add(1 << 32),
+        13 => now ^ 1 << random.below(64),
+        14 => random.pick(&[u64::MAX, 1 << 63, 1 << 48, (1 << 48) + 1, u32::MAX as u64, 1 << 32]),
+        _ => random.below(most as usize + 1) as u64,
+    };
+    put_count(w, at, wrong);
+    if random.once_in(3) {
+        sum_counts(w, height + 1);
+    }
+}
+
+/// Counts whose sum is right modulo 2^64 only: children of one cell that together pass it.
+pub fn wrapping_counts(random: &mut Random, w: &mut [u32]) {
+    let Some((height, at)) = inner(random, w) else { return };
+    if height == 3 {
+        return;
+    }
+    let capacity = w[0] as usize;
+    for i in 0..8 {
+        if let Some(n) = (w[at + i] & 0x1fff_ffff).checked_sub(1) {
+            if n < w[height - 1] {
+                put_count(w, place(capacity, height - 1, n as usize), random.pick(&[1 << 63, 1 << 62, u64::MAX, 3 << 62, 1 << 61]));
+            }
+        }
+    }
+    sum_counts(w, height);
+}
+
+/// A store with cells, tags and scenes as they come: undamaged, but for what chance leaves empty, and with true counts most of the time.
 pub fn by_hand(random: &mut Random, capacity: usize, spare: usize) -> Vec<u32> {
     let mut w = vec![0; used(capacity)];
     w[0] = capacity as u32;
@@ -51,6 +133,13 @@ pub fn by_hand(random: &mut Random, capacity: usize, spare: usize) -> Vec<u32> {
             }
         }
     }
+    sum_counts(&mut w, 3);
+    if random.once_in(5) {
+        wrong_count(random, &mut w);
+    }
+    if random.once_in(40) {
+        wrapping_counts(random, &mut w);
+    }
     let held = if random.once_in(10) { random.from_to(0, 64) } else { random.from_to(1, 6) };
     w[1] = held as u32;
     for n in 0..held {
@@ -63,7 +152,7 @@ pub fn by_hand(random: &mut Random, capacity: usize, spare: usize) -> Vec<u32> {
     w
 }
 
-/// A full room of depth 16 under each of a few mirrors, one cell a height.
+/// A full room of depth 16 under each of a few mirrors, one cell a height, its counts the greatest that there are.
 pub fn full_by_hand(random: &mut Random) -> Vec<u32> {
     let mut w = vec![0; used(1)];
     w[0] = 1;
@@ -80,6 +169,7 @@ pub fn full_by_hand(random: &mut Random) -> Vec<u32> {
             w[place(1, h, 0) + i] = random.mirror() << 29 | 1;
         }
     }
+    sum_counts(&mut w, 3);
     w
 }
 
@@ -96,7 +186,7 @@ pub fn header_end(random: &mut Random, w: &mut [u32]) {
 
 /// One word of a store changed.
 pub fn damage(random: &mut Random, w: &mut [u32]) {
-    let capacity = (w[0] as usize).clamp(1, w.len() / 114);
+    let capacity = (w[0] as usize).clamp(1, w.len() / 142);
     let at = match random.below(24) {
         0 => random.below(32),
         1 => random.from_to(1, 16),
@@ -107,7 +197,7 @@ pub fn damage(random: &mut Random, w: &mut [u32]) {
             // a word of a kept cell, where there is one
             let h = random.from_to(3, 9);
             let count = (w[h] as usize).min(capacity);
-            place(capacity, h, random.below(count.max(1))) + random.below(8)
+            place(capacity, h, random.below(count.max(1))) + random.below(10)
         }
         _ => random.below(w.len()),
     };
@@ -127,24 +217,23 @@ pub fn damage(random: &mut Random, w: &mut [u32]) {
 
 /// A pointer of a kept cell, most often of a low one, made bad.
 pub fn bad_pointer(random: &mut Random, w: &mut [u32]) {
-    let heights: Vec<usize> = (3..=16).filter(|&h| w[h] > 0).collect();
-    if heights.is_empty() {
-        return;
-    }
-    let height = heights[random.below(heights.len()).min(random.below(heights.len()))];
-    let at = place(w[0] as usize, height, random.below(w[height] as usize)) + random.below(8);
+    let Some((height, at)) = inner(random, w) else { return };
+    let at = at + random.below(8);
     let past = w[height - 1] + random.from_to(1, 3) as u32;
     w[at] = random.pick(&[past, 5 << 29 | past, 1 << 29, 7 << 29]);
 }
 
-/// A kept cell's words, or a leaf's, made zero.
+/// A kept cell's pointers, or a leaf's words, made zero; the cell's count too, or not, and then the sums anew, or not.
 pub fn empty_a_cell(random: &mut Random, w: &mut [u32]) {
     let capacity = w[0] as usize;
     let height = if random.once_in(3) { 2 } else { random.from_to(3, 6) };
     if w[height] > 0 && w[height] <= w[0] {
         let at = place(capacity, height, random.below(w[height] as usize));
-        let size = if height == 2 { 2 } else { 8 };
+        let size = if height == 2 { 2 } else { random.pick(&[8, 10]) };
         w[at..at + size].fill(0);
+        if random.once_in(2) {
+            sum_counts(w, height.max(3));
+        }
     }
 }
 
@@ -177,6 +266,9 @@ pub fn noise(random: &mut Random) -> Vec<u32> {
                 if *word & 0x1fff_ffff == 0 && !random.once_in(30) {
                     *word = 0;
                 }
+            }
+            if length >= used(capacity) && random.once_in(2) {
+                sum_counts(&mut w, 3);
             }
         }
     }

@@ -1,7 +1,7 @@
 -- `boxes::count::count_pointer`, `count_cell` and `count_children` meet their contracts, each using the others' at or below its list: a pointer by the
 -- cell that the way down ends at; a leaf by its bits, a cell that is all in the box by its own count, any other by the children that share a voxel with
--- the box. The invariant: the children left, with what is found, tally as all do. By the laws of a box's parts at the tests passed. Assumes nothing.
-use mathlib.Core.Path.{_≡_, refl, sym, ap, ap₂, _∙_, subst, subst⁻¹}
+-- the box. The invariant: the children left, with the sum of the others, are all, and the sum has room for them. By the laws of a box's parts at the tests passed. Assumes nothing.
+use mathlib.Core.Path.{_≡_, sym, ap, ap₂, _∙_, subst, subst⁻¹}
 use mathlib.Core.Bool.{Bool, true, false, not}
 use mathlib.Core.List.{List}
 use Prim.Native.Nat.{ℕ, suc, _+_, _-_, _*_, _<_, _≤_}
@@ -9,25 +9,22 @@ use native.Mathlib.Nat.{add-zero}
 use native.Mathlib.Omega.{arith}
 use lib.Bits.{bitXor}
 use lib.ListN.{getD}
-use Rattle.paper.specs.Rooms.{Point, inChild, mirrored, boxCount}
+use Rattle.paper.specs.Rooms.{Point, inChild, mirrored, boxCount, far, origin}
 use Rattle.paper.specs.Outline.{edge}
 use Rattle.paper.specs.Leaf.{leafVoxel}
-use Rattle.paper.specs.Store.{Cell, heights, keptOf}
-use Rattle.laws.specs.Boxes.{origin, far, clipped}
+use Rattle.paper.specs.Store.{Cell, heights}
+use Rattle.paper.specs.Questions.{countTaken}
+use Rattle.paper.specs.declared.Tally.{Tally}
+use Rattle.paper.specs.declared.Tally.the-variants.{Solid}
 use Rattle.laws.proofs.Tests.{not-not}
 use Rattle.points.specs.Points.{at}
 use Rattle.points.specs.Seeing.{childNoAt}
 use Rattle.boxes_parts.specs.Parts.{chosen, pastIn, Spans, sharesIn}
-use Rattle.boxes_whole.specs.Tallies.{mostSolid, pointerIn, childrenSolid, childrenIn}
-use Rattle.boxes_whole.specs.declared.Tally.{Tally}
-use Rattle.boxes_whole.specs.declared.Tally.the-variants.{Solid}
-use Rattle.boxes_whole.proofs.Tallies.{children-none, children-damaged, solid-more, children-more}
-use Rattle.boxes_whole.proofs.WholeWays.{one-up}
-use Rattle.boxes.specs.Box.{InCell, AtKept, Kept, tallyAt, pointerPart}
+use Rattle.boxes.specs.Box.{InCell, AtKept, Kept, tallyAt, childrenIn, pointerPart}
 use Rattle.boxes.specs.declared.count.Ended.{Ended}
 use Rattle.boxes.specs.declared.count.Ended.the-variants.{Absent, At, Damaged as Unsound}
 use Rattle.boxes_parts.proofs.Cuts.{startIn, endIn, cut-spans}
-use Rattle.boxes.proofs.Parts.{child-shared, child-apart, cell-whole, cell-leaf, cell-children, cell-fits}
+use Rattle.boxes.proofs.Parts.{one-up, childIn, child-shared, child-apart, mostOfChild, child-most, Left, left-all, left-damaged, left-fewer, left-none, cell-leaf, cell-whole, cell-children}
 use borrow.Author.Needs.{needs}
 use borrow.Fn.Kinds.{In}
 use borrow.Fn.PlainCycle.{Measures, is, falls, and}
@@ -41,14 +38,15 @@ use Rattle.boxes.proofs.count.count_pointer.Reads as count-pointer
 use Rattle.boxes.proofs.count.count_pointer.Kinds as count-pointer-kinds
 use Rattle.boxes.proofs.count.+count_cell+count_children+count_pointer.Lts-count_pointer as count-pointer-lts
 use Rattle.boxes.proofs.count.down.Reads as down-reads
+use Rattle.boxes.proofs.count.count_taken.Reads as count-taken-reads
 use Rattle.boxes_parts.proofs.is_whole.Reads as is-whole-reads
 use Rattle.boxes_parts.proofs.shares.Reads as shares-reads
 use Rattle.boxes_parts.proofs.stored_number.Reads as stored-number-reads
 use Rattle.boxes_parts.proofs.chosen.Reads as chosen-reads
 use Rattle.boxes_leaf.proofs.count_leaf.Reads as count-leaf-reads
-use Rattle.boxes_whole.proofs.count_whole.Reads as count-whole-reads
 use Rattle.points.proofs.child_number.Reads as child-number-reads
 use Rattle.store.proofs.cell_at.Reads as cell-at-reads
+use Rattle.store.proofs.count_at.Reads as count-at-reads
 use Rattle.store.proofs.leaf_at.Reads as leaf-at-reads
 use Rattle.boxes.proofs.count.+count_cell+count_children+count_pointer.{statement}
 use Rattle.boxes.proofs.count.+count_cell+count_children+count_pointer.Tie.{close}
@@ -88,7 +86,7 @@ module _ (t : ℕ) where
   pointer-below = and 1 count-pointer-kinds.ps (falls 1 count-pointer-kinds.ps _<_ μ-count-pointer t) count-pointer.Pre
 
   abbrev cell-known : count-cell-lts.Claims
-  cell-known = (leaf-at-reads.Asked, leaf-at-reads.Learnt, count-leaf-reads.Asked, count-leaf-reads.Learnt, is-whole-reads.Asked, is-whole-reads.Learnt, count-whole-reads.Asked, count-whole-reads.Learnt, cell-at-reads.Asked, cell-at-reads.Learnt, children-below, count-children.Post)
+  cell-known = (leaf-at-reads.Asked, leaf-at-reads.Learnt, count-leaf-reads.Asked, count-leaf-reads.Learnt, is-whole-reads.Asked, is-whole-reads.Learnt, count-at-reads.Asked, count-at-reads.Learnt, count-taken-reads.Asked, count-taken-reads.Learnt, cell-at-reads.Asked, cell-at-reads.Learnt, children-below, count-children.Post)
 
   abbrev children-known : count-children-lts.Claims
   children-known = (child-number-reads.Asked, child-number-reads.Learnt, shares-reads.Asked, shares-reads.Learnt, stored-number-reads.Asked, stored-number-reads.Learnt, chosen-reads.Asked, chosen-reads.Learnt, pointer-below, count-pointer.Post)
@@ -105,9 +103,9 @@ module _ (t : ℕ) where
   asked d = d .before .before
 
   -- what is due is told where the way down ended
-  ended-is : (d : Down) (r : Ended) → d .down .result ≡ r → tallyAt (keptOf (asked d .args .store .now)) (at (asked d .args .low)) (at (asked d .args .last)) r
-      ≡ (let a = asked d .args in pointerPart (keptOf (a .store .now)) (a .k) (a .p) (a .mirror) (at (a .low)) (at (a .last)))
-  ended-is d r e = let a = asked d .args in ap (tallyAt (keptOf (a .store .now)) (at (a .low)) (at (a .last))) (sym e) ∙ d .down .ensures .0
+  ended-is : (d : Down) (r : Ended) → d .down .result ≡ r → tallyAt (asked d .args .store .now) (at (asked d .args .low)) (at (asked d .args .last)) r
+      ≡ (let a = asked d .args in pointerPart (a .store .now) (a .k) (a .p) (a .mirror) (at (a .low)) (at (a .last)))
+  ended-is d r e = let a = asked d .args in ap (tallyAt (a .store .now) (at (a .low)) (at (a .last))) (sym e) ∙ d .down .ensures .0
 
   pointer-returns : count-pointer-lts.Need-returns pointer-known pointer-at-t count-pointer.Post
   pointer-returns c = ended-is (c .before .before) Absent (c .enum-told .given .1)
@@ -154,19 +152,20 @@ module _ (t : ℕ) where
       ap Solid (c .count-leaf .ensures ∙ ap (λ (n : ℕ). boxCount 4 (mirrored (a .mirror) 4 (leafVoxel n)) (inChild 4 (at (a .low))) (pastIn 4 (at (a .last)))) (r .leaf-at .ensures))
       ∙ cell-leaf (a .store .now) (a .k) (a .number) (a .mirror) (at (a .low)) (at (a .last)) (z .if1 .taken)
 
-  cell-count-whole-requires : count-cell-lts.Need-count-whole-requires cell-known cell-at-t count-cell.Post
-  cell-count-whole-requires c κs =
+  cell-count-at-requires : count-cell-lts.Need-count-at-requires cell-known cell-at-t count-cell.Post
+  cell-count-at-requires c κs =
       let z = c .before .before in
       let b : CellStart = z .before .before in
       (b .pre .1 .0, (b .pre .1 .1 .0 .listed, b .pre .1 .1 .1))
 
   cell-returns-2 : count-cell-lts.Need-returns-2 cell-known cell-at-t count-cell.Post
   cell-returns-2 c =
-      let w = c .before in
+      let r = c .before in
+      let w = r .before in
       let z = w .before .before in
       let a = z .before .before .args in
-      c .count-whole .ensures
-      ∙ cell-whole (a .store .now) (a .k) (a .number) (a .mirror) (at (a .low)) (at (a .last)) (sym (w .before .is-whole .ensures) ∙ w .if2 .taken)
+      c .count-taken .ensures ∙ ap (countTaken (a .k)) (r .count-at .ensures)
+      ∙ cell-whole (a .store .now) (a .k) (a .number) (a .mirror) (at (a .low)) (at (a .last)) (z .if1 .left) (sym (w .before .is-whole .ensures) ∙ w .if2 .taken)
 
   cell-cell-at-requires : count-cell-lts.Need-cell-at-requires cell-known cell-at-t count-cell.Post
   cell-cell-at-requires c κs =
@@ -179,33 +178,25 @@ module _ (t : ℕ) where
       let z = higher (c .before) in
       let b : CellStart = z .before .before in
       let a = b .args in
-      let i = b .pre .1 .1 .0 in
       let up = one-up (a .k) (z .if1 .left) in
-      let fits = cell-fits (a .store .now) (a .k) (a .number) (a .mirror) (at (a .low)) (at (a .last)) (i .listed) (i .mirrors) (z .if1 .left) in (
-        omega (arith, b .pre .0, z .if1 .left),
-        (b .pre .1 .0, (subst⁻¹ (λ (j : ℕ). InCell j (a .mirror) (at (a .low)) (at (a .last))) up i, rw (c .cell-at .ensures) fits)),
-      )
+      (omega (arith, b .pre .0, z .if1 .left), (b .pre .1 .0, subst⁻¹ (λ (j : ℕ). InCell j (a .mirror) (at (a .low)) (at (a .last))) up (b .pre .1 .1 .0)))
 
   cell-returns-3 : count-cell-lts.Need-returns-3 cell-known cell-at-t count-cell.Post
   cell-returns-3 c =
       let r = c .before in
-      let z = higher (r .before) in
-      let b : CellStart = z .before .before in
-      let a = b .args in
-      let i = b .pre .1 .1 .0 in
+      let e = r .before in
+      let z = higher e in
+      let a = z .before .before .args in
       let S : ℕ = edge (suc (a .k - 1)) in
       c .count-children .ensures
-      ∙ ap (λ (l : Cell). childrenIn (keptOf (a .store .now)) (a .k - 1) l (a .mirror) 8 (inChild S (at (a .low))) (pastIn S (at (a .last))) 0) (r .cell-at .ensures)
-      ∙ cell-children (a .store .now) (a .k) (a .number) (a .mirror) (at (a .low)) (at (a .last)) (i .listed) (i .mirrors) (z .if1 .left)
+      ∙ ap (λ (l : Cell). childrenIn (a .store .now) (a .k - 1) l (a .mirror) 8 (inChild S (at (a .low))) (pastIn S (at (a .last)))) (r .cell-at .ensures)
+      ∙ cell-children (a .store .now) (a .k) (a .number) (a .mirror) (at (a .low)) (at (a .last)) (z .if1 .left) (sym (e .before .is-whole .ensures) ∙ e .if2 .left)
 
   -- ---- count_children
 
   abbrev Inv-loop : count-children-lts.InvT-loop
   Inv-loop store k mirror low last cell first past i₀ sum₀ i sum =
-      let lo : Point = inChild (edge (suc k)) (at low) in
-      let hi : Point = pastIn (edge (suc k)) (at last) in
-      (i ≤ 8) × (sum + childrenSolid (keptOf store) k cell mirror i lo hi ≤ mostSolid)
-      × (childrenIn (keptOf store) k cell mirror i lo hi sum ≡ childrenIn (keptOf store) k cell mirror 8 lo hi 0)
+      (i ≤ 8) × (sum + i * mostOfChild ≤ 8 * mostOfChild) × Left store k cell mirror (inChild (edge (suc k)) (at low)) (pastIn (edge (suc k)) (at last)) i sum
 
   abbrev μ-loop : count-children-lts.MeasureT-loop
   μ-loop store k mirror low last cell first past i₀ sum₀ i sum = i
@@ -236,8 +227,8 @@ module _ (t : ℕ) where
   Told = count-children-lts.After-known-told children-known children-at-t count-children.Post Inv-loop μ-loop
 
   -- what they hold
-  abbrev kept : Turn → List (List Cell)
-  kept w = keptOf (begin w .args .store .now)
+  abbrev words : Turn → List ℕ
+  words w = begin w .args .store .now
 
   abbrev k : Turn → ℕ
   k w = begin w .args .k
@@ -263,23 +254,15 @@ module _ (t : ℕ) where
   abbrev child : Turn → ℕ
   child w = w .before .loop .i - 1
 
-  -- the tally of the first children, with what is found; their solid voxels
-  abbrev tallyOf : Turn → ℕ → ℕ → Tally
-  tallyOf w left found = childrenIn (kept w) (k w) (cellOf w) (mirrorOf w) left (lowHere w) (highHere w) found
-
-  abbrev solidOf : Turn → ℕ → ℕ
-  solidOf w left = childrenSolid (kept w) (k w) (cellOf w) (mirrorOf w) left (lowHere w) (highHere w)
-
   listed : (w : Turn) → k w < heights
-  listed w = omega (arith, begin w .pre .1 .1 .0 .listed)
+  listed w = omega (arith, begin w .pre .1 .1 .listed)
 
   child-lt : (w : Turn) → child w < 8
   child-lt w = omega (arith, w .before .loop .inv .0, w .loop-test .taken)
 
   -- what is due of the turn's child
   abbrev due : Turn → Tally
-  due w =
-      pointerIn (kept w) (k w) (getD (cellOf w) (bitXor (child w) (mirrorOf w)) 0) (mirrorOf w) (clipped (edge (k w)) (child w) (lowHere w)) (clipped (edge (k w)) (child w) (highHere w))
+  due w = childIn (words w) (k w) (cellOf w) (mirrorOf w) (lowHere w) (highHere w) (child w)
 
   -- the test is whether the child shares a voxel with the box
   shares-is : (c : count-children-lts.After-shares children-known children-at-t count-children.Post Inv-loop μ-loop) → (let w : Turn = c .before in
@@ -306,7 +289,7 @@ module _ (t : ℕ) where
     spans-is =
         subst⁻¹ (λ (a : Point). Spans (edge (k w)) a (at (c .chosen2 .result))) start-is
         (subst⁻¹ (λ (b : Point). Spans (edge (k w)) (startIn (k w) (child w) (low w)) b) end-is
-        (cut-spans (k w) (listed w) (low w) (last w) (child w) (child-lt w) shared (begin w .pre .1 .1 .0 .spans)))
+        (cut-spans (k w) (listed w) (low w) (last w) (child w) (child-lt w) shared (begin w .pre .1 .1 .spans)))
 
   -- its tally is the one due
   counted-is : (c : Counted) → c .count-pointer .result ≡ due (turn (c .before))
@@ -314,47 +297,45 @@ module _ (t : ℕ) where
       let e : Cut = c .before in
       let v : Turn = turn e in
       c .count-pointer .ensures
-      ∙ ap (λ (n : ℕ). pointerPart (kept v) (k v) (getD (cellOf v) n 0) (mirrorOf v) (at (e .before .chosen .result)) (at (e .chosen2 .result))) (reading e .stored-number .ensures .0)
-      ∙ ap₂ (pointerPart (kept v) (k v) (getD (cellOf v) (bitXor (child v) (mirrorOf v)) 0) (mirrorOf v)) (start-is e) (end-is e)
-      ∙ child-shared (kept v) (k v) (listed v) (cellOf v) (mirrorOf v) (low v) (last v) (child v) (child-lt v) (shared e)
+      ∙ ap (λ (n : ℕ). pointerPart (words v) (k v) (getD (cellOf v) n 0) (mirrorOf v) (at (e .before .chosen .result)) (at (e .chosen2 .result))) (reading e .stored-number .ensures .0)
+      ∙ ap₂ (pointerPart (words v) (k v) (getD (cellOf v) (bitXor (child v) (mirrorOf v)) 0) (mirrorOf v)) (start-is e) (end-is e)
+      ∙ child-shared (words v) (k v) (listed v) (cellOf v) (mirrorOf v) (low v) (last v) (child v) (child-lt v) (shared e)
 
-  -- a turn that finds n voxels: what is found with them, and what is left to find
+  -- a turn that finds n voxels: the sum with them has room for the children left, and is theirs
   module _ (v : Turn) (n : ℕ) (e : due v ≡ Solid n) where
-    more : v .before .loop .sum + (solidOf v (child v) + n) ≤ mostSolid
+    more : v .before .loop .sum + n + child v * mostOfChild ≤ 8 * mostOfChild
     more =
-        rw (solid-more (kept v) (k v) (cellOf v) (mirrorOf v) (v .before .loop .i) (lowHere v) (highHere v) n (v .loop-test .taken) e) at (v .before .loop .inv .1)
+        let own : n ≤ mostOfChild = child-most (words v) (k v) (cellOf v) (mirrorOf v) (lowHere v) (highHere v) (begin v .pre .1 .1 .listed) (child v) n e in
+        omega (arith, own, v .before .loop .inv .1, v .loop-test .taken)
 
-    again : tallyOf v (child v) (v .before .loop .sum + n) ≡ tallyOf v 8 0
-    again =
-        sym (children-more (kept v) (k v) (cellOf v) (mirrorOf v) (v .before .loop .i) (lowHere v) (highHere v) n (v .loop-test .taken) e (v .before .loop .sum))
-        ∙ v .before .loop .inv .2
+    fewer : Left (words v) (k v) (cellOf v) (mirrorOf v) (lowHere v) (highHere v) (child v) (v .before .loop .sum + n)
+    fewer = left-fewer (words v) (k v) (cellOf v) (mirrorOf v) (lowHere v) (highHere v) (v .before .loop .i) (v .before .loop .sum) n (v .loop-test .taken) e (v .before .loop .inv .2)
 
   children-loop-holds : count-children-lts.Need-loop-holds children-known children-at-t count-children.Post Inv-loop μ-loop
   children-loop-holds c =
-      let p = c .before .before .before .pre .1 .1 in
-      (omega arith, omega (arith, p .1), refl)
+      let a = c .before .before .before .args in
+      (omega arith, omega arith, left-all (a .store .now) (a .k) (a .t3) (a .mirror) (inChild (edge (suc (a .k))) (at (a .low))) (pastIn (edge (suc (a .k))) (at (a .last))))
 
   children-loop-again : count-children-lts.Need-loop-again children-known children-at-t count-children.Post Inv-loop μ-loop
   children-loop-again c =
       let v : Turn = c .before .before in
       let apart : sharesIn (childNoAt (k v) (low v)) (childNoAt (k v) (last v)) (child v) ≡ false = sym (shares-is (c .before)) ∙ unless (c .before .shares .result) true (c .if1 .taken) in
-      let none : due v ≡ Solid 0 = child-apart (kept v) (k v) (listed v) (cellOf v) (mirrorOf v) (low v) (last v) (child v) (child-lt v) apart in (
+      let none : due v ≡ Solid 0 = child-apart (words v) (k v) (listed v) (cellOf v) (mirrorOf v) (low v) (last v) (child v) (child-lt v) apart in (
         omega (arith, v .before .loop .inv .0),
         omega (arith, more v 0 none),
-        ap (tallyOf v (child v)) (sym (add-zero (v .before .loop .sum))) ∙ again v 0 none,
+        subst (Left (words v) (k v) (cellOf v) (mirrorOf v) (lowHere v) (highHere v) (child v)) (add-zero (v .before .loop .sum)) (fewer v 0 none),
       )
 
   children-count-pointer-requires : count-children-lts.Need-count-pointer-requires children-known children-at-t count-children.Post Inv-loop μ-loop
   children-count-pointer-requires c κs =
       let b = begin (turn c) in
-      (omega (arith, b .pre .0), (b .pre .1 .0, record { listed = listed (turn c); mirrors = b .pre .1 .1 .0 .mirrors; spans = spans-is c }))
+      (omega (arith, b .pre .0), (b .pre .1 .0, record { listed = listed (turn c); mirrors = b .pre .1 .1 .mirrors; spans = spans-is c }))
 
   children-returns : count-children-lts.Need-returns children-known children-at-t count-children.Post Inv-loop μ-loop
   children-returns c =
       let r : Counted = c .before .before in
       let v : Turn = turn (r .before) in
-      sym (children-damaged (kept v) (k v) (cellOf v) (mirrorOf v) (v .before .loop .i) (lowHere v) (highHere v) (v .before .loop .sum) (v .loop-test .taken) (sym (counted-is r) ∙ c .enum-told .given .1))
-      ∙ v .before .loop .inv .2
+      left-damaged (words v) (k v) (cellOf v) (mirrorOf v) (lowHere v) (highHere v) (v .before .loop .i) (v .before .loop .sum) (v .loop-test .taken) (sym (counted-is r) ∙ c .enum-told .given .1) (v .before .loop .inv .2)
 
   abbrev countedAt : Told → Counted
   countedAt c = c .before .before .before
@@ -366,15 +347,14 @@ module _ (t : ℕ) where
   children-loop-again-2 c =
       let v : Turn = turn (countedAt c .before) in
       let n = c .before .n .given .0 .0 in
-      (omega (arith, v .before .loop .inv .0), omega (arith, more v n (told-is c)), again v n (told-is c))
+      (omega (arith, v .before .loop .inv .0), omega (arith, more v n (told-is c)), fewer v n (told-is c))
 
   children-returns-2 : count-children-lts.Need-returns-2 children-known children-at-t count-children.Post Inv-loop μ-loop
   children-returns-2 c =
       let l = c .before .loop in
       let n = c .before .before in
       let a = n .before .before .before .args in
-      sym (children-none (keptOf (a .store .now)) (a .k) (a .t3) (a .mirror) (l .i) (inChild (edge (suc (a .k))) (at (a .low))) (pastIn (edge (suc (a .k))) (at (a .last))) (l .sum) (c .loop-test .left))
-      ∙ l .inv .2
+      left-none (a .store .now) (a .k) (a .t3) (a .mirror) (inChild (edge (suc (a .k))) (at (a .low))) (pastIn (edge (suc (a .k))) (at (a .last))) (l .i) (l .sum) (c .loop-test .left) (l .inv .2)
 
 pub +count-cell+count-children+count-pointer-spec : {M : Type 1} → statement M
 +count-cell+count-children+count-pointer-spec =
@@ -384,7 +364,8 @@ pub +count-cell+count-children+count-pointer-spec : {M : Type 1} → statement M
     (λ c κs. search needs)
     (cell-returns t)
     (λ c κs. let b = c .before .before in b .pre .1 .1 .0 .listed)
-    (cell-count-whole-requires t)
+    (cell-count-at-requires t)
+    (λ c κs. let z = c .before .before .before in omega (arith, z .before .before .pre .1 .1 .0 .listed))
     (cell-returns-2 t)
     (λ c. omega (arith, higher t c .if1 .left))
     (cell-cell-at-requires t)
@@ -393,14 +374,14 @@ pub +count-cell+count-children+count-pointer-spec : {M : Type 1} → statement M
     (λ t. count-children-lts.spec (children-known t) (children-at-t t) count-children.Post
     (Inv-loop t)
     (μ-loop t)
-    (λ c κs. omega (arith, c .before .pre .1 .1 .0 .listed))
-    (λ c κs. omega (arith, c .before .before .pre .1 .1 .0 .listed))
+    (λ c κs. omega (arith, c .before .pre .1 .1 .listed))
+    (λ c κs. omega (arith, c .before .before .pre .1 .1 .listed))
     (children-loop-holds t)
     (λ c. search needs)
     (λ c κs. record { firstBelow = numbers t c .before .child-number .ensures .1; lastBelow = numbers t c .child-number2 .ensures .1; childBelow = child-lt t c })
     (λ c. omega (arith, c .before .before .loop-test .taken))
     (children-loop-again t)
-    (λ c κs. let v = c .before .before in (child-lt t v, begin t v .pre .1 .1 .0 .mirrors))
+    (λ c κs. let v = c .before .before in (child-lt t v, begin t v .pre .1 .1 .mirrors))
     (λ c. search needs)
     (λ c. search needs)
     (λ c. search needs)

@@ -11,11 +11,10 @@ use Rattle.paper.specs.Store.{keptCount, keptOf, badPointer}
 use Rattle.laws.proofs.Invariant.{named-kept}
 use Rattle.points.specs.Points.{at}
 use Rattle.points.proofs.Seen.{tag-joins}
-use Rattle.boxes_whole.specs.declared.Tally.{Tally}
-use Rattle.boxes_whole.proofs.WholeWays.{one-up}
+use Rattle.paper.specs.declared.Tally.{Tally}
 use Rattle.boxes_parts.specs.Parts.{spreadsOver}
 use Rattle.boxes.specs.Box.{InCell, childTaken, cellPart, pointerPart}
-use Rattle.boxes.proofs.Parts.{part-absent, part-bad, part-there, above, one-child, one-spans}
+use Rattle.boxes.proofs.Parts.{one-up, part-absent, part-bad, part-there, above, one-child, one-spans}
 use borrow.Author.Needs.{needs}
 use Rattle.boxes.proofs.count.down.Statement.{statement}
 use Rattle.boxes.proofs.count.down.Tie as tie
@@ -23,7 +22,7 @@ use Rattle.boxes.proofs.count.down.Tie as tie
 abbrev Inv-loop : tie.InvT-loop
 Inv-loop store k pointer mirror low last list₀ p₀ seen₀ list p seen =
     (list ≤ k) × InCell list seen (at low) (at last)
-    × (pointerPart (keptOf store) list p seen (at low) (at last) ≡ pointerPart (keptOf store) k pointer mirror (at low) (at last))
+    × (pointerPart store list p seen (at low) (at last) ≡ pointerPart store k pointer mirror (at low) (at last))
 
 abbrev μ-loop : tie.MeasureT-loop
 μ-loop store k pointer mirror low last list₀ p₀ seen₀ list p seen = list
@@ -64,7 +63,7 @@ within w = w .before .loop .inv .1
 
 -- what is due
 abbrev due : Turn → Tally
-due w = let a = begin w .args in pointerPart (keptOf (words w)) (a .k) (a .pointer) (a .mirror) (low w) (last w)
+due w = let a = begin w .args in pointerPart (words w) (a .k) (a .pointer) (a .mirror) (low w) (last w)
 
 -- ---- the cell that a turn's pointer names
 
@@ -81,9 +80,9 @@ module _ (c : tie.After-tag Inv-loop μ-loop) where
   sound : badPointer (keptCount (words w) (list w)) (held w) ≡ false
   sound = let t = c .before .before in sym (t .before .pointer-bad .ensures) ∙ t .if1 .left
 
-  cell-is : cellPart (keptOf (words w)) (list w) number seen (low w) (last w) ≡ due w
+  cell-is : cellPart (words w) (list w) number seen (low w) (last w) ≡ due w
   cell-is =
-      part-there (words w) (list w) (held w) (mirror w) (low w) (last w) (within w .listed) number (c .tag .result) (w .loop-test .taken) sound (c .before .cell-number .ensures) (c .tag .ensures)
+      part-there (words w) (list w) (held w) (mirror w) (low w) (last w) (within w .listed) (within w .spans) number (c .tag .result) (w .loop-test .taken) sound (c .before .cell-number .ensures) (c .tag .ensures)
       ∙ w .before .loop .inv .2
 
   number-kept : number < keptCount (words w) (list w)
@@ -105,17 +104,17 @@ module _ (c : tie.Else2 Inv-loop μ-loop) where
   single = sym (c .before .spreads .ensures) ∙ c .if2 .left
 
   not-leaf : list v ≡ 0 → ⊥
-  not-leaf = above (keptOf (words v)) (list v) (within v .listed) (number named) (seen named) (seen-lt named) (low v) (last v) single
+  not-leaf = above (list v) (low v) (last v) single
 
-  child-is : pointerPart (keptOf (words v)) (list v - 1) (childTaken (keptOf (words v)) (list v - 1) (number named) (seen named) (low v)) (seen named) (low v) (last v) ≡ due v
-  child-is = one-child (keptOf (words v)) (list v) (within v .listed) (number named) (seen named) (seen-lt named) (low v) (last v) single ∙ cell-is named
+  child-is : pointerPart (words v) (list v - 1) (childTaken (keptOf (words v)) (list v - 1) (number named) (seen named) (low v)) (seen named) (low v) (last v) ≡ due v
+  child-is = one-child (list v) (low v) (last v) single (within v .listed) (words v) (number named) (seen named) ∙ cell-is named
 
   child-in : InCell (list v - 1) (seen named) (low v) (last v)
   child-in =
       record {
         listed = omega (arith, within v .listed);
         mirrors = seen-lt named;
-        spans = one-spans (keptOf (words v)) (list v) (within v .listed) (number named) (seen named) (seen-lt named) (low v) (last v) single (within v .spans);
+        spans = one-spans (list v) (low v) (last v) single (within v .listed) (within v .spans);
       }
 
 -- ---- the needs
@@ -146,7 +145,7 @@ loop-again c =
     let n = named e in (
       omega (arith, w .before .loop .inv .0),
       child-in e,
-      ap (λ (p : ℕ). pointerPart (keptOf (words w)) (list w - 1) p (seen n) (low w) (last w)) (c .child-pointer .ensures) ∙ child-is e,
+      ap (λ (p : ℕ). pointerPart (words w) (list w - 1) p (seen n) (low w) (last w)) (c .child-pointer .ensures) ∙ child-is e,
     )
 
 returns-3 : tie.Need-returns-3 Inv-loop μ-loop
@@ -154,7 +153,7 @@ returns-3 c =
     let b = c .before .before .before in
     let a = b .args in
     let l = c .before .loop in
-    (part-absent (a .store .now) (l .list) (l .p) (l .seen) (at (a .low)) (at (a .last)) (l .inv .1 .listed) (c .loop-test .left) ∙ l .inv .2, tt)
+    (part-absent (a .store .now) (l .list) (l .p) (l .seen) (at (a .low)) (at (a .last)) (l .inv .1 .listed) (l .inv .1 .spans) (c .loop-test .left) ∙ l .inv .2, tt)
 
 pub down-spec : {M : Type 1} → statement M
 down-spec =

@@ -5,10 +5,9 @@ use mathlib.Core.Bool.{true}
 use Prim.Native.Nat.{ℕ, _-_}
 use native.Mathlib.Omega.{arith}
 use borrow.Author.Needs.{needs}
-use Rattle.paper.specs.Rooms.{Point}
-use Rattle.paper.specs.Store.{keptOf, sceneDepth, sceneRoot}
+use Rattle.paper.specs.Rooms.{Point, hasVoxel}
+use Rattle.paper.specs.Store.{sceneDepth, sceneRoot}
 use Rattle.points.specs.Points.{at}
-use Rattle.boxes_parts.specs.Parts.{hasVoxel}
 use Rattle.boxes.specs.Box.{InCell, pointerPart}
 use Rattle.boxes.proofs.Scenes.{high-positive, depth-in, scene-none, scene-in, scene-some}
 use Rattle.boxes.proofs.count.scene_box.Statement.{statement}
@@ -48,8 +47,8 @@ returns c =
     let a = b .args in
     let r = l .before in
     c .count-pointer .ensures
-    ∙ ap₂ (λ (d p : ℕ). pointerPart (keptOf (a .store .now)) (d - 2) p 0 (at (a .low)) (at (l .last-of .result))) (r .before .scene-depth .ensures) (r .scene-root .ensures)
-    ∙ ap (λ (v : Point). pointerPart (keptOf (a .store .now)) (sceneDepth (a .store .now) (a .n) - 2) (sceneRoot (a .store .now) (a .n)) 0 (at (a .low)) v) (l .last-of .ensures)
+    ∙ ap₂ (λ (d p : ℕ). pointerPart (a .store .now) (d - 2) p 0 (at (a .low)) (at (l .last-of .result))) (r .before .scene-depth .ensures) (r .scene-root .ensures)
+    ∙ ap (λ (v : Point). pointerPart (a .store .now) (sceneDepth (a .store .now) (a .n) - 2) (sceneRoot (a .store .now) (a .n)) 0 (at (a .low)) v) (l .last-of .ensures)
     ∙ scene-some (a .store .now) (a .n) (b .pre .1 .1 .0) (at (a .low)) (at (a .high)) (some-voxel (tested l)) (b .pre .1 .1 .1)
 
 returns-2 : tie.Need-returns-2

@@ -1,2 +1,0 @@
--- what a box of a cell holds
-pub mod Tallies
