@@ -16,7 +16,7 @@
 
 /* ---- the calls ---- */
 
-enum { NEW, ADD, VOXEL, SIGHT, CELL, BOX, KEPT, OUTLINE, PACK, CHECK, PACKED_VOXEL, OPEN, ASK, DETAIL, CALLS };
+enum { NEW, ADD, VOXEL, SIGHT, CELL, BOX, ANY, KEPT, OUTLINE, PACK, CHECK, PACKED_VOXEL, OPEN, ASK, DETAIL, CALLS };
 
 typedef void function(void);
 
@@ -30,6 +30,7 @@ static const struct {
     [SIGHT] = {"sight line", (function *)rooms_sight},
     [CELL] = {"cell", (function *)rooms_cell},
     [BOX] = {"box", (function *)rooms_box},
+    [ANY] = {"anything in the way", (function *)rooms_any},
     [KEPT] = {"kept", (function *)rooms_kept},
     [OUTLINE] = {"outline out", (function *)rooms_outline},
     [PACK] = {"pack", (function *)rooms_pack},
@@ -283,9 +284,11 @@ static struct point point(unsigned n)
     return (struct point){below(edge), below(edge), below(edge)};
 }
 
+/* The box counted, and asked whether it holds anything. */
 static void ask_box(struct point low, struct point high)
 {
     MEASURE(BOX, STORE, 0, low.x, low.y, low.z, high.x, high.y, high.z, P(&count));
+    MEASURE(ANY, STORE, 0, low.x, low.y, low.z, high.x, high.y, high.z, P(&value[0]), P(&count));
 }
 
 /* The whole room, and all of it but its outermost voxels. */

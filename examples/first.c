@@ -34,7 +34,7 @@ int main(void)
 {
     uint32_t scene, solid, kept, length, depth, records, height, blocked, x, y, z;
     uint32_t numbers[ROOMS_OPENED_NUMBERS];
-    uint64_t count;
+    uint64_t count, entered;
 
     must(rooms_new(store, ROOMS_STORE_WORDS(CAPACITY), CAPACITY));
     must(rooms_add(store, ROOMS_STORE_WORDS(CAPACITY), outline, sizeof outline, &scene));
@@ -54,6 +54,8 @@ int main(void)
     printf("cell of height 2 at 0 1 0: %s\n", solid ? "non-empty" : "empty");
     must(rooms_box(store, ROOMS_STORE_WORDS(CAPACITY), scene, 0, 0, 0, 8, 8, 8, &count));
     printf("solid in the whole room: %" PRIu64 "\n", count);
+    must(rooms_any(store, ROOMS_STORE_WORDS(CAPACITY), scene, 1, 0, 0, 7, 8, 8, &solid, &entered));
+    printf("box 1 0 0 to 7 8 8: %s, cells entered %" PRIu64 "\n", solid ? "something in the way" : "free", entered);
     must(rooms_kept(store, ROOMS_STORE_WORDS(CAPACITY), 2, &kept));
     printf("leaves kept: %" PRIu32 "\n", kept);
 

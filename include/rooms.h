@@ -3,7 +3,7 @@
  * needs memset alone.
  *
  * A room is a cube of voxels; its depth D, from 2 to 16, gives its edge, 2^D voxels. A store keeps up to 64 scenes and each
- * differing cell of theirs once, mirror images included. The fourteen calls below work on memory that the caller lends: they
+ * differing cell of theirs once, mirror images included. The fifteen calls below work on memory that the caller lends: they
  * allocate nothing, keep nothing between calls, print nothing and start nothing. docs/RULES.md has the rules of rooms, stores
  * and refusals, docs/FORMATS.md the bytes of the two kinds of file.
  *
@@ -47,8 +47,8 @@
  * capacity are 0.
  *
  * Nothing is promised of time. A box enters no inner cell that lies wholly inside; one whose faces lie off the grid can enter
- * each cell that they cut. A sight line steps over an empty cell at once, however large, and goes through leaves voxel by
- * voxel.
+ * each cell that they cut. rooms_any ends at the first leaf with a solid voxel in the box: the less the box holds, the more it
+ * may have to enter. A sight line steps over an empty cell at once, however large, and goes through leaves voxel by voxel.
  */
 #ifndef ROOMS_H
 #define ROOMS_H
@@ -168,6 +168,20 @@ uint32_t rooms_cell(const uint32_t *store, size_t store_words, uint32_t scene, u
  */
 uint32_t rooms_box(const uint32_t *store, size_t store_words, uint32_t scene, uint32_t low_x, uint32_t low_y,
                    uint32_t low_z, uint32_t high_x, uint32_t high_y, uint32_t high_z, uint64_t *count);
+
+/*
+ * Is anything in the way: *solid is 1 where a voxel from low up to, and not with, high on each axis is solid, 0 where none is.
+ * *entered is the number of cells entered for that, the root and leaves among them. From the root on they are entered one by
+ * one: of a cell's children those that share a voxel with the box, by rising number as the room shows them, each one's own
+ * children before the next, up to the first leaf with a solid voxel in the box. A cell entered twice counts twice. *entered is 0
+ * in an empty scene and where low and high agree on an axis. The counts kept in the store are not looked at. On a store of these
+ * calls *solid is 1 exactly where rooms_box counts more than 0.
+ * Refusals: as for a voxel; 10 as for a box. The last 2 is given, in a cell entered, for bad pointers to children that share a
+ * voxel with the box, and for no others. All of these are tested before the first of the children is entered; below cells
+ * that would be entered after the answer nothing is looked at.
+ */
+uint32_t rooms_any(const uint32_t *store, size_t store_words, uint32_t scene, uint32_t low_x, uint32_t low_y,
+                   uint32_t low_z, uint32_t high_x, uint32_t high_y, uint32_t high_z, uint32_t *solid, uint64_t *entered);
 
 /*
  * Kept: *count is the number of cells kept at a height, 2 to 16, as the store's header has it. On a store of these calls it is

@@ -1,5 +1,6 @@
 //! Questions of one kind asked of the store or of the plain graph, so many times, and nothing else that depends on how many: for a counter of a
 //! whole program's instructions.
+use crate::anything;
 use crate::boxes::Region;
 use crate::calls;
 use crate::graph::Graph;
@@ -17,6 +18,7 @@ const ASKED: usize = 2_000;
 enum Asked {
     Points(Vec<Point>),
     Boxes(Vec<Region>),
+    Anything(Vec<Region>),
 }
 
 /// Who is asked.
@@ -26,8 +28,16 @@ enum Whom {
     Graph(Graph),
 }
 
-/// `what`: voxels anywhere or near surfaces, small boxes near surfaces, large ones, the whole room.
+/// `what`: voxels anywhere or near surfaces; boxes counted: small ones near surfaces, large ones, the whole room, or those of
+/// `src/anything.rs` by their names (small-something, small-nothing, large-something, large-nothing). With `any-` in front, the same boxes are asked
+/// whether they hold anything.
 fn asked(what: &str, file: &[u8]) -> Asked {
+    if let Some(what) = what.strip_prefix("any-") {
+        return match asked(what, file) {
+            Asked::Boxes(boxes) => Asked::Anything(boxes),
+            _ => panic!("a point is no box"),
+        };
+    }
     let octree = Octree::of(file);
     let depth = octree.depth;
     let near = questions::near(&octree, ASKED);
@@ -41,7 +51,12 @@ fn asked(what: &str, file: &[u8]) -> Asked {
             Asked::Boxes(questions::boxes(depth, &points, quarter, 3 * quarter))
         }
         "whole" => Asked::Boxes(vec![Region::whole(1 << depth)]),
-        _ => panic!("voxels, near, small, large or whole"),
+        _ => {
+            let boxes = anything::named(&Graph::of(file), &octree, what);
+            Asked::Boxes(
+                boxes.expect("voxels, near, small, large, whole or a kind of src/anything.rs"),
+            )
+        }
     }
 }
 
@@ -73,6 +88,15 @@ impl Whom {
             Whom::Graph(graph) => graph.count(region).unwrap(),
         }
     }
+
+    #[inline(never)]
+    fn anything(&self, region: Region) -> u64 {
+        anything::sum(match self {
+            Whom::Store(store) => calls::anything(store, 0, region).unwrap(),
+            Whom::Packed(_) => panic!("a packed file answers no box"),
+            Whom::Graph(graph) => graph.anything(region).unwrap(),
+        })
+    }
 }
 
 /// Asks `which` (store, packed or graph) all of one kind, so many times, and prints how many they are and the sum of the answers.
@@ -88,13 +112,20 @@ pub fn repeat(what: &str, which: &str, times: usize, kept: &Path, room: &str) {
     let mut sum = 0u64;
     for _ in 0..times {
         sum = match &asked {
-            Asked::Points(points) => points.iter().fold(sum, |n, &p| n + u64::from(black_box(whom.voxel(p)))),
-            Asked::Boxes(boxes) => boxes.iter().fold(sum, |n, &b| n.wrapping_add(black_box(whom.count(b)))),
+            Asked::Points(points) => points
+                .iter()
+                .fold(sum, |n, &p| n + u64::from(black_box(whom.voxel(p)))),
+            Asked::Boxes(boxes) => boxes
+                .iter()
+                .fold(sum, |n, &b| n.wrapping_add(black_box(whom.count(b)))),
+            Asked::Anything(boxes) => boxes
+                .iter()
+                .fold(sum, |n, &b| n.wrapping_add(black_box(whom.anything(b)))),
         };
     }
     let many = match asked {
         Asked::Points(points) => points.len(),
-        Asked::Boxes(boxes) => boxes.len(),
+        Asked::Boxes(boxes) | Asked::Anything(boxes) => boxes.len(),
     };
     println!("{many} {what}, {times} times, {sum}");
 }

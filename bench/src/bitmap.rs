@@ -118,6 +118,24 @@ impl Bitmap {
         Some(n)
     }
 
+    /// Whether a box holds anything solid: row by row, up to the first that does.
+    #[inline(never)]
+    pub fn anything(&self, region: Region) -> Option<bool> {
+        if !region.lies_in(1 << self.depth) {
+            return None;
+        }
+        let Region { low, high } = region;
+        for z in low[2]..high[2] {
+            for y in low[1]..high[1] {
+                let row = self.bit(0, y, z);
+                if self.count_bits(row + low[0] as usize, row + high[0] as usize) != 0 {
+                    return Some(true);
+                }
+            }
+        }
+        Some(false)
+    }
+
     #[inline(never)]
     pub fn cell(&self, h: u32, x: u32, y: u32, z: u32) -> Option<bool> {
         if h > self.depth || (x | y | z) >> (self.depth - h) != 0 {

@@ -13,6 +13,8 @@ extern "C" {
     fn rooms_cell(store: *const u32, words: usize, scene: u32, height: u32, x: u32, y: u32, z: u32, full: *mut u32) -> u32;
     fn rooms_box(store: *const u32, words: usize, scene: u32, lowx: u32, lowy: u32, lowz: u32,
         highx: u32, highy: u32, highz: u32, count: *mut u64) -> u32;
+    fn rooms_any(store: *const u32, words: usize, scene: u32, lowx: u32, lowy: u32, lowz: u32,
+        highx: u32, highy: u32, highz: u32, solid: *mut u32, entered: *mut u64) -> u32;
     fn rooms_kept(store: *const u32, words: usize, height: u32, count: *mut u32) -> u32;
     fn rooms_outline(store: *const u32, words: usize, scene: u32, out: *mut u8, room: usize, length: *mut u32) -> u32;
     fn rooms_pack(store: *const u32, words: usize, scene: u32, scratch: *mut u32, lent: usize,
@@ -113,6 +115,20 @@ pub fn count(store: &[u32], scene: u32, region: Region) -> Answer<u64> {
     let words = store.len();
     let number = unsafe { rooms_box(store.as_ptr(), words, scene, a, b, c, d, e, f, &mut count) };
     answer(number, count)
+}
+
+/// Whether a box holds anything solid, and the cells entered to tell.
+#[inline]
+pub fn anything(store: &[u32], scene: u32, region: Region) -> Answer<(bool, u64)> {
+    let (mut solid, mut entered) = (0, 0);
+    let Region {
+        low: [a, b, c],
+        high: [d, e, f],
+    } = region;
+    let (from, words) = (store.as_ptr(), store.len());
+    let (yes, many) = (&mut solid, &mut entered);
+    let number = unsafe { rooms_any(from, words, scene, a, b, c, d, e, f, yes, many) };
+    answer(number, (solid == 1, entered))
 }
 
 pub fn kept(store: &[u32], height: u32) -> Answer<u32> {

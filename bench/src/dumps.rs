@@ -5,8 +5,9 @@ use std::fs;
 use std::path::Path;
 
 /// The bench's own code that asks: it isn't part of what is asked.
-const ASKING: [&str; 5] = [
+const ASKING: [&str; 6] = [
     "bench::work::",
+    "bench::anything::",
     "bench::sight::",
     "bench::calls::",
     "bench::measure::",

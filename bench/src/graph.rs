@@ -206,6 +206,32 @@ impl Graph {
         n
     }
 
+    /// Whether a box holds anything solid, and the cells entered up to that answer: children by rising number, each one's own before the
+    /// next.
+    #[inline(never)]
+    pub fn anything(&self, region: Region) -> Option<(bool, u64)> {
+        if !region.lies_in(1 << self.depth) {
+            return None;
+        }
+        let mut entered = 0;
+        let solid = self.anything_in(self.root, self.depth, region, &mut entered);
+        Some((solid, entered))
+    }
+
+    fn anything_in(&self, p: u32, h: u32, region: Region, entered: &mut u64) -> bool {
+        if p == 0 || !region.has_voxel() {
+            return false;
+        }
+        *entered += 1;
+        if h == 2 {
+            return self.leaves[p as usize - 1] & region.leaf_bits() != 0;
+        }
+        let cell = self.cells[p as usize - 1];
+        let half = 1 << (h - 1);
+        let mut children = (0u32..).zip(cell);
+        children.any(|(i, child)| self.anything_in(child, h - 1, region.in_child(i, half), entered))
+    }
+
     /// The room as an outline.
     #[inline(never)]
     pub fn outline(&self) -> Vec<u8> {

@@ -4,12 +4,14 @@
 //!     bench count KEPT TIMES [ROOMS]   the same work, to be run under callgrind, but for what took long by the clock
 //!     bench gather DUMPS            callgrind's dumps as lines; the functions' shares go to DUMPS/shares.txt
 //!     bench table TIMES COUNTS SVG  the tables and the picture
-//!     bench asked WHAT WHICH TIMES KEPT ROOM   asks one kind of question (voxels, near, small, large, whole) of the store, a packed file or the
-//!                                   plain graph, TIMES times: for a counter of a whole program's instructions
+//!     bench asked WHAT WHICH TIMES KEPT ROOM   asks one kind of question (voxels, near, small, large, whole; src/asked.rs has those on whether
+//!                                   anything is in the way) of the store, a packed file or the plain graph, TIMES times: for a counter
+//!                                   of a whole program's instructions
 //!     bench lines WHICH TIMES KEPT ROOM   asks for all sight lines of a room, TIMES times: for a counter of a whole program's
 //!                                   instructions (src/sight.rs)
 //!
 //! KEPT is a folder for the words of the stores.
+mod anything;
 mod asked;
 mod bitmap;
 mod boxes;

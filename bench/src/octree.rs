@@ -110,6 +110,17 @@ impl Octree {
         Some(self.root.count(self.depth, region))
     }
 
+    /// Whether a box holds anything solid, and the non-empty cells entered up to that answer.
+    #[inline(never)]
+    pub fn anything(&self, region: Region) -> Option<(bool, u64)> {
+        if !region.lies_in(1 << self.depth) {
+            return None;
+        }
+        let mut entered = 0;
+        let solid = self.root.anything(self.depth, region, &mut entered);
+        Some((solid, entered))
+    }
+
     /// The room as an outline.
     #[inline(never)]
     pub fn outline(&self) -> Vec<u8> {
@@ -170,6 +181,22 @@ impl Cell {
                     n += child.count(h - 1, region.in_child(i, half));
                 }
                 n
+            }
+        }
+    }
+
+    fn anything(&self, h: u32, region: Region, entered: &mut u64) -> bool {
+        if matches!(self, Cell::Empty) || !region.has_voxel() {
+            return false;
+        }
+        *entered += 1;
+        match self {
+            Cell::Empty => false,
+            Cell::Leaf(leaf) => leaf & region.leaf_bits() != 0,
+            Cell::Inner(children) => {
+                let half = 1 << (h - 1);
+                let mut children = (0u32..).zip(children.iter());
+                children.any(|(i, child)| child.anything(h - 1, region.in_child(i, half), entered))
             }
         }
     }

@@ -1,4 +1,5 @@
 //! The tables: sizes, ratios with their goals, the check's growth, what damage tests and the search for equal cells take.
+use crate::anything::{self, ENTERED};
 use crate::deep;
 use crate::growth::{KINDS, SIZES};
 use crate::measure::Results;
@@ -122,6 +123,28 @@ pub fn rows() -> Vec<Row> {
         ),
         beside_graph!("large box", "large box", |_| None),
         beside_graph!("whole room's box", "whole room's box", |_| Some(1.0)),
+        beside_graph!(
+            anything::KINDS[0].anything,
+            anything::KINDS[0].anything,
+            |_| None
+        ),
+        beside_graph!(
+            anything::KINDS[1].anything,
+            anything::KINDS[1].anything,
+            |_| None
+        ),
+        row!(
+            "anything / count, small box with something",
+            (anything::KINDS[0].anything, "store"),
+            (anything::KINDS[0].count, "store"),
+            |_| None
+        ),
+        row!(
+            "anything / count, large box with something",
+            (anything::KINDS[2].anything, "store"),
+            (anything::KINDS[2].count, "store"),
+            |_| None
+        ),
         beside_graph!(LINE, LINE, |_| Some(3.0)),
         row!(
             "sight line / by voxel questions",
@@ -195,6 +218,7 @@ pub fn print(all: &Measured) {
     for room in &all.rooms {
         questions(all, room);
     }
+    in_the_way(all);
     lines(all);
     whole_calls(all);
     growth(all);
@@ -313,6 +337,47 @@ fn questions(all: &Measured, room: &str) {
             fields.push(format!("{}, {} ns", cell(count), cell(time)));
         }
         print_row(fields);
+    }
+}
+
+fn in_the_way(all: &Measured) {
+    println!("\n## Is anything in the way: a box's instructions, beside its count\n");
+    println!("Cells entered: up to the answer, by the store, the graph and the octree alike. Large boxes with nothing are large ones made");
+    println!("smaller until they hold nothing; a room may have none.\n");
+    print_head(&[
+        "room",
+        "boxes",
+        "how many",
+        "cells entered",
+        "store",
+        "count, store",
+        "graph",
+        "count, graph",
+        "octree",
+        "bitmap",
+    ]);
+    for room in &all.rooms {
+        for kind in &anything::KINDS {
+            let told = |item: &str| all.told(&format!("{item}{}", kind.name), room, "room");
+            let Some(many) = told("boxes: ") else {
+                continue;
+            };
+            let mut fields = vec![room.clone(), kind.name.to_string(), format!("{many:.0}")];
+            fields.push(told(ENTERED).map_or("-".to_string(), |n| format!("{n:.1}")));
+            for (item, who) in [
+                (kind.anything, "store"),
+                (kind.count, "store"),
+                (kind.anything, "graph"),
+                (kind.count, "graph"),
+                (kind.anything, "octree"),
+                (kind.anything, "bitmap"),
+            ] {
+                let time = all.told(item, room, who);
+                let count = all.instructions(item, room, who);
+                fields.push(format!("{}, {} ns", cell(count), cell(time)));
+            }
+            print_row(fields);
+        }
     }
 }
 

@@ -7,7 +7,7 @@ use crate::graph::Graph;
 use crate::measure::Meter;
 use crate::octree::Octree;
 use crate::questions::{self, Point};
-use crate::{classes, outline, sight, twin};
+use crate::{anything, classes, outline, sight, twin};
 use std::collections::HashSet;
 use std::fs;
 use std::hint::black_box;
@@ -71,6 +71,7 @@ pub fn room(meter: &Meter, name: &str, file: Vec<u8>, kept: &Path) {
     }
     subject.cells();
     subject.boxes();
+    subject.anything();
     sight::room(meter, name, &subject.store, &subject.graph, &subject.bitmap);
 }
 
@@ -385,6 +386,16 @@ impl Subject<'_> {
             ask("octree", &|region| octree.count(region).unwrap());
             ask("bitmap", &|region| bitmap.count(region).unwrap());
         }
+    }
+
+    fn anything(&self) {
+        let asked = anything::Asked {
+            store: &self.store,
+            graph: &self.graph,
+            octree: &self.octree,
+            bitmap: &self.bitmap,
+        };
+        asked.measure(self.meter, self.name);
     }
 
     fn outlines(&self) {

@@ -27,6 +27,7 @@ uint32_t rooms_voxel(const uint32_t *, size_t, uint32_t, uint32_t, uint32_t, uin
 uint32_t rooms_sight(const uint32_t *, size_t, uint32_t, uint32_t, uint32_t, uint32_t, uint32_t, uint32_t, uint32_t, uint32_t *, uint32_t *, uint32_t *, uint32_t *);
 uint32_t rooms_cell(const uint32_t *, size_t, uint32_t, uint32_t, uint32_t, uint32_t, uint32_t, uint32_t *);
 uint32_t rooms_box(const uint32_t *, size_t, uint32_t, uint32_t, uint32_t, uint32_t, uint32_t, uint32_t, uint32_t, uint64_t *);
+uint32_t rooms_any(const uint32_t *, size_t, uint32_t, uint32_t, uint32_t, uint32_t, uint32_t, uint32_t, uint32_t, uint32_t *, uint64_t *);
 uint32_t rooms_kept(const uint32_t *, size_t, uint32_t, uint32_t *);
 uint32_t rooms_outline(const uint32_t *, size_t, uint32_t, uint8_t *, size_t, uint32_t *);
 uint32_t rooms_pack(const uint32_t *, size_t, uint32_t, uint32_t *, size_t, uint8_t *, size_t, uint32_t *);
@@ -125,6 +126,11 @@ static uint32_t call_cell(const struct argument *a)
 static uint32_t call_box(const struct argument *a)
 {
     return rooms_box(a[0].words, a[1].whole, U32(2), U32(3), U32(4), U32(5), U32(6), U32(7), U32(8), a[9].wide);
+}
+
+static uint32_t call_any(const struct argument *a)
+{
+    return rooms_any(a[0].words, a[1].whole, U32(2), U32(3), U32(4), U32(5), U32(6), U32(7), U32(8), a[9].words, a[10].wide);
 }
 
 static uint32_t call_kept(const struct argument *a)
@@ -772,6 +778,94 @@ static void try_box(void)
     try_counts();
 }
 
+/* The box has something solid, or nothing, and so many cells were entered. */
+static void found(uint32_t solid, uint64_t entered, const char *what)
+{
+    memcpy(&after, &before, sizeof after);
+    after.words[1][0] = solid;
+    after.wide[0] = entered;
+    accepted(what);
+}
+
+/* Words changed in the store of `pair`: what is looked at, and what is not. Its root is cell 0 of height 4, with children 0 and 7, cells 0 and
+   1 of height 3, each with a child 4, leaves 0 and 1. */
+static void try_entered(void)
+{
+    uint32_t *root = before.words[0] + cell_at(4, 0), *first = before.words[0] + cell_at(3, 0), *second = before.words[0] + cell_at(3, 1);
+    root[8] = UINT32_MAX;
+    root[9] = first[9] = 0;
+    corners_at(0, 0, 0, 16, 16, 16);
+    found(1, 3, "wrong counts are not looked at");
+    second[0] = 9;
+    found(1, 3, "a bad pointer in a cell that would be entered after the answer");
+    corners_at(3, 2, 4, 9, 11, 13);
+    refused_so(ROOMS_DAMAGED_STORE);
+    corners_at(3, 2, 4, 9, 11, 12);
+    refused_so(ROOMS_DAMAGED_STORE); /* its cell is entered before it says that there is nothing */
+    corners_at(8, 8, 12, 16, 16, 16);
+    found(1, 3, "the same pointer, of a child beside the box");
+    second[0] = 0;
+    root[6] = 9;
+    corners_at(0, 0, 0, 16, 16, 16);
+    refused_so(ROOMS_DAMAGED_STORE); /* a later child's pointer is tested on entering its parent */
+    corners_at(0, 0, 0, 16, 8, 16);
+    found(1, 3, "the same pointer, of a child beside the box");
+    corners_at(0, 0, 0, 16, 0, 16);
+    found(0, 0, "the same in a box of no voxels, where no cell is entered");
+    root[6] = 0;
+    before.words[0][160] = before.words[0][161] = 0;
+    corners_at(0, 0, 0, 16, 16, 16);
+    found(1, 5, "the first leaf is zero: entered, and counted");
+    second[4] = 0;
+    found(0, 4, "the second cell has no child: entered, and counted");
+}
+
+static void try_any(void)
+{
+    static const char *const lows[] = {"low_x", "low_y", "low_z"}, *const highs[] = {"high_x", "high_y", "high_z"};
+    static const size_t low[] = {3, 2, 4}, high[] = {9, 11, 13};
+    static const uint64_t neither[] = {3, 5, 4}; /* below 8 along x there is nothing of child 7, below 12 along z nothing of its leaf */
+    begin("rooms_any", call_any);
+    put_store(pair, sizeof pair);
+    /* Five cells: the root, child 0, its leaf, which has (2, 3, 4), not in the box, child 7, and its leaf, which has (8, 10, 12). A box with the
+       second voxel has these highs in this order. Of the lows only 4 can be that of z, or the first leaf has no voxel in the box and four
+       cells are entered; with lows of 2, 3 and 4 it has the first voxel, after three. */
+    give(2, 11, words("store", 0), whole("store_words", STORE), whole("scene", 1), whole("low_x", 3), whole("low_y", 2), whole("low_z", 4), whole("high_x", 9), whole("high_y", 11), whole("high_z", 13), words("solid", 1), wide("entered"));
+    found(1, 5, "a box with the second voxel, past the first");
+    orders();
+    refused_store();
+    refused_word(34, 17, ROOMS_DAMAGED_STORE); /* the scene's depth */
+    refused_word(35, 2, ROOMS_DAMAGED_STORE);  /* its root, a cell that is not kept */
+    for (size_t axis = 0; axis < 3; axis++) {
+        refused(whole(lows[axis], high[axis] + 1), ROOMS_OUTSIDE);
+        refused(whole(highs[axis], 17), ROOMS_OUTSIDE);
+        change(whole(highs[axis], high[axis] - 1));
+        found(0, neither[axis], "a box with neither voxel");
+        change(whole(highs[axis], high[axis]));
+        change(whole(lows[axis], high[axis]));
+        found(0, 0, "a box of no voxels");
+        change(whole(lows[axis], low[axis]));
+    }
+    corners_at(2, 3, 4, 9, 11, 13);
+    found(1, 3, "a box with both voxels");
+    corners_at(0, 0, 0, 16, 16, 16);
+    found(1, 3, "the whole room");
+    corners_at(4, 4, 4, 16, 16, 16);
+    found(1, 4, "the first leaf is beside the box");
+    corners_at(0, 0, 0, 16, 16, 4);
+    found(0, 2, "the root and child 0, and none of its leaves");
+    corners_at(0, 0, 8, 8, 8, 16);
+    found(0, 1, "the root, and none of its children");
+    before.words[0][35] |= 7u << 29; /* the room mirrored in all axes: (7, 5, 3) in child 0, then (13, 12, 11) in child 7 */
+    corners_at(0, 6, 0, 16, 16, 16);
+    found(1, 5, "mirrored, and children by their numbers as the room shows them");
+    before.words[0][35] &= ~(7u << 29);
+    try_entered();
+    change(whole("scene", 0));
+    corners_at(0, 0, 0, 4, 3, 2);
+    found(0, 0, "the empty scene, of depth 2");
+}
+
 static void try_kept(void)
 {
     begin("rooms_kept", call_kept);
@@ -1024,6 +1118,7 @@ int main(int argc, char **argv)
     try_sight();
     try_cell();
     try_box();
+    try_any();
     try_kept();
     try_outline();
     try_pack();

@@ -33,6 +33,8 @@ fn main() -> Result<(), Refusal> {
     let full = rooms::cell(&store, scene, 2, 0, 1, 0)?;
     println!("cell of height 2 at 0 1 0: {}", if full { "non-empty" } else { "empty" });
     println!("solid in the whole room: {}", rooms::box_count(&store, scene, [0, 0, 0], [8, 8, 8])?);
+    let way = rooms::anything(&store, scene, [1, 0, 0], [7, 8, 8])?;
+    println!("box 1 0 0 to 7 8 8: {}, cells entered {}", if way.solid { "something in the way" } else { "free" }, way.entered);
     println!("leaves kept: {}", rooms::kept(&store, 2)?);
 
     let length = rooms::pack(&store, scene, &mut pack_scratch, &mut out)?;

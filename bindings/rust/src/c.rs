@@ -1,4 +1,4 @@
-//! The fourteen C calls of include/rooms.h over slices: the answer's number is returned, values go to out parameters,
+//! The fifteen C calls of include/rooms.h over slices: the answer's number is returned, values go to out parameters,
 //! zeros on a refusal. Each is safe: a slice and a reference are all that the library asks for, of any content and length, and
 //! `&mut` overlaps with nothing. The only `unsafe` of this crate is here.
 
@@ -45,6 +45,19 @@ pub mod declared {
             high_y: u32,
             high_z: u32,
             count: *mut u64,
+        ) -> u32;
+        pub fn rooms_any(
+            store: *const u32,
+            store_words: usize,
+            scene: u32,
+            low_x: u32,
+            low_y: u32,
+            low_z: u32,
+            high_x: u32,
+            high_y: u32,
+            high_z: u32,
+            solid: *mut u32,
+            entered: *mut u64,
         ) -> u32;
         pub fn rooms_kept(store: *const u32, store_words: usize, height: u32, count: *mut u32) -> u32;
         pub fn rooms_outline(store: *const u32, store_words: usize, scene: u32, out: *mut u8, out_bytes: usize, length: *mut u32) -> u32;
@@ -109,6 +122,10 @@ pub fn rooms_cell(store: &[u32], scene: u32, height: u32, x: u32, y: u32, z: u32
 
 pub fn rooms_box(store: &[u32], scene: u32, low: [u32; 3], high: [u32; 3], count: &mut u64) -> u32 {
     unsafe { declared::rooms_box(store.as_ptr(), store.len(), scene, low[0], low[1], low[2], high[0], high[1], high[2], count) }
+}
+
+pub fn rooms_any(store: &[u32], scene: u32, low: [u32; 3], high: [u32; 3], solid: &mut u32, entered: &mut u64) -> u32 {
+    unsafe { declared::rooms_any(store.as_ptr(), store.len(), scene, low[0], low[1], low[2], high[0], high[1], high[2], solid, entered) }
 }
 
 pub fn rooms_kept(store: &[u32], height: u32, count: &mut u32) -> u32 {

@@ -107,6 +107,26 @@ pub fn box_count(store: &[u32], scene: u32, low: [u32; 3], high: [u32; 3]) -> Re
     accepted(number, count)
 }
 
+/// Whether a box has anything solid.
+#[derive(Clone, Copy, Debug, PartialEq, Eq)]
+pub struct Anything {
+    pub solid: bool,
+    /// How many cells were entered for that, the root and leaves among them, one entered twice counted twice; 0 in an empty scene and in
+    /// a box without voxels.
+    pub entered: u64,
+}
+
+/// Is anything in the way: whether any voxel from the low corner up to the high one, which is outside, is solid. Cells are entered from the
+/// root on, of each cell's children those that share a voxel with the box, by rising number as the room shows them, each one's own children
+/// before the next, up to the first leaf with a solid voxel in the box. Counts kept in the store are not looked at.
+/// Refusals: as for a voxel; `Outside` as for a box. The last `DamagedStore` is given, in a cell entered, for bad pointers to children that
+/// share a voxel with the box, and for no others.
+pub fn anything(store: &[u32], scene: u32, low: [u32; 3], high: [u32; 3]) -> Result<Anything, Refusal> {
+    let (mut solid, mut entered) = (0, 0);
+    let number = c::rooms_any(store, scene, low, high, &mut solid, &mut entered);
+    accepted(number, Anything { solid: solid == 1, entered })
+}
+
 /// The cells kept at a height, 2 to 16. Refusals, in order: `DamagedStore` (header), `Outside`.
 pub fn kept(store: &[u32], height: u32) -> Result<u32, Refusal> {
     let mut count = 0;

@@ -24,6 +24,8 @@ fn null_pointers_of_length_0() {
         assert_eq!((rooms_cell(null(), 0, 0, 2, 0, 0, 0, &mut a), a), (2, 0));
         let mut count = 9;
         assert_eq!((rooms_box(null(), 0, 0, 0, 0, 0, 1, 1, 1, &mut count), count), (2, 0));
+        (a, count) = (9, 9);
+        assert_eq!((rooms_any(null(), 0, 0, 0, 0, 0, 1, 1, 1, &mut a, &mut count), a, count), (2, 0, 0));
         assert_eq!((rooms_kept(null(), 0, 2, &mut a), a), (2, 0));
         assert_eq!((rooms_outline(store, words, 0, null_mut(), 0, &mut a), a), (12, 0));
         assert_eq!((rooms_pack(store, words, 0, null_mut(), 0, null_mut(), 0, &mut a), a), (11, 0));

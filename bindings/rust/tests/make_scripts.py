@@ -48,6 +48,15 @@ def box(scene, low, high):
     return b"B" + u32(scene, *low, *high)
 
 
+def anything(scene, low, high):
+    return b"Y" + u32(scene, *low, *high)
+
+
+def both(scene, low, high):
+    """A box, counted and asked whether it holds anything."""
+    return box(scene, low, high) + anything(scene, low, high)
+
+
 def kept(height):
     return b"K" + u32(height)
 
@@ -195,13 +204,19 @@ def by_hand(capacity, scenes, leaves, lists, spare=2):
 # ---- the scripts
 
 
+# Boxes in a room of edge 16 that hold something and that don't: small ones, whole cells, such with faces a voxel off.
+WAYS = [((0, 0, 0), (16, 16, 16)), ((1, 1, 1), (15, 15, 15)), ((0, 0, 0), (8, 8, 8)), ((8, 8, 8), (16, 16, 16)), ((8, 0, 0), (16, 8, 8))]
+WAYS += [((4, 4, 0), (8, 8, 4)), ((3, 3, 3), (5, 5, 5)), ((7, 7, 7), (9, 9, 9)), ((0, 8, 8), (8, 16, 16)), ((2, 2, 0), (16, 3, 16))]
+WAYS += [((1, 0, 0), (3, 1, 16)), ((12, 12, 12), (16, 16, 16)), ((0, 0, 6), (16, 16, 8)), ((9, 1, 2), (10, 2, 3)), ((0, 0, 0), (16, 16, 1))]
+
+
 def questions():
     """The store and its questions, nothing added: damaged words in each region, orders, odd arguments."""
     script = b""
     # before the first new store: a slice of no words
-    script += voxel(0, 0, 0, 0) + cell(0, 0, 0, 0, 0) + box(0, (0, 0, 0), (0, 0, 0)) + kept(2) + outline_out(0, 10) + STORE_SUM
+    script += voxel(0, 0, 0, 0) + cell(0, 0, 0, 0, 0) + both(0, (0, 0, 0), (0, 0, 0)) + kept(2) + outline_out(0, 10) + STORE_SUM
     for words in (0, 1, 31, 32, 159, 160, 301, 302):
-        script += new(1, words) + voxel(0, 0, 0, 0) + kept(2) + box(0, (0, 0, 0), (0, 0, 0)) + cell(0, 0, 0, 0, 0) + outline_out(0, 8)
+        script += new(1, words) + voxel(0, 0, 0, 0) + kept(2) + both(0, (0, 0, 0), (0, 0, 0)) + cell(0, 0, 0, 0, 0) + outline_out(0, 8)
     for c in (0, 1, 2, 921, 922, 65535, 65536, 65537, MOST):
         script += new(c, 330) + new(c, 131072) + new(c, min(131072, used(c))) + new(c, min(131072, used(c) - 1))
 
@@ -221,9 +236,9 @@ def questions():
         for height, point in ((0, (3, 0, 0)), (1, (1, 1, 1)), (2, (0, 0, 0)), (2, (1, 0, 0)), (3, (0, 0, 0)), (4, (0, 0, 0))):
             asked += cell(s, height, *point)
         asked += cell(s, 17, 0, 0, 0) + cell(s, MOST, 0, 0, 0)
-        asked += box(s, (0, 0, 0), (8, 8, 8)) + box(s, (0, 0, 0), (4, 4, 4)) + box(s, (1, 2, 3), (3, 4, 4))
-        asked += box(s, (8, 8, 8), (8, 8, 8)) + box(s, (0, 0, 0), (0, 9, 0)) + box(s, (2, 0, 0), (1, 0, 0))
-        asked += box(s, (0, 0, 0), (16, 16, 16)) + box(s, (16, 16, 16), (16, 16, 16)) + box(s, (0, 5, 0), (0, 4, 0))
+        asked += both(s, (0, 0, 0), (8, 8, 8)) + both(s, (0, 0, 0), (4, 4, 4)) + both(s, (1, 2, 3), (3, 4, 4))
+        asked += both(s, (8, 8, 8), (8, 8, 8)) + both(s, (0, 0, 0), (0, 9, 0)) + both(s, (2, 0, 0), (1, 0, 0))
+        asked += both(s, (0, 0, 0), (16, 16, 16)) + both(s, (16, 16, 16), (16, 16, 16)) + both(s, (0, 5, 0), (0, 4, 0))
         for room in (0, 5, 6, 400):
             asked += outline_out(s, room)
     for h in (0, 1, 2, 3, 4, 16, 17, MOST):
@@ -234,8 +249,8 @@ def questions():
     few = b""
     for s in (0, 1, 2, 4, 5):
         few += voxel(s, 0, 0, 0) + voxel(s, 9, 0, 0) + cell(s, 2, 0, 0, 0)
-        few += box(s, (0, 0, 0), (4, 4, 4)) + box(s, (4, 4, 4), (8, 8, 8)) + box(s, (3, 3, 3), (2, 9, 9)) + outline_out(s, 300)
-        few += box(s, (0, 0, 0), (8, 8, 8)) + box(s, (0, 0, 0), (16, 16, 16)) + box(s, (8, 8, 8), (16, 16, 16))
+        few += both(s, (0, 0, 0), (4, 4, 4)) + both(s, (4, 4, 4), (8, 8, 8)) + both(s, (3, 3, 3), (2, 9, 9)) + outline_out(s, 300)
+        few += both(s, (0, 0, 0), (8, 8, 8)) + both(s, (0, 0, 0), (16, 16, 16)) + both(s, (8, 8, 8), (16, 16, 16))
     few += kept(2) + kept(1)
     header = [(0, 0), (0, 1), (0, 3), (0, 65537), (1, 65), (1, MOST), (2, 3), (16, 3), (16, 2), (17, 1), (31, 1)]
     scenes = [(32, 1), (32, 17), (32, MOST), (33, 0x20000000), (33, pointer(0, 2)), (35, pointer(0, 5)), (36, 1), (37, pointer(1, 2))]
@@ -257,19 +272,37 @@ def questions():
         script += base + b"".join(word(at, n) for at, n in words) + few + STORE_SUM
     # a bad pointer below a count taken
     script += base + word(above + 1, pointer(0, 3)) + word(second, pointer(0, 3)) + few + STORE_SUM
+    # bad pointers beside boxes and in cells that are entered after an answer or never; the room that shows the cell above mirrored has its
+    # children the other way round
+    script += base + word(above + 6, pointer(0, 2)) + word(second + 5, pointer(0, 2))
+    for s in (0, 1, 4):
+        for low, high in WAYS:
+            script += both(s, low, high)
 
     # empty used cells answer as empty in questions, and are damage for outline out
     script += by_hand(2, [(2, pointer(0, 0)), (3, pointer(0, 0))], [0], {3: [[0] * 8]})
     script += voxel(0, 0, 0, 0) + cell(0, 2, 0, 0, 0) + cell(0, 1, 0, 0, 0) + cell(0, 0, 0, 0, 0)
-    script += voxel(1, 0, 0, 0) + cell(1, 3, 0, 0, 0) + cell(1, 2, 0, 0, 0) + box(1, (0, 0, 0), (8, 8, 8)) + outline_out(0, 99)
+    script += voxel(1, 0, 0, 0) + cell(1, 3, 0, 0, 0) + cell(1, 2, 0, 0, 0) + both(1, (0, 0, 0), (8, 8, 8)) + outline_out(0, 99)
+    script += both(0, (0, 0, 0), (4, 4, 4)) + both(0, (1, 1, 1), (2, 2, 2)) + both(1, (3, 3, 3), (5, 5, 5))
     # the 64-voxel leaf room, box 64
     script += by_hand(1, [(2, pointer(4, 0))], [2**64 - 1], {})
-    script += box(0, (0, 0, 0), (4, 4, 4)) + box(0, (0, 0, 0), (4, 4, 3)) + voxel(0, 3, 3, 3) + outline_out(0, 14) + outline_out(0, 13)
+    script += both(0, (0, 0, 0), (4, 4, 4)) + both(0, (0, 0, 0), (4, 4, 3)) + voxel(0, 3, 3, 3) + outline_out(0, 14) + outline_out(0, 13)
     # a full room of depth 16 answers at once
     script += by_hand(1, [(16, pointer(1, 0))], [2**64 - 1], {h: [[pointer(h % 8, 0)] * 8] for h in range(3, 17)})
-    script += box(0, (0, 0, 0), (65536, 65536, 65536)) + box(0, (1, 0, 0), (2, 65536, 1))
-    script += box(0, (32768, 32768, 32768), (65536, 65536, 65536))
+    script += both(0, (0, 0, 0), (65536, 65536, 65536)) + both(0, (1, 0, 0), (2, 65536, 1))
+    script += both(0, (32768, 32768, 32768), (65536, 65536, 65536))
     script += voxel(0, 65535, 0, 1) + cell(0, 16, 0, 0, 0) + cell(0, 0, 65535, 65535, 65535) + outline_out(0, 65536)
+    # rooms of zero leaves: every cell is entered, and one that is there eight times counts eight times
+    hollow = {h: [[pointer(h % 8, 0)] * 8] for h in range(3, 17)}
+    script += by_hand(1, [(d, pointer(d % 8, 0)) for d in range(2, 17)], [0], hollow)
+    for s in range(15):
+        edge = 4 << s
+        script += both(s, (0, 0, 0), (edge, edge, edge)) + both(s, (0, edge // 2, 0), (edge // 2, edge, edge))
+        script += both(s, (0, 0, 1), (edge, edge, 1)) + both(s, (edge - 1, edge - 1, 0), (edge, edge, 3))
+    # a floor just below the box: many leaves entered that have nothing in it, then the last voxel, or not
+    floor = outline(5, [(4 * i, 4 * j, 0) for i in range(8) for j in range(8)] + [(31, 31, 31)])
+    script += fresh(9) + add(floor) + both(0, (0, 0, 1), (32, 32, 32)) + both(0, (0, 0, 1), (32, 32, 31)) + both(0, (0, 0, 0), (32, 32, 32))
+    script += both(0, (29, 29, 29), (32, 32, 32)) + both(0, (29, 29, 29), (32, 31, 32)) + both(0, (1, 1, 0), (4, 4, 32))
     return script
 
 
@@ -286,7 +319,7 @@ def adding():
     script = add(S1)  # no store yet
     # S8, then S9 with a full store that still accepts a room without new cells
     script += fresh(2) + add(ROOM_P) + add(ROOM_Q) + kept(3) + kept(2) + voxel(0, 0, 0, 0) + voxel(1, 3, 7, 0)
-    script += box(0, (0, 0, 0), (8, 8, 8)) + box(1, (0, 0, 0), (8, 8, 8)) + outline_out(0, 99) + outline_out(1, 99) + STORE_SUM
+    script += both(0, (0, 0, 0), (8, 8, 8)) + both(1, (0, 0, 0), (8, 8, 8)) + outline_out(0, 99) + outline_out(1, 99) + STORE_SUM
     script += fresh(1) + add(ROOM_P) + STORE_SUM + add(S1) + add(ROOM_Q) + add(S1) + kept(2) + STORE_SUM
     script += fresh(2) + add(ROOM_P) + add(outline(2, [(0, 0, 0), (1, 1, 0), (0, 1, 1)])) + add(ROOM_P) + add(ROOM_Q) + STORE_SUM
     # 64 and 65 scenes; a broken file is 6 even then
@@ -318,12 +351,12 @@ def adding():
             script += fresh(12) + add(outline(h, voxels))
             for t in range(1, 8):
                 script += add(outline(h, mirror(voxels, t, edge)))
-            script += kept(h) + kept(2) + outline_out(3, 400) + box(5, (0, 0, 0), (edge // 2, edge, edge)) + STORE_SUM
+            script += kept(h) + kept(2) + outline_out(3, 400) + both(5, (0, 0, 0), (edge // 2, edge, edge)) + STORE_SUM
             eight = []
             for i in range(8):
                 for x, y, z in mirror(voxels, (i * 3) % 8, edge):
                     eight.append((x + edge * (i & 1), y + edge * (i >> 1 & 1), z + edge * (i >> 2 & 1)))
-            script += add(outline(h + 1, eight)) + kept(h + 1) + kept(h) + box(8, (0, 0, 0), (2 * edge, 2 * edge, 2 * edge)) + STORE_SUM
+            script += add(outline(h + 1, eight)) + kept(h + 1) + kept(h) + both(8, (0, 0, 0), (2 * edge, 2 * edge, 2 * edge)) + STORE_SUM
 
     # capacity refused at each height, words as they were; then a smaller room still fits
     for c in (1, 2, 3, 4, 5, 6, 8):
@@ -347,7 +380,7 @@ def adding():
         for x, y, z in voxels[:4]:
             script += voxel(0, x, y, z) + voxel(1, x, edge - 1 - y, edge - 1 - z) + voxel(0, x ^ 1, y, z)
             script += cell(0, min(d, 3), x >> 3, y >> 3, z >> 3 if d >= 3 else 0)
-        script += box(0, (0, 0, 0), (edge, edge, edge)) + box(1, (0, 0, 0), (edge, edge // 2, edge))
+        script += both(0, (0, 0, 0), (edge, edge, edge)) + both(1, (0, 0, 0), (edge, edge // 2, edge))
         script += outline_out(0, 65536) + outline_out(1, 65536)
     return script
 

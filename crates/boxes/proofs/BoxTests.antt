@@ -1,4 +1,4 @@
--- A box question's tests as code meets them: a box that lies not outside ends inside the room; and the whole outcome of a scene that can be asked.
+-- A box question past the scene's tests, and the whole outcome of a scene that can be asked.
 -- By cases on the tests. Assumes nothing.
 use mathlib.Core.Path.{_≡_, refl, ap, _∙_, subst}
 use mathlib.Core.Bool.{Bool, true, false, not, _||_}
@@ -14,33 +14,11 @@ use Rattle.paper.specs.declared.Refusal.{Refusal}
 use Rattle.paper.specs.declared.Tally.{Tally}
 use Rattle.paper.specs.declared.Tally.the-variants.{Solid, Damaged}
 use Rattle.laws.proofs.Tests.{true-T}
-use Rattle.boxes_parts.specs.Parts.{Upto}
 use Rattle.boxes.specs.Box.{tallyTold, boxTold}
 use Rattle.store_entry.specs.declared.Entry.the-variants.{Refused}
 use Rattle.store_entry.specs.Entry.{pastEntry}
 use Rattle.store_entry.proofs.Asked.{refusedBy}
 use Rattle.store_entry.proofs.Entries.{Entered, Says, past-outside, past-inside, past-settled}
-
--- ---- a side
-
-side-within : (S low high : ℕ) → axisOutside S low high ≡ false → high ≤ S
-side-within S low high e = ltb-false S high (right (ltb high low) (ltb S high) e)
-  where
-    right : (a b : Bool) → (a || b) ≡ false → b ≡ false
-    right true b e = absurd (subst T e tt)
-    right false b e = e
-
--- ---- the three sides
-
-either : (a b c : Bool) → (a || b || c) ≡ false → (a ≡ false) × (b ≡ false) × (c ≡ false)
-either true b c e = absurd (subst T e tt)
-either false true c e = absurd (subst T e tt)
-either false false c e = (refl, refl, e)
-
-pub box-within : (S : ℕ) (low high : Point) → (axisOutside S (low .x) (high .x) || axisOutside S (low .y) (high .y) || axisOutside S (low .z) (high .z)) ≡ false → Upto S high
-box-within S low high e =
-    let p = either (axisOutside S (low .x) (high .x)) (axisOutside S (low .y) (high .y)) (axisOutside S (low .z) (high .z)) e in
-    record { uptoX = side-within S (low .x) (high .x) (p .0); uptoY = side-within S (low .y) (high .y) (p .1); uptoZ = side-within S (low .z) (high .z) (p .2) }
 
 -- ---- told past the scene's tests
 

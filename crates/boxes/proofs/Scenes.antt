@@ -14,58 +14,10 @@ use Rattle.paper.specs.Questions.{boxTally}
 use Rattle.paper.specs.Calls.{sceneTally}
 use Rattle.paper.specs.declared.Tally.the-variants.{Solid}
 use Rattle.laws.proofs.Tests.{true-T, and-left, and-right}
-use Rattle.boxes_parts.specs.Parts.{pastIn, Positive, lastOf, Upto, Spans}
-use Rattle.boxes.specs.Box.{InCell, pointerIn, pointerPart}
+use Rattle.boxes_parts.specs.Parts.{InCell, lastOf, Upto}
+use Rattle.boxes_parts.proofs.Corners.{first-stays, last-ends, box-spans}
+use Rattle.boxes.specs.Box.{pointerIn, pointerPart}
 use Rattle.boxes.proofs.Parts.{pointer-outside}
-
--- ---- a box with a voxel, in a cube of edge S
-
-module _ (low high : Point) (e : hasVoxel low high ≡ true) where
-  abbrev onX : Bool
-  onX = ltb (low .x) (high .x)
-
-  abbrev onY : Bool
-  onY = ltb (low .y) (high .y)
-
-  abbrev onZ : Bool
-  onZ = ltb (low .z) (high .z)
-
-  -- low lies before high
-  before-x : low .x < high .x
-  before-x = ltb→lt (low .x) (high .x) (and-left onX onY (and-left (onX && onY) onZ (true-T e)))
-
-  before-y : low .y < high .y
-  before-y = ltb→lt (low .y) (high .y) (and-right onX onY (and-left (onX && onY) onZ (true-T e)))
-
-  before-z : low .z < high .z
-  before-z = ltb→lt (low .z) (high .z) (and-right (onX && onY) onZ (true-T e))
-
-  pub high-positive : Positive high
-  high-positive = record { posX = omega (arith, before-x); posY = omega (arith, before-y); posZ = omega (arith, before-z) }
-
-  module _ (S : ℕ) (u : Upto S high) where
-    stays : (a b : ℕ) → a < b → b ≤ S → a % S ≡ a
-    stays a b l h = mod-eq-of-lt (omega arith)
-
-    ends : (a b : ℕ) → a < b → b ≤ S → (b - 1) % S + 1 ≡ b
-    ends a b l h = let r : (b - 1) % S ≡ b - 1 = mod-eq-of-lt (omega arith) in omega arith
-
-    pub first-stays : inChild S low ≡ low
-    first-stays = λ i. point (stays (low .x) (high .x) before-x (u .uptoX) i) (stays (low .y) (high .y) before-y (u .uptoY) i) (stays (low .z) (high .z) before-z (u .uptoZ) i)
-
-    pub last-ends : pastIn S (lastOf high) ≡ high
-    last-ends = λ i. point (ends (low .x) (high .x) before-x (u .uptoX) i) (ends (low .y) (high .y) before-y (u .uptoY) i) (ends (low .z) (high .z) before-z (u .uptoZ) i)
-
-    spans : (a b : ℕ) → a < b → b ≤ S → a % S ≤ (b - 1) % S
-    spans a b l h = omega (arith, stays a b l h, ends a b l h)
-
-    pub box-spans : Spans S low (lastOf high)
-    box-spans =
-        record {
-          spanX = spans (low .x) (high .x) before-x (u .uptoX);
-          spanY = spans (low .y) (high .y) before-y (u .uptoY);
-          spanZ = spans (low .z) (high .z) before-z (u .uptoZ);
-        }
 
 -- ---- a scene: the root's pointer
 

@@ -11,19 +11,13 @@ use Rattle.paper.specs.Calls.{boxOutside, sceneTally, boxDamaged}
 use Rattle.paper.specs.Answers.{Told, told}
 use Rattle.points.specs.Seeing.{childNoAt}
 use Rattle.store_entry.specs.Entry.{pastEntry}
-use Rattle.boxes_parts.specs.Parts.{Spans, pastIn}
+use Rattle.boxes_parts.specs.Parts.{InCell, pastIn}
 use Rattle.paper.specs.declared.Tally.{Tally}
 use Rattle.paper.specs.declared.Tally.the-variants.{Solid as Counted, Damaged as Unsound}
 use Rattle.boxes.specs.declared.count.Ended.{Ended}
 use Rattle.boxes.specs.declared.count.Ended.the-variants.{Absent, Damaged, At}
 
 -- ---- by its first voxel and its last, in a cell
-
--- what counting in a cell of list k seen under mirror m asks for
-pub record InCell (k m : ℕ) (low last : Point) : Type 0 where
-  pub listed : k < heights
-  pub mirrors : m < 8
-  pub spans : Spans (edge k) low last
 
 -- the pointer of cell n of list k + 1, seen under m, to the child that holds v
 abbrev pub childTaken : List (List Cell) → ℕ → ℕ → ℕ → Point → ℕ

@@ -1,2 +1,3 @@
--- the part of a box in a child
+-- a box by its corners, and its part in a child
+pub mod Corners
 pub mod Cuts

@@ -4,6 +4,8 @@ use mathlib.Core.Bool.{Bool, true, cond, not, _&&_}
 use Prim.Native.Nat.{ℕ, _+_, _-_, _/_, _%_, _<_, _≤_}
 use lib.Dec.{eqb, leb}
 use Rattle.paper.specs.Rooms.{Point, point, markX, markY, markZ}
+use Rattle.paper.specs.Outline.{edge}
+use Rattle.paper.specs.Store.{heights}
 use Rattle.points.specs.Seeing.{childNoAt}
 
 -- ---- by its corners
@@ -54,3 +56,11 @@ spreadsOver k low last = cond (eqb k 0) true (not (eqb (childNoAt (k - 1) low) (
 -- on the axes that m marks b's coordinate, on the others a's
 abbrev pub chosen : ℕ → Point → Point → Point
 chosen m a b = point (cond (markX m) (b .x) (a .x)) (cond (markY m) (b .y) (a .y)) (cond (markZ m) (b .z) (a .z))
+
+-- ---- a cell of list k, seen under mirror m
+
+-- what looking for the box's voxels in it asks
+pub record InCell (k m : ℕ) (low last : Point) : Type 0 where
+  pub listed : k < heights
+  pub mirrors : m < 8
+  pub spans : Spans (edge k) low last

@@ -62,6 +62,10 @@ pub mod Sums
 pub mod Boxes
 pub mod Counts
 pub mod BoxTallies
+-- searches
+pub mod SearchLaws
+pub mod SharingCells
+pub mod SearchTrue
 -- any list of calls on a new store
 pub mod TreesRead
 pub mod MirrorClaim
@@ -73,6 +77,7 @@ pub mod Running
 pub mod Walks
 pub mod Holding
 pub mod CountClaim
+pub mod AnyClaim
 pub mod NoDamage
 pub mod Differing
 pub mod Alone

@@ -13,12 +13,15 @@ use Rattle.paper.specs.Order.{firstOf, settled}
 use Rattle.paper.specs.Detail.{detailOrder, detailOutcome}
 use Rattle.paper.specs.Calls.{newOrder, newOutcome, addOutcome, noScene, questionOrder, voxelOutside, voxelDamaged, voxelOutcome, cellOutside, cellDamaged, cellOutcome, boxOutside, boxDamaged, boxOutcome, keptOutcome, outlineOutcome, packOutcome, checkOrder, checkOutcome, packedVoxelOrder, packedVoxelOutcome, openOrder, openOutcome, askOrder, askOutcome}
 use Rattle.paper.specs.Sight.{decider, givesTwo, sightDamaged, sightOutside, sightOutcome}
-use Rattle.paper.specs.Runs.{StoreQuestion, voxel, sight, cell, box, kept, outline, pack, FileQuestion, check, packedVoxel, opening, ask, detail, Call, new, add, ofStore, ofFile, Held, storeAnswer, fileAnswer, outcomeOf}
+use Rattle.paper.specs.Anything.{anyDamaged, anyOutcome}
+use Rattle.paper.specs.Runs.{StoreQuestion, voxel, sight, cell, box, anything, kept, outline, pack, FileQuestion, check, packedVoxel, opening, ask, detail, Call, new, add, ofStore, ofFile, Held, storeAnswer, fileAnswer, outcomeOf}
 use Rattle.laws.proofs.Tests.{T-true}
 use Rattle.laws.proofs.Refusals.{settled-number, never-2, sound-never-2, question-never-2}
 use Rattle.laws.proofs.Walks.{voxel-clear, cell-clear}
 use Rattle.laws.proofs.Holding.{Holds, header-ok, scene-ok, there-below}
 use Rattle.laws.proofs.CountClaim.{scene-box-clear}
+use Rattle.laws.proofs.SearchTrue.{invs-searchable}
+use Rattle.laws.proofs.AnyClaim.{scene-any-clear}
 
 -- 2 is in no order of a question that looks at no store
 file-undamaged : (q : FileQuestion) → fileAnswer q .number ≡ 2 → ⊥
@@ -49,6 +52,9 @@ module _ {ws : List ℕ} {held : Held} (s : Holds ws held) where
   box-undamaged : (n : ℕ) (low high : Point) → noScene ws n ≡ false → boxDamaged ws n low high ≡ false
   box-undamaged n low high e = scene-box-clear ws (s .ok) n low high (there-below s n e)
 
+  any-undamaged : (n : ℕ) (low high : Point) → noScene ws n ≡ false → anyDamaged ws n low high ≡ false
+  any-undamaged n low high e = scene-any-clear ws (s .ok) (invs-searchable (keptOf ws) (s .invs)) n low high (there-below s n e)
+
   -- ---- the calls
 
   question-sound : (n : ℕ) (outside walk : Bool) (vs : List ℕ) → (noScene ws n ≡ false → walk ≡ false)
@@ -71,11 +77,12 @@ module _ {ws : List ℕ} {held : Held} (s : Holds ws held) where
       go (some v) = ne-eqb (voxelOutcome ws n v .number) 2 (voxel-never-2 n v)
 
   store-undamaged : (q : StoreQuestion) → storeAnswer ws q .number ≡ 2 → ⊥
-  unfolding sightOutcome cellOutcome boxOutcome keptOutcome outlineOutcome packOutcome
+  unfolding sightOutcome cellOutcome boxOutcome anyOutcome keptOutcome outlineOutcome packOutcome
   store-undamaged (voxel n v) = voxel-never-2 n v
   store-undamaged (sight n a b) = question-sound n (sightOutside ws n a b) (sightDamaged ws n a b) _ (λ e. sight-undamaged n a b)
   store-undamaged (cell n h c) = question-sound n (cellOutside ws n h c) (cellDamaged ws n h c) _ (cell-undamaged n h c)
   store-undamaged (box n low high) = question-sound n (boxOutside ws n low high) (boxDamaged ws n low high) _ (box-undamaged n low high)
+  store-undamaged (anything n low high) = question-sound n (boxOutside ws n low high) (anyDamaged ws n low high) _ (any-undamaged n low high)
   store-undamaged (kept h) = sound-never-2 _ _ _ _ _ sound-header tt
   store-undamaged (outline n out) = sound-never-2 _ _ _ _ _ sound-store tt
   store-undamaged (pack n scratch out) = sound-never-2 _ _ _ _ _ sound-store tt

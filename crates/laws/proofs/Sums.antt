@@ -79,7 +79,7 @@ sum-rows (suc n) m f =
     ap (λ (k : ℕ). sum k f) e ∙ sum-split (n * m) m f ∙ ap (λ (a : ℕ). a + sum m (λ j. f (n * m + j))) (sum-rows n m f)
 
 -- backwards
-sum-head : (n : ℕ) (f : ℕ → ℕ) → sum (suc n) f ≡ f 0 + sum n (λ i. f (suc i))
+pub sum-head : (n : ℕ) (f : ℕ → ℕ) → sum (suc n) f ≡ f 0 + sum n (λ i. f (suc i))
 unfolding sum
 sum-head zero f = omega arith
 sum-head (suc n) f = omega (arith, sum-head n f)

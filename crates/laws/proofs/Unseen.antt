@@ -16,9 +16,9 @@ use Rattle.paper.specs.Answers.{Outcome}
 use Rattle.paper.specs.Order.{when, firstOf, settled}
 use Rattle.paper.specs.Calls.{over, cleared, noScene, outlineBytes, outlineShort, outlineOutOrder, outlineOutcome}
 use Rattle.paper.specs.Calls.{scratchFor, packBytes, packShort, packOrder, packScratchAfter, packOutcome, packedOrder, checkOrder, checkScratchAfter, checkOutcome}
-use Rattle.paper.specs.Runs.{StoreQuestion, voxel, sight, cell, box, kept, outline, pack, Call, new, add, ofStore, ofFile, storeAnswer, outcomeOf, writes, wordsAfter, besides, usedBy}
+use Rattle.paper.specs.Runs.{StoreQuestion, voxel, sight, cell, box, anything, kept, outline, pack, Call, new, add, ofStore, ofFile, storeAnswer, outcomeOf, writes, wordsAfter, besides, usedBy}
 use Rattle.paper.specs.Claims.{SameAnswer, SameBut, lengthIn, C11}
-use Rattle.laws.proofs.UnseenAnswers.{voxel-unseen, sight-unseen, cell-unseen, box-unseen, kept-answer-unseen, outline-unseen, pack-unseen}
+use Rattle.laws.proofs.UnseenAnswers.{voxel-unseen, sight-unseen, cell-unseen, box-unseen, any-unseen, kept-answer-unseen, outline-unseen, pack-unseen}
 use Rattle.laws.proofs.Orders.{told-number, told-values}
 use Rattle.laws.proofs.Scratch.{pack-scratch, check-scratch}
 use Rattle.laws.proofs.UnseenWrites.{Written, new-written, new-short, add-written, add-short}
@@ -59,6 +59,7 @@ question-unseen (voxel n v) f r h = voxel-unseen f r h n v
 question-unseen (sight n a b) f r h = sight-unseen f r h n a b
 question-unseen (cell n k c) f r h = cell-unseen f r h n k c
 question-unseen (box n low high) f r h = box-unseen f r h n low high
+question-unseen (anything n low high) f r h = any-unseen f r h n low high
 question-unseen (kept k) f r h = kept-answer-unseen f r h k
 question-unseen (outline n out) f r h = outline-unseen f r h n out
 question-unseen (pack n scratch out) f r h = pack-unseen f r h n scratch out

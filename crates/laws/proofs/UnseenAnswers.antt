@@ -23,6 +23,9 @@ use Rattle.paper.specs.Calls.{over, cleared, noScene, ofScene, axisOutside, vox
 use Rattle.paper.specs.Calls.{keptOutcome, outShort, outlineBytes, outlineShort, outlineOutcome, packScratch, packBytes, packShort, packOutcome}
 use Rattle.paper.specs.Lines.{tested, firstFailing}
 use Rattle.paper.specs.Sight.{saysEmpty, decider, givesTwo, sightDamaged, sightOutside, blockedAt, sightOutcome}
+use Rattle.paper.specs.Anything.{boxSearch, searchDamaged, searchTold, sceneSearch, anyDamaged, anyOutcome}
+use Rattle.paper.specs.declared.Search.{Search}
+use Rattle.paper.specs.declared.Search.the-variants.{Met, Passed, Damaged}
 use Rattle.laws.proofs.Undamaged.{fine-header, depth-low, store-header, there-held, held-placed}
 use Rattle.laws.proofs.UnseenWords.{capacity-unseen, number-unseen, count-unseen, header-unseen, kept-unseen, depth-unseen, root-unseen, scene-unseen, solid-unseen, undamaged-unseen}
 use Rattle.laws.proofs.Places.{kept-placed}
@@ -80,6 +83,16 @@ unfolding firstOf settled
 packFor-same false e m B B′ scratch out q = refl
 packFor-same true true m B B′ scratch out q = refl
 packFor-same true false m B B′ scratch out q = ap (λ (b : List ℕ). packFor true false m b scratch out) (q tt refl)
+
+-- a box outside, by a scene's depth
+abbrev boxOut : Point → Point → List (List Cell) → ℕ → ℕ → Bool
+boxOut low high K D p = axisOutside (2 ^ D) (low .x) (high .x) || axisOutside (2 ^ D) (low .y) (high .y) || axisOutside (2 ^ D) (low .z) (high .z)
+
+-- a search tells two values
+told-zeros : (s : Search) → zerosFor (searchTold s) ≡ 0 ∷ 0 ∷ []
+told-zeros (Met e) = refl
+told-zeros (Passed e) = refl
+told-zeros Damaged = refl
 
 -- ---- the calls, on a store f long enough with words r behind it
 
@@ -152,12 +165,17 @@ module _ (f r : List ℕ) (whole : used (capacityOf f) ≤ length f) where
   pub box-unseen : (n : ℕ) (low high : Point) → boxOutcome (f ++ r) n low high ≡ boxOutcome f n low high
   unfolding boxOutcome boxOutside boxDamaged
   box-unseen n low high =
-      let O : List (List Cell) → ℕ → ℕ → Bool =
-      λ K D p. axisOutside (2 ^ D) (low .x) (high .x) || axisOutside (2 ^ D) (low .y) (high .y) || axisOutside (2 ^ D) (low .z) (high .z) in
+      let O : List (List Cell) → ℕ → ℕ → Bool = boxOut low high in
       let t : Tally = sceneTally (f ++ r) n low high in
       let t′ : Tally = sceneTally f n low high in
       question-by n (ofScene O (f ++ r) n) (ofScene O f n) (tallyDamaged t) (tallyDamaged t′) (tallySolid t ∷ []) (tallySolid t′ ∷ []) refl
       (λ h e. (scene-part O n h e, ap tallyDamaged (tally-unseen n low high h e), ap (λ (x : Tally). tallySolid x ∷ []) (tally-unseen n low high h e)))
+
+  pub any-unseen : (n : ℕ) (low high : Point) → anyOutcome (f ++ r) n low high ≡ anyOutcome f n low high
+  unfolding anyOutcome boxOutside anyDamaged sceneSearch
+  any-unseen n low high =
+      question-unseen n (boxOut low high) (λ K D p. searchDamaged (boxSearch K D p low high)) (λ K D p. searchTold (boxSearch K D p low high)) (0 ∷ 0 ∷ [])
+      (λ K D p. told-zeros (boxSearch K D p low high))
 
   pub kept-answer-unseen : (h : ℕ) → keptOutcome (f ++ r) h ≡ keptOutcome f h
   unfolding keptOutcome

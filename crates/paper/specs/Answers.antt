@@ -17,6 +17,7 @@ use Rattle.paper.specs.declared.Found.{Found}
 use Rattle.paper.specs.declared.Chosen.{Chosen}
 use Rattle.paper.specs.declared.Opening.{Opening}
 use Rattle.paper.specs.declared.Sighted.{Sighted}
+use Rattle.paper.specs.declared.Searched.{Searched}
 
 -- the number and the values of an answer
 pub record Told : Type 0 where
@@ -74,6 +75,12 @@ occupied (Occupied.Refused r) = told (numberOf r) (0 ∷ [])
 abbrev pub counted : Counted → Told
 counted (Counted.Solid n) = told 0 (n ∷ [])
 counted (Counted.Refused r) = told (numberOf r) (0 ∷ [])
+
+-- anything in the way (document 02, request 5): 1 where the box holds a solid voxel, then the cells entered
+abbrev pub searched : Searched → Told
+searched (Searched.Solid n) = told 0 (1 ∷ n ∷ [])
+searched (Searched.Empty n) = told 0 (0 ∷ n ∷ [])
+searched (Searched.Refused r) = told (numberOf r) (0 ∷ 0 ∷ [])
 
 -- kept: the cells kept at a height
 abbrev pub kept : Kept → Told

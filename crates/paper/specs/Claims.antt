@@ -1,4 +1,4 @@
--- The claims C1 to C14, the demands of documents 01 and 02, as types. This file states all and proves none; docs/READING.md says where each is proved.
+-- The claims C1 to C15, the demands of documents 01 and 02, as types. This file states all and proves none; docs/READING.md says where each is proved.
 -- A claim that speaks of a call speaks of its outcome function (Calls, Detail); the promise of the call ties the code to that function.
 use mathlib.Core.Bool.{true, false, cond}
 use mathlib.Core.List.{List, [], _∷_}
@@ -7,13 +7,13 @@ use mathlib.Core.Logic.{_↔_}
 use mathlib.Core.Path.{_≡_}
 use Prim.Native.Nat.{ℕ, zero, suc, _-_, _*_, _<_, _≤_, _^_}
 use lib.Bits.{bitXor}
-use lib.Dec.{T}
+use lib.Dec.{T, ltb}
 use lib.Ieee.{Float, binary64, fits, le}
 use lib.Ieee.Exact.{HasValue}
 use lib.Ieee.Positive.{num, den}
 use lib.ListN.{length, take, drop, getD}
 use Rattle.paper.specs.Numbers.{allIn, bitFor, isIn}
-use Rattle.paper.specs.Rooms.{Point, point, Room, deepest, depthOk, Inside, cellOf, OneCell, cellAround, childRoom, mirror, mirrored, Same, Image, NonEmpty, boxCount, origin, far, nonEmpty, emptyAt}
+use Rattle.paper.specs.Rooms.{Point, point, Room, deepest, depthOk, Inside, cellOf, OneCell, cellAround, childRoom, mirror, mirrored, Same, Image, NonEmpty, boxCount, origin, far, isWhole, nonEmpty, emptyAt}
 use Rattle.paper.specs.Outline.{edge, IsOutline, outlineOf, fileDepth, fileRoom}
 use Rattle.paper.specs.Store.{Cell, leafNo, tagOf, cellNo, anyBad, capacityOf, isHeld, keptOf, cellsAt, cellAt, countOf, sceneDepth, storeOk}
 use Rattle.paper.specs.Meaning.{cellVoxel, rootRoom}
@@ -27,6 +27,8 @@ use Rattle.paper.specs.Calls.{over, cleared, nextScene, scenesFull, outl
 use Rattle.paper.specs.Runs.{Call, Bytes, Given, outcomeOf, wordsAfter, besides, Scene, sceneOf, holding, alone, State, Reached, Occurs, Outnumbered, Number, keptRoom, usedBy}
 use Rattle.paper.specs.Lines.{Before, Between, tested}
 use Rattle.paper.specs.Sight.{sightOutcome}
+use Rattle.paper.specs.Anything.{cellSearch, anyOutcome, sharing}
+use Rattle.paper.specs.declared.Search.the-variants.{Met}
 use Rattle.paper.specs.Samples.{samples, holds}
 
 -- ---- C1, mirror laws, once over the edge
@@ -330,3 +332,27 @@ pub record C14 : Type 0 where
   pub any : (ws : List ℕ) → T (storeOk ws) → CountsTrue ws
   -- so on every store that only the calls wrote
   pub ours : (s : State) → Reached s → CountsTrue (s .words)
+
+-- ---- C15, anything in the way (document 02, request 5)
+
+-- what a search of a scene held answers: yes exactly where the box has a solid voxel (so where the box call, by C14, counts above 0), after at most so many
+-- cells as are non-empty, of heights 2 to D, and share a voxel with the box
+pub record AnyTrue (ws : List ℕ) (n : ℕ) (low high : Point) : Type 0 where
+  pub entered : ℕ
+  pub answer : anyOutcome ws n low high ≡ outcome (told 0 (bitFor (ltb 0 (boxCount (2 ^ sceneDepth ws n) (ofScene rootRoom ws n) low high)) ∷ entered ∷ [])) []
+  pub most : entered ≤ sharing (sceneDepth ws n) (ofScene rootRoom ws n) low high
+
+pub record Searches (ws : List ℕ) : Type 0 where
+  pub boxes : (n : ℕ) (low high : Point) → T (isHeld ws n) → boxOutside ws n low high ≡ false → AnyTrue ws n low high
+  -- from a cell wholly inside the search goes straight down, one cell of each height, and meets a solid voxel in that leaf
+  pub straight : (k q m : ℕ) (low high : Point) → q < length (cellsAt (keptOf ws) k) → m < 8 → isWhole (edge k) low high ≡ true
+      → cellSearch (keptOf ws) k q m low high ≡ Met (suc k)
+  -- so the whole room of a scene that isn't empty answers yes, after a cell for each height
+  pub whole : (n : ℕ) → T (isHeld ws n) → NonEmpty (2 ^ sceneDepth ws n) (ofScene rootRoom ws n)
+      → anyOutcome ws n origin (far (2 ^ sceneDepth ws n)) ≡ outcome (told 0 (1 ∷ (sceneDepth ws n - 1) ∷ [])) []
+
+pub record C15 : Type 0 where
+  -- on every store of 32-bit words that passes the whole store's test, whoever wrote it (a leaf's high word past 32 bits would pass and have no voxel)
+  pub any : (ws : List ℕ) → T (storeOk ws) → ((i : ℕ) → getD ws i 0 < 2 ^ 32) → Searches ws
+  -- so on every store that only the calls wrote
+  pub ours : (s : State) → Reached s → Searches (s .words)

@@ -18,6 +18,8 @@ pub mod Lines
 -- document 01's calls, samples and claims
 pub mod Calls
 pub mod Sight
+-- document 02, request 5
+pub mod Anything
 pub mod Promises
 pub mod Samples
 pub mod Runs

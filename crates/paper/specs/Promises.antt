@@ -4,14 +4,16 @@ use mathlib.Core.Path.{_≡_}
 use mathlib.Core.List.{List, [], _∷_}
 use Prim.Native.Nat.{ℕ}
 use Rattle.paper.specs.Rooms.{Point}
-use Rattle.paper.specs.Answers.{outcome, started, added, seen, sighted, occupied, counted, kept, written, checked, found, chosen, opened, holds}
+use Rattle.paper.specs.Answers.{outcome, started, added, seen, sighted, searched, occupied, counted, kept, written, checked, found, chosen, opened, holds}
 use Rattle.paper.specs.Calls.{newOutcome, addOutcome, voxelOutcome, cellOutcome, boxOutcome, keptOutcome, outlineOutcome, packOutcome, checkOutcome, packedVoxelOutcome, openOutcome, askOutcome}
 use Rattle.paper.specs.Detail.{detailOutcome}
 use Rattle.paper.specs.Sight.{sightOutcome}
+use Rattle.paper.specs.Anything.{anyOutcome}
 use Rattle.paper.specs.declared.Started.{Started}
 use Rattle.paper.specs.declared.Added.{Added}
 use Rattle.paper.specs.declared.Seen.{Seen}
 use Rattle.paper.specs.declared.Sighted.{Sighted}
+use Rattle.paper.specs.declared.Searched.{Searched}
 use Rattle.paper.specs.declared.Occupied.{Occupied}
 use Rattle.paper.specs.declared.Counted.{Counted}
 use Rattle.paper.specs.declared.Kept.{Kept}
@@ -45,6 +47,10 @@ CellPromise ws n h c r = outcome (occupied r) [] ≡ cellOutcome ws n h c
 -- the store's words, the scene, the low and the high corner
 abbrev pub BoxPromise : List ℕ → ℕ → Point → Point → Counted → Type 0
 BoxPromise ws n low high r = outcome (counted r) [] ≡ boxOutcome ws n low high
+
+-- the store's words, the scene, the low and the high corner
+abbrev pub AnyPromise : List ℕ → ℕ → Point → Point → Searched → Type 0
+AnyPromise ws n low high r = outcome (searched r) [] ≡ anyOutcome ws n low high
 
 -- the store's words, the height
 abbrev pub KeptPromise : List ℕ → ℕ → Kept → Type 0

@@ -15,6 +15,7 @@ use Rattle.paper.specs.Answers.{Outcome}
 use Rattle.paper.specs.Detail.{detailOutcome}
 use Rattle.paper.specs.Calls.{newOutcome, addOutcome, voxelOutcome, cellOutcome, boxOutcome, keptOutcome, outlineOutcome, packOutcome, checkOutcome, packedVoxelOutcome, openOutcome, askOutcome}
 use Rattle.paper.specs.Sight.{sightOutcome}
+use Rattle.paper.specs.Anything.{anyOutcome}
 use Rattle.paper.specs.declared.Wish.{Wish}
 
 -- ---- calls
@@ -25,6 +26,7 @@ pub data StoreQuestion : Type 0 where
   sight : ℕ → Point → Point → StoreQuestion
   cell : ℕ → ℕ → Point → StoreQuestion
   box : ℕ → Point → Point → StoreQuestion
+  anything : ℕ → Point → Point → StoreQuestion
   kept : ℕ → StoreQuestion
   outline : ℕ → List ℕ → StoreQuestion
   pack : ℕ → List ℕ → List ℕ → StoreQuestion
@@ -61,6 +63,7 @@ storeAnswer ws (voxel n v) = voxelOutcome ws n v
 storeAnswer ws (sight n a b) = sightOutcome ws n a b
 storeAnswer ws (cell n h c) = cellOutcome ws n h c
 storeAnswer ws (box n low high) = boxOutcome ws n low high
+storeAnswer ws (anything n low high) = anyOutcome ws n low high
 storeAnswer ws (kept h) = keptOutcome ws h
 storeAnswer ws (outline n out) = outlineOutcome ws n out
 storeAnswer ws (pack n scratch out) = packOutcome ws n scratch out

@@ -3,7 +3,7 @@
 
 ghost use mathlib.Core.Path.{_≡_};
 ghost use lib.ListN.{getD};
-ghost use Rattle.paper.specs.Answers.{numberOf, started, added, seen, occupied, counted, kept, written, checked, found, chosen, sighted};
+ghost use Rattle.paper.specs.Answers.{numberOf, started, added, seen, occupied, counted, kept, written, checked, found, chosen, sighted, searched};
 
 // The refusals of document 01's table, in its order: 1 to 13.
 pub enum Refusal {
@@ -258,6 +258,55 @@ impl Counted {
 pub enum Tally {
     Solid(u64),
     Damaged,
+}
+
+// What a search through a box finds: a solid voxel in the last of so many cells entered, none in so many, or damage.
+pub enum Search {
+    Met(u64),
+    Passed(u64),
+    Damaged,
+}
+
+// Anything in the way: whether a box holds a solid voxel, with the cells entered.
+pub enum Searched {
+    Solid(u64),
+    Empty(u64),
+    Refused(Refusal),
+}
+
+impl Searched {
+    // Its number: 0 where the call is accepted, else the refusal's.
+    pub fn number(self) -> u32
+        ensures { λ r. ⌜ r ≡ searched self .number ⌝ }
+    {
+        match self {
+            Searched::Solid(_) => 0,
+            Searched::Empty(_) => 0,
+            Searched::Refused(why) => why.number(),
+        }
+    }
+
+    // 1 where the box holds a solid voxel, else 0.
+    pub fn value(self) -> u32
+        ensures { λ r. ⌜ r ≡ getD (searched self .values) 0 0 ⌝ }
+    {
+        match self {
+            Searched::Solid(_) => 1,
+            Searched::Empty(_) => 0,
+            Searched::Refused(_) => 0,
+        }
+    }
+
+    // The cells entered, 0 on a refusal.
+    pub fn entered(self) -> u64
+        ensures { λ r. ⌜ r ≡ getD (searched self .values) 1 0 ⌝ }
+    {
+        match self {
+            Searched::Solid(n) => n,
+            Searched::Empty(n) => n,
+            Searched::Refused(_) => 0,
+        }
+    }
 }
 
 // Kept: the cells kept at a height.

@@ -33,6 +33,7 @@ fn main() {
     play(b"emptiness.script");
     play(b"sight.script");
     play(b"counts.script");
+    play(b"any.script");
     play(b"questions.script");
     play(b"adding.script");
     play(b"packing.script");

@@ -28,6 +28,7 @@ fn cut_short() {
     cut(b'V', 17);
     cut(b'C', 21);
     cut(b'B', 29);
+    cut(b'Y', 29);
     cut(b'K', 5);
     cut(b'O', 9);
     script::start(b"HL");

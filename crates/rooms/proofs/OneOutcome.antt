@@ -9,6 +9,7 @@ use Rattle.paper.specs.declared.Started.{Started}
 use Rattle.paper.specs.declared.Added.{Added}
 use Rattle.paper.specs.declared.Seen.{Seen}
 use Rattle.paper.specs.declared.Sighted.{Sighted}
+use Rattle.paper.specs.declared.Searched.{Searched}
 use Rattle.paper.specs.declared.Occupied.{Occupied}
 use Rattle.paper.specs.declared.Counted.{Counted}
 use Rattle.paper.specs.declared.Kept.{Kept}
@@ -19,8 +20,8 @@ use Rattle.paper.specs.declared.Chosen.{Chosen}
 use Rattle.paper.specs.declared.Opening.{Opening}
 use Rattle.paper.specs.declared.Wish.{Wish}
 use Rattle.paper.specs.Rooms.{Point}
-use Rattle.paper.specs.Answers.{Outcome, Told, outcome, started, added, seen, sighted, occupied, counted, kept, written, checked, found, chosen, opened, holds}
-use Rattle.paper.specs.Promises.{NewStorePromise, AddPromise, VoxelPromise, SightPromise, CellPromise, BoxPromise, KeptPromise, OutlinePromise, PackPromise, CheckPromise, PackedVoxelPromise, OpenPromise, AskPromise, DetailPromise}
+use Rattle.paper.specs.Answers.{Outcome, Told, outcome, started, added, seen, sighted, searched, occupied, counted, kept, written, checked, found, chosen, opened, holds}
+use Rattle.paper.specs.Promises.{NewStorePromise, AddPromise, VoxelPromise, SightPromise, CellPromise, BoxPromise, AnyPromise, KeptPromise, OutlinePromise, PackPromise, CheckPromise, PackedVoxelPromise, OpenPromise, AskPromise, DetailPromise}
 use Rattle.laws.proofs.RefusalNumbers.{answerOf, refused-back}
 
 -- ---- each answer from its number and values
@@ -62,6 +63,14 @@ sighted-back : (r : Sighted) (ls : List (List ℕ)) → sightedOf (outcome (sigh
 sighted-back Sighted.Clear ls = refl
 sighted-back (Sighted.Blocked x y z) ls = refl
 sighted-back (Sighted.Refused r) ls = refused-back Sighted.Clear Sighted.Refused r
+
+abbrev searchedOf : Outcome → Searched
+searchedOf o = answerOf (pick (Searched.Empty (getD (o .values) 1 0)) (Searched.Solid (getD (o .values) 1 0)) (value o)) Searched.Refused (o .number)
+
+searched-back : (r : Searched) (ls : List (List ℕ)) → searchedOf (outcome (searched r) ls) ≡ r
+searched-back (Searched.Solid n) ls = refl
+searched-back (Searched.Empty n) ls = refl
+searched-back (Searched.Refused r) ls = refused-back (Searched.Empty 0) Searched.Refused r
 
 abbrev occupiedOf : Outcome → Occupied
 occupiedOf o = answerOf (pick Occupied.Empty Occupied.NonEmpty (value o)) Occupied.Refused (o .number)
@@ -145,6 +154,9 @@ cell ws n h c a b = same-answer occupied occupiedOf occupied-back a b
 
 pub box-count : (ws : List ℕ) (n : ℕ) (low high : Point) {r s : Counted} → BoxPromise ws n low high r → BoxPromise ws n low high s → r ≡ s
 box-count ws n low high a b = same-answer counted countedOf counted-back a b
+
+pub anything : (ws : List ℕ) (n : ℕ) (low high : Point) {r s : Searched} → AnyPromise ws n low high r → AnyPromise ws n low high s → r ≡ s
+anything ws n low high a b = same-answer searched searchedOf searched-back a b
 
 pub kept-cells : (ws : List ℕ) (h : ℕ) {r s : Kept} → KeptPromise ws h r → KeptPromise ws h s → r ≡ s
 kept-cells ws h a b = same-answer kept keptOf kept-back a b

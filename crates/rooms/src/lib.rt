@@ -1,7 +1,7 @@
 // The public calls of the room store. Each promise stands in `paper`, by name, as one equation: the outcome read from the answer
 // is the documents'. No call asks anything of its caller.
 ghost use Rattle.points.specs.Points.{at};
-ghost use Rattle.paper.specs.Promises.{NewStorePromise, AddPromise, VoxelPromise, SightPromise, CellPromise, BoxPromise, KeptPromise, OutlinePromise, PackPromise, CheckPromise, PackedVoxelPromise, DetailPromise};
+ghost use Rattle.paper.specs.Promises.{NewStorePromise, AddPromise, VoxelPromise, SightPromise, CellPromise, BoxPromise, AnyPromise, KeptPromise, OutlinePromise, PackPromise, CheckPromise, PackedVoxelPromise, DetailPromise};
 
 // The types of what is asked and answered.
 pub use paper::Added;
@@ -13,6 +13,7 @@ pub use paper::Found;
 pub use paper::Kept;
 pub use paper::Occupied;
 pub use paper::Refusal;
+pub use paper::Searched;
 pub use paper::Seen;
 pub use paper::Sighted;
 pub use paper::Started;
@@ -69,6 +70,13 @@ pub fn box_count(store: &[u32], scene: u32, low: Point, high: Point) -> Counted
     ensures { λ r. ⌜ BoxPromise (now (store .entry)) scene (at low) (at high) r ⌝ }
 {
     boxes::box_count(store, scene, low, high)
+}
+
+// Anything in the way: whether the box holds a solid voxel, with the number of cells entered; refused as box, but only for cells entered.
+pub fn anything(store: &[u32], scene: u32, low: Point, high: Point) -> Searched
+    ensures { λ r. ⌜ AnyPromise (now (store .entry)) scene (at low) (at high) r ⌝ }
+{
+    search::anything(store, scene, low, high)
 }
 
 // Kept: how many cells are kept at a height; refused by 2 (header), 10.

@@ -7,7 +7,7 @@ use lib.Ieee.{Float}
 use lib.ListN.{getD}
 use Rattle.paper.specs.Rooms.{Point}
 use Rattle.paper.specs.Answers.{Outcome, told, outcome}
-use Rattle.rooms_c.specs.Exports.{RoomsNewPromise, RoomsAddPromise, RoomsVoxelPromise, RoomsSightPromise, RoomsCellPromise, RoomsBoxPromise, RoomsKeptPromise, RoomsOutlinePromise, RoomsPackPromise, RoomsCheckPromise, RoomsPackedVoxelPromise, RoomsOpenPromise, RoomsAskPromise, RoomsDetailPromise}
+use Rattle.rooms_c.specs.Exports.{RoomsNewPromise, RoomsAddPromise, RoomsVoxelPromise, RoomsSightPromise, RoomsCellPromise, RoomsBoxPromise, RoomsAnyPromise, RoomsKeptPromise, RoomsOutlinePromise, RoomsPackPromise, RoomsCheckPromise, RoomsPackedVoxelPromise, RoomsOpenPromise, RoomsAskPromise, RoomsDetailPromise}
 
 -- ---- the parts of equal outcomes
 
@@ -72,6 +72,10 @@ rooms-cell ws scene h c a b = one-value a b
 pub rooms-box : (ws : List ℕ) (scene : ℕ) (low high : Point) {n m count count′ : ℕ} → RoomsBoxPromise ws scene low high n count
     → RoomsBoxPromise ws scene low high m count′ → (n ≡ m) × (count ≡ count′)
 rooms-box ws scene low high a b = one-value a b
+
+pub rooms-any : (ws : List ℕ) (scene : ℕ) (low high : Point) {n m solid solid′ entered entered′ : ℕ} → RoomsAnyPromise ws scene low high n solid entered
+    → RoomsAnyPromise ws scene low high m solid′ entered′ → (n ≡ m) × (solid ≡ solid′) × (entered ≡ entered′)
+rooms-any ws scene low high a b = two-values a b
 
 pub rooms-kept : (ws : List ℕ) (h : ℕ) {n m count count′ : ℕ} → RoomsKeptPromise ws h n count → RoomsKeptPromise ws h m count′ → (n ≡ m) × (count ≡ count′)
 rooms-kept ws h a b = one-value a b

@@ -8,6 +8,7 @@ use Rattle.paper.specs.declared.Started.{Started}
 use Rattle.paper.specs.declared.Added.{Added}
 use Rattle.paper.specs.declared.Seen.{Seen}
 use Rattle.paper.specs.declared.Sighted.{Sighted}
+use Rattle.paper.specs.declared.Searched.{Searched}
 use Rattle.paper.specs.declared.Occupied.{Occupied}
 use Rattle.paper.specs.declared.Counted.{Counted}
 use Rattle.paper.specs.declared.Kept.{Kept}
@@ -15,7 +16,7 @@ use Rattle.paper.specs.declared.Written.{Written}
 use Rattle.paper.specs.declared.Checked.{Checked}
 use Rattle.paper.specs.declared.Found.{Found}
 use Rattle.paper.specs.declared.Chosen.{Chosen}
-use Rattle.paper.specs.Answers.{Outcome, Told, told, outcome, started, added, seen, sighted, occupied, counted, kept, written, checked, found, chosen}
+use Rattle.paper.specs.Answers.{Outcome, Told, told, outcome, started, added, seen, sighted, searched, occupied, counted, kept, written, checked, found, chosen}
 
 -- ---- each answer has as many values, whether it is accepted or refused
 
@@ -51,6 +52,11 @@ pub sighted-told : Four sighted
 sighted-told Sighted.Clear = refl
 sighted-told (Sighted.Blocked x y z) = refl
 sighted-told (Sighted.Refused r) = refl
+
+pub searched-told : Two searched
+searched-told (Searched.Solid n) = refl
+searched-told (Searched.Empty n) = refl
+searched-told (Searched.Refused r) = refl
 
 pub occupied-told : One occupied
 occupied-told Occupied.NonEmpty = refl

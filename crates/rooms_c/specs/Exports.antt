@@ -8,6 +8,7 @@ use Rattle.paper.specs.Rooms.{Point}
 use Rattle.paper.specs.Answers.{told, outcome}
 use Rattle.paper.specs.Calls.{newOutcome, addOutcome, voxelOutcome, cellOutcome, boxOutcome, keptOutcome, outlineOutcome, packOutcome, checkOutcome, packedVoxelOutcome}
 use Rattle.paper.specs.Sight.{sightOutcome}
+use Rattle.paper.specs.Anything.{anyOutcome}
 use Rattle.rooms_numbers.specs.Numbers.{openCOutcome, askCOutcome, detailCOutcome}
 
 abbrev pub RoomsNewPromise : ℕ → List ℕ → ℕ → List ℕ → Type 0
@@ -27,6 +28,10 @@ RoomsCellPromise ws n h c r full = outcome (told r (full ∷ [])) [] ≡ cellOut
 
 abbrev pub RoomsBoxPromise : List ℕ → ℕ → Point → Point → ℕ → ℕ → Type 0
 RoomsBoxPromise ws n low high r count = outcome (told r (count ∷ [])) [] ≡ boxOutcome ws n low high
+
+-- the store's words, the scene, the low and the high corner; 1 or 0, and the cells entered
+abbrev pub RoomsAnyPromise : List ℕ → ℕ → Point → Point → ℕ → ℕ → ℕ → Type 0
+RoomsAnyPromise ws n low high r solid entered = outcome (told r (solid ∷ entered ∷ [])) [] ≡ anyOutcome ws n low high
 
 abbrev pub RoomsKeptPromise : List ℕ → ℕ → ℕ → ℕ → Type 0
 RoomsKeptPromise ws h r count = outcome (told r (count ∷ [])) [] ≡ keptOutcome ws h

@@ -3,7 +3,7 @@
 // on the same outcome as the call of `rooms`; where C passes numbers in the place of a struct or of a wish, that file says which. No
 // call asks anything of the values it is given; what it asks of pointers and memory is in the header.
 ghost use Rattle.paper.specs.Rooms.{point};
-ghost use Rattle.rooms_c.specs.Exports.{RoomsNewPromise, RoomsAddPromise, RoomsVoxelPromise, RoomsSightPromise, RoomsCellPromise, RoomsBoxPromise, RoomsKeptPromise, RoomsOutlinePromise, RoomsPackPromise, RoomsCheckPromise, RoomsPackedVoxelPromise, RoomsOpenPromise, RoomsAskPromise, RoomsDetailPromise};
+ghost use Rattle.rooms_c.specs.Exports.{RoomsNewPromise, RoomsAddPromise, RoomsVoxelPromise, RoomsSightPromise, RoomsCellPromise, RoomsBoxPromise, RoomsAnyPromise, RoomsKeptPromise, RoomsOutlinePromise, RoomsPackPromise, RoomsCheckPromise, RoomsPackedVoxelPromise, RoomsOpenPromise, RoomsAskPromise, RoomsDetailPromise};
 use rooms::Point;
 use rooms_numbers::ask_numbers;
 use rooms_numbers::detail_numbers;
@@ -128,6 +128,38 @@ pub extern "C" fn rooms_box(
     };
     let answer = rooms::box_count(store, scene, low, high);
     *count = answer.value();
+    answer.number()
+}
+
+// Anything in the way: 1 where the box holds a solid voxel, else 0, and the number of cells entered.
+#[no_mangle]
+pub extern "C" fn rooms_any(
+    store: &[u32],
+    scene: u32,
+    lx: u32,
+    ly: u32,
+    lz: u32,
+    hx: u32,
+    hy: u32,
+    hz: u32,
+    solid: &mut u32,
+    entered: &mut u64,
+) -> u32
+    ensures { λ r. ⌜ RoomsAnyPromise (now (store .entry)) scene (point lx ly lz) (point hx hy hz) r (now (solid .exit)) (now (entered .exit)) ⌝ }
+{
+    let low = Point {
+        x: lx,
+        y: ly,
+        z: lz,
+    };
+    let high = Point {
+        x: hx,
+        y: hy,
+        z: hz,
+    };
+    let answer = rooms::anything(store, scene, low, high);
+    *solid = answer.value();
+    *entered = answer.entered();
     answer.number()
 }
 

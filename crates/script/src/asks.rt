@@ -43,6 +43,7 @@ fn front(code: u8, given: &[u8]) -> usize
         b'S' => 29,
         b'C' => 21,
         b'B' => 29,
+        b'Y' => 29,
         b'K' => 5,
         b'O' => 9,
         b'P' => 13,

@@ -50,6 +50,20 @@ fn box_count(given: &[u8], store: &[u32]) -> [u64; 6] {
     [count.number() as u64, count.value(), 0, 0, 0, 0]
 }
 
+// `Y`: anything in the way.
+fn anything(given: &[u8], store: &[u32]) -> [u64; 6] {
+    let scene = word(given, 0);
+    let answer = rooms::anything(store, scene, point(given, 4), point(given, 16));
+    [
+        answer.number() as u64,
+        answer.value() as u64,
+        answer.entered(),
+        0,
+        0,
+        0,
+    ]
+}
+
 // `K`: kept.
 fn kept(given: &[u8], store: &[u32]) -> [u64; 6] {
     let cells = rooms::kept(store, word(given, 0));
@@ -92,6 +106,7 @@ pub fn ask(code: u8, given: &[u8], store: &[u32], scratch: &mut [u32], out: &mut
         b'S' => sight(given, store),
         b'C' => cell(given, store),
         b'B' => box_count(given, store),
+        b'Y' => anything(given, store),
         b'K' => kept(given, store),
         b'O' => outline_out(given, store, out),
         b'P' => pack(given, store, scratch, out),

@@ -1,4 +1,4 @@
-//! The fourteen calls as C has them: the number returned, values in out parameters. `Twin` is document 01 once more, `library::Library` the
+//! The fifteen calls as C has them: the number returned, values in out parameters. `Twin` is document 01 once more, `library::Library` the
 //! proved library; the tests run both on the same memory.
 
 use crate::twin::{self, Answer};
@@ -10,6 +10,7 @@ pub trait Calls {
     fn sight(&mut self, store: &[u32], scene: u32, from: [u32; 3], to: [u32; 3], blocked: &mut u32, at: &mut [u32; 3]) -> u32;
     fn cell(&mut self, store: &[u32], scene: u32, height: u32, at: [u32; 3], full: &mut u32) -> u32;
     fn box_count(&mut self, store: &[u32], scene: u32, low: [u32; 3], high: [u32; 3], count: &mut u64) -> u32;
+    fn anything(&mut self, store: &[u32], scene: u32, low: [u32; 3], high: [u32; 3], solid: &mut u32, entered: &mut u64) -> u32;
     fn kept(&mut self, store: &[u32], height: u32, count: &mut u32) -> u32;
     fn outline(&mut self, store: &[u32], scene: u32, out: &mut [u8], length: &mut u32) -> u32;
     fn pack(&mut self, store: &[u32], scene: u32, scratch: &mut [u32], out: &mut [u8], length: &mut u32) -> u32;
@@ -77,6 +78,12 @@ impl Calls for Twin {
     }
     fn box_count(&mut self, store: &[u32], scene: u32, low: [u32; 3], high: [u32; 3], count: &mut u64) -> u32 {
         self.tell(twin::box_count(store, scene, low, high), count)
+    }
+    fn anything(&mut self, store: &[u32], scene: u32, low: [u32; 3], high: [u32; 3], solid: &mut u32, entered: &mut u64) -> u32 {
+        let mut both = (false, 0);
+        let number = self.tell(twin::anything(store, scene, low, high), &mut both);
+        (*solid, *entered) = (both.0 as u32, both.1);
+        number
     }
     fn kept(&mut self, store: &[u32], height: u32, count: &mut u32) -> u32 {
         self.tell(twin::kept(store, height), count)

@@ -2,9 +2,10 @@
 //! beside them.
 
 use crate::calls::Calls;
+use crate::generator::stores;
 use crate::lent::{hex, Lent, GUARD};
 use crate::Compare;
-use rooms::{Found, Refusal, Voxel, Wish};
+use rooms::{Anything, Found, Refusal, Voxel, Wish};
 use std::fmt::Debug;
 
 /// What a voxel's answer is counted as.
@@ -209,7 +210,8 @@ impl Compare {
         number
     }
 
-    pub fn box_count(&mut self, store: &Lent<u32>, scene: u32, low: [u32; 3], high: [u32; 3]) -> u32 {
+    /// Answers the count.
+    fn box_count(&mut self, store: &Lent<u32>, scene: u32, low: [u32; 3], high: [u32; 3]) -> Option<u64> {
         let mine = store.clone();
         let (mut a, mut b) = (self.random.next(), self.random.next());
         let here = self.library.box_count(mine.slice(), scene, low, high, &mut a);
@@ -229,7 +231,45 @@ impl Compare {
             },
         );
         self.agree("box_count", number, a, rooms::box_count(store.slice(), scene, low, high));
-        number
+        (number == 0).then_some(a)
+    }
+
+    /// Answers whether there is anything.
+    pub fn anything(&mut self, store: &Lent<u32>, scene: u32, low: [u32; 3], high: [u32; 3]) -> Option<bool> {
+        let mine = store.clone();
+        let mut noise = || (self.random.word(), self.random.next());
+        let (mut a, mut b) = (noise(), noise());
+        let here = self.library.anything(mine.slice(), scene, low, high, &mut a.0, &mut a.1);
+        let there = self.twin.anything(store.slice(), scene, low, high, &mut b.0, &mut b.1);
+        let number = self.judge("any", (here, a), (there, b), mine == *store, || {
+            format!("store {}\nscene {scene} low {low:?} high {high:?}", hex(store.slice()))
+        });
+        let straight = stores::scene(store.slice(), scene).map_or(0, |(depth, _)| depth as u64 - 1);
+        self.note(
+            "any",
+            number,
+            match a {
+                (1, entered) if entered == straight => "yes, in the first leaf",
+                (1, _) => "yes, after other cells",
+                (_, 0) => "no, no cell entered",
+                (_, 1) => "no, the root entered",
+                _ => "no, more cells entered",
+            },
+        );
+        self.agree("anything", number, Anything { solid: a.0 == 1, entered: a.1 }, rooms::anything(store.slice(), scene, low, high));
+        (number == 0).then_some(a.0 == 1)
+    }
+
+    /// A box counted, and asked whether it holds anything. Where the store is undamaged as a whole the two say the same of it.
+    pub fn box_both(&mut self, store: &Lent<u32>, scene: u32, low: [u32; 3], high: [u32; 3]) {
+        let count = self.box_count(store, scene, low, high);
+        let solid = self.anything(store, scene, low, high);
+        let (Some(count), Some(solid)) = (count, solid) else { return };
+        if solid != (count > 0) && self.twin.outline(store.slice(), scene, &mut [], &mut 0) != 2 {
+            println!("DIFFERENCE between a count and anything in the way: {count} solid, anything {solid}");
+            println!("scene {scene} low {low:?} high {high:?}, seed {} episode {}", self.seed, self.episode);
+            std::process::exit(1);
+        }
     }
 
     pub fn kept(&mut self, store: &Lent<u32>, height: u32) -> u32 {

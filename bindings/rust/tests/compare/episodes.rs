@@ -170,11 +170,11 @@ impl Compare {
         for n in 0..3 {
             let depth = 16 - n;
             let edge = 1u32 << depth;
-            self.box_count(&store, n, [0; 3], [edge; 3]);
-            self.box_count(&store, n, [0, edge / 2, 0], [edge / 2, edge, edge / 2]);
-            self.box_count(&store, n, [edge - 1; 3], [edge; 3]);
-            self.box_count(&store, n, [0, edge / 4, 0], [edge, edge / 2, 3 * (edge / 4)]);
-            self.box_count(&store, n, [5, 0, 9], [6, 3, 100]);
+            self.box_both(&store, n, [0; 3], [edge; 3]);
+            self.box_both(&store, n, [0, edge / 2, 0], [edge / 2, edge, edge / 2]);
+            self.box_both(&store, n, [edge - 1; 3], [edge; 3]);
+            self.box_both(&store, n, [0, edge / 4, 0], [edge, edge / 2, 3 * (edge / 4)]);
+            self.box_both(&store, n, [5, 0, 9], [6, 3, 100]);
             for _ in 0..4 {
                 let at = self.random.point(depth);
                 self.voxel(&store, n, at);
@@ -329,6 +329,56 @@ impl Compare {
         }
     }
 
+    /// Boxes asked for anything in rooms in which a pointer or two are bad and counts are wrong: before the answer, behind it, beside the box.
+    fn ways(&mut self) {
+        let mut store = self.fresh(70);
+        for _ in 0..3 {
+            let file = room(&mut self.random, 30).outline();
+            self.add(&mut store, &file);
+        }
+        for _ in 0..10 {
+            let mut words = store.slice().to_vec();
+            for _ in 0..self.random.below(3) {
+                stores::bad_pointer(&mut self.random, &mut words);
+            }
+            if self.random.once_in(4) {
+                stores::empty_a_cell(&mut self.random, &mut words);
+            }
+            if self.random.once_in(4) {
+                stores::wrong_count(&mut self.random, &mut words);
+            }
+            let one = self.lend_words(&words);
+            for _ in 0..6 {
+                self.ask_box(&one);
+                self.ask_past(&one);
+            }
+        }
+    }
+
+    /// Rooms up to depth 16 that have next to nothing in cells upon cells: many of them entered, of few that are kept.
+    fn hollow(&mut self) {
+        let made = stores::hollow_by_hand(&mut self.random);
+        let store = self.lend_words(&made);
+        for n in 0..4 {
+            let (depth, _) = stores::scene(store.slice(), n).unwrap();
+            let edge = 1u32 << depth;
+            self.box_both(&store, n, [0; 3], [edge; 3]);
+            for _ in 0..6 {
+                let height = self.random.below(depth as usize + 1) as u32;
+                let at = self.some_voxel(&store, n).map(|c| c.min(edge - 1) >> height << height);
+                self.box_both(&store, n, at, at.map(|c| c + (1 << height)));
+            }
+            // faces off the grid cut many cells, so in small rooms only
+            if depth < 7 {
+                for _ in 0..6 {
+                    let low = [(); 3].map(|_| self.random.below(edge as usize) as u32);
+                    let high = low.map(|c| self.random.from_to(c as usize, edge as usize) as u32);
+                    self.box_both(&store, n, low, high);
+                }
+            }
+        }
+    }
+
     /// Deep rooms with little in them: lines from end to end, and long ones through something solid.
     fn long_lines(&mut self) {
         let mut store = self.fresh(60);
@@ -432,13 +482,14 @@ impl Compare {
             _ if episode % 300 == 2 => self.long_lines(),
             _ => match self.random.below(40) {
                 0..=8 => self.rooms(),
-                9 => self.counts(),
+                9 => self.ways(),
                 10..=11 => self.many(),
                 12..=14 => self.outlines(),
                 15..=20 => self.damaged_stores(),
                 21..=23 => self.by_hand(),
                 24 => self.counts(),
                 25 => self.lines(),
+                26 if self.random.once_in(2) => self.hollow(),
                 26 => self.full(),
                 27..=28 => self.noise(),
                 29..=35 => self.packed_files(),

@@ -30,13 +30,14 @@ const CASES: u64 = 500_000;
 const LEAST: u64 = 25;
 
 /// The calls and the numbers that each can answer.
-const ANSWERS: [(&str, &[u32]); 14] = [
+const ANSWERS: [(&str, &[u32]); 15] = [
     ("new", &[0, 1]),
     ("add", &[0, 2, 3, 4, 5, 6, 7, 8]),
     ("voxel", &[0, 2, 9, 10]),
     ("sight", &[0, 2, 9, 10]),
     ("cell", &[0, 2, 9, 10]),
     ("box", &[0, 2, 9, 10]),
+    ("any", &[0, 2, 9, 10]),
     ("kept", &[0, 2, 10]),
     ("outline", &[0, 2, 9, 12]),
     ("pack", &[0, 2, 9, 11, 12]),

@@ -99,6 +99,7 @@ impl Compare {
         self.cell(store, scene, height, at);
     }
 
+    /// A box, counted and asked whether it holds anything: about a voxel, whole cells, such with faces a voxel off, any; some outside.
     pub fn ask_box(&mut self, store: &Lent<u32>) {
         let scene = self.some_scene(store);
         let (depth, root) = stores::scene(store.slice(), scene).unwrap_or((4, 0));
@@ -174,7 +175,30 @@ impl Compare {
             5 => low[axis] = self.random.pick(&[edge + 1, u32::MAX]),
             _ => {}
         }
-        self.box_count(store, scene, low, high);
+        self.box_both(store, scene, low, high);
+    }
+
+    /// A box that ends just before a solid voxel, or begins just behind it, on one axis: most often there is nothing of this leaf in it, or
+    /// nothing solid.
+    pub fn ask_past(&mut self, store: &Lent<u32>) {
+        let scene = self.some_scene(store);
+        let (depth, root) = stores::scene(store.slice(), scene).unwrap_or((4, 0));
+        let edge = 1u32 << depth;
+        let heavy = stores::weight(store.slice(), depth as usize, root, MOST_CELLS) >= MOST_CELLS;
+        let reach = if heavy { 6 } else { self.random.pick(&[2, 6, edge]) };
+        let at = self.some_voxel(store, scene).map(|c| c.min(edge - 1));
+        let (mut low, mut high) = ([0; 3], [0; 3]);
+        for axis in 0..3 {
+            low[axis] = at[axis] - self.random.from_to(0, at[axis].min(reach) as usize) as u32;
+            high[axis] = at[axis] + 1 + self.random.from_to(0, (edge - 1 - at[axis]).min(reach) as usize) as u32;
+        }
+        let axis = self.random.below(3);
+        if self.random.once_in(2) {
+            high[axis] = at[axis];
+        } else {
+            low[axis] = at[axis] + 1;
+        }
+        self.box_both(store, scene, low, high);
     }
 
     pub fn ask_kept(&mut self, store: &Lent<u32>) {
@@ -189,6 +213,7 @@ impl Compare {
             self.ask_voxel(store);
             self.ask_cell(store);
             self.ask_box(store);
+            self.ask_past(store);
             self.ask_sight(store);
             self.ask_voxel(store);
             self.ask_cell(store);

@@ -23,6 +23,9 @@ impl Calls for Library {
     fn box_count(&mut self, store: &[u32], scene: u32, low: [u32; 3], high: [u32; 3], count: &mut u64) -> u32 {
         rooms::c::rooms_box(store, scene, low, high, count)
     }
+    fn anything(&mut self, store: &[u32], scene: u32, low: [u32; 3], high: [u32; 3], solid: &mut u32, entered: &mut u64) -> u32 {
+        rooms::c::rooms_any(store, scene, low, high, solid, entered)
+    }
     fn kept(&mut self, store: &[u32], height: u32, count: &mut u32) -> u32 {
         rooms::c::rooms_kept(store, height, count)
     }

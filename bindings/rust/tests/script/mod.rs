@@ -101,6 +101,10 @@ fn commands(script: &mut Script, calls: &mut impl Calls, out: &mut String) -> Op
                 let number = calls.box_count(&store, script.word()?, script.point()?, script.point()?, &mut count);
                 writeln!(out, "box {number} {count}").unwrap();
             }
+            b'Y' => {
+                let number = calls.anything(&store, script.word()?, script.point()?, script.point()?, &mut value, &mut count);
+                writeln!(out, "any {number} {value} {count}").unwrap();
+            }
             b'K' => {
                 let number = calls.kept(&store, script.word()?, &mut value);
                 writeln!(out, "kept {number} {value}").unwrap();

@@ -1,10 +1,10 @@
 //! Document 01 written once more, in plain Rust, slow and clear: its thirteen calls on slices, with what document 02 adds to them
 //! (its request 2: the height of the empty cell; its request 3: sight lines; its request 1: the solid count kept with each inner
-//! cell). It shares no code with the proved store; the tests compare the two.
+//! cell; its request 5: is anything in the way). It shares no code with the proved store; the tests compare the two.
 //!
 //! A call answers its values, or a refusal: its number and which clause of document 01 it was. Lent memory is changed as the
-//! page says. Where the page's words would take for ever (does a cell match itself), what was found once is remembered; nothing
-//! else is done for speed.
+//! page says. Where the page's words would take for ever (does a cell match itself; has a cell anything in a box), what was found once is
+//! remembered; nothing else is done for speed.
 
 use std::collections::{HashMap, HashSet};
 
@@ -367,17 +367,7 @@ fn box_in(w: &Words, h: usize, n: usize, low: Point, high: Point) -> Answer<u64>
         }
         return Ok(sum);
     }
-    let half = 1u64 << (h - 1);
-    let cell = cell_at(w, h, n);
-    // each child with the part of the box in it; those that share a voxel with it
-    let parts: Vec<(u32, Point, Point)> = (0..8)
-        .map(|i| {
-            let c = corner(half, i);
-            let cut = |x: u64, a: usize| x.clamp(c[a], c[a] + half) - c[a];
-            (cell[i], [cut(low[0], 0), cut(low[1], 1), cut(low[2], 2)], [cut(high[0], 0), cut(high[1], 1), cut(high[2], 2)])
-        })
-        .filter(|(_, l, h)| (0..3).all(|a| l[a] < h[a]))
-        .collect();
+    let parts = parts_of(h, cell_at(w, h, n), low, high);
     need(!parts.iter().any(|&(p, _, _)| bad(w, h - 1, p)), 2, "walk")?;
     let mut sum = 0;
     for (p, l, g) in parts {
@@ -386,12 +376,73 @@ fn box_in(w: &Words, h: usize, n: usize, low: Point, high: Point) -> Answer<u64>
     Ok(sum)
 }
 
+/// The children of a cell of height h that share a voxel with a box in it, by rising number: the pointer, and the part of the box in it.
+fn parts_of(h: usize, children: [u32; 8], low: Point, high: Point) -> Vec<(u32, Point, Point)> {
+    let half = 1u64 << (h - 1);
+    (0..8)
+        .map(|i| {
+            let c = corner(half, i);
+            let cut = |x: u64, a: usize| x.clamp(c[a], c[a] + half) - c[a];
+            (children[i], [cut(low[0], 0), cut(low[1], 1), cut(low[2], 2)], [cut(high[0], 0), cut(high[1], 1), cut(high[2], 2)])
+        })
+        .filter(|(_, l, h)| (0..3).all(|a| l[a] < h[a]))
+        .collect()
+}
+
+/// 10 of a box in a room of depth d.
+fn box_fits(d: usize, low: [u32; 3], high: [u32; 3]) -> Answer<()> {
+    need((0..3).all(|a| low[a] <= high[a]), 10, "low above high")?;
+    need((0..3).all(|a| high[a] as u64 <= 1 << d), 10, "box")
+}
+
 /// Box: the solid voxels from the low corner up to the high one, which is outside.
 pub fn box_count(w: &Words, n: u32, low: [u32; 3], high: [u32; 3]) -> Answer<u64> {
     let (d, p) = asked(w, n)?;
-    need((0..3).all(|a| low[a] <= high[a]), 10, "low above high")?;
-    need((0..3).all(|a| high[a] as u64 <= 1 << d), 10, "box")?;
+    box_fits(d, low, high)?;
     box_under(w, d, p, low.map(u64::from), high.map(u64::from))
+}
+
+/// How many cells were entered where a cell, by height, number and mirror, has nothing solid in a box in it. (Memory of what was found, or
+/// the page's words would take for ever: what is found there, and on the way, hangs on nothing else.)
+type Nothings = HashMap<(usize, usize, u32, Point, Point), u64>;
+
+/// Cell n of height h is entered, which the room shows under mirror t: has it anything solid in this box, and how many cells were
+/// entered for that, itself among them.
+fn any_in(w: &Words, h: usize, n: usize, t: u32, low: Point, high: Point, known: &mut Nothings) -> Answer<(bool, u64)> {
+    let key = (h, n, t, low, high);
+    if let Some(&entered) = known.get(&key) {
+        return Ok((false, entered));
+    }
+    let mut entered = 1;
+    if h == 2 {
+        let leaf = mirror_leaf(t, leaf_at(w, n));
+        let solid = (low[0]..high[0]).any(|x| (low[1]..high[1]).any(|y| (low[2]..high[2]).any(|z| leaf_bit(leaf, [x, y, z]))));
+        return Ok((solid, entered));
+    }
+    // child i of a mirrored cell is the mirrored child (i xor t)
+    let cell = cell_at(w, h, n);
+    let parts = parts_of(h, std::array::from_fn(|i| cell[i ^ t as usize]), low, high);
+    need(!parts.iter().any(|&(p, _, _)| bad(w, h - 1, p)), 2, "walk")?;
+    for (p, l, g) in parts.into_iter().filter(|&(p, _, _)| p != 0) {
+        let (solid, more) = any_in(w, h - 1, number(p), tag(p) ^ t, l, g, known)?;
+        entered += more;
+        if solid {
+            return Ok((true, entered));
+        }
+    }
+    known.insert(key, entered);
+    Ok((false, entered))
+}
+
+/// Anything in the way: whether a voxel from the low corner up to the high one, which is outside, is solid, and the cells entered up to
+/// that answer.
+pub fn anything(w: &Words, n: u32, low: [u32; 3], high: [u32; 3]) -> Answer<(bool, u64)> {
+    let (d, p) = asked(w, n)?;
+    box_fits(d, low, high)?;
+    if p == 0 || (0..3).any(|a| low[a] == high[a]) {
+        return Ok((false, 0));
+    }
+    any_in(w, d, number(p), tag(p), low.map(u64::from), high.map(u64::from), &mut HashMap::new())
 }
 
 /// Kept: 2 (header), 10.

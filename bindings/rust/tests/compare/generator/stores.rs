@@ -173,6 +173,41 @@ pub fn full_by_hand(random: &mut Random) -> Vec<u32> {
     w
 }
 
+/// Four rooms, the first of depth 16, of two cells a height: one has nothing solid in any of its children, the other one child that has a
+/// single voxel somewhere, and the first kind for the rest. Some children are absent. Counts are true, or zero.
+pub fn hollow_by_hand(random: &mut Random) -> Vec<u32> {
+    let mut w = vec![0; used(2)];
+    w[0] = 2;
+    w[1] = 4;
+    for n in 0..4 {
+        let depth = match n {
+            0 => 16,
+            1 => random.from_to(2, 16),
+            _ => random.from_to(2, 7),
+        };
+        w[32 + 2 * n] = depth as u32;
+        w[33 + 2 * n] = random.mirror() << 29 | random.from_to(1, 2) as u32;
+    }
+    w[2] = 2;
+    let bit = random.below(64);
+    w[162 + usize::from(bit < 32)] = 1 << (bit % 32);
+    for h in 3..=16 {
+        w[h] = 2;
+        let with = random.below(8);
+        for n in 0..2 {
+            for i in 0..8 {
+                let there = i == with && n == 1 || !random.once_in(6);
+                let number = 1 + u32::from(i == with && n == 1);
+                w[place(2, h, n) + i] = if there { random.mirror() << 29 | number } else { 0 };
+            }
+        }
+    }
+    if random.once_in(2) {
+        sum_counts(&mut w, 3);
+    }
+    w
+}
+
 /// A word of the header put at an end of its range, or just past it.
 pub fn header_end(random: &mut Random, w: &mut [u32]) {
     let (at, value) = match random.below(4) {

@@ -11,7 +11,8 @@ use Rattle.points.specs.Points.{at}
 use Rattle.boxes_parts.specs.Parts.{Upto}
 use Rattle.boxes.specs.Box.{tallyTold}
 use Rattle.store_entry.proofs.Entries.{scene-deep}
-use Rattle.boxes.proofs.BoxTests.{box-within, told-outside, told-tally}
+use Rattle.boxes_parts.proofs.Corners.{box-within}
+use Rattle.boxes.proofs.BoxTests.{told-outside, told-tally}
 use borrow.Author.Needs.{needs}
 use Rattle.boxes.proofs.call.box_from.Statement.{statement}
 use Rattle.boxes.proofs.call.box_from.Tie as tie

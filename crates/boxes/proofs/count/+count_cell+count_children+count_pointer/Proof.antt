@@ -19,8 +19,8 @@ use Rattle.paper.specs.declared.Tally.the-variants.{Solid}
 use Rattle.laws.proofs.Tests.{not-not}
 use Rattle.points.specs.Points.{at}
 use Rattle.points.specs.Seeing.{childNoAt}
-use Rattle.boxes_parts.specs.Parts.{chosen, pastIn, Spans, sharesIn}
-use Rattle.boxes.specs.Box.{InCell, AtKept, Kept, tallyAt, childrenIn, pointerPart}
+use Rattle.boxes_parts.specs.Parts.{InCell, chosen, pastIn, Spans, sharesIn}
+use Rattle.boxes.specs.Box.{AtKept, Kept, tallyAt, childrenIn, pointerPart}
 use Rattle.boxes.specs.declared.count.Ended.{Ended}
 use Rattle.boxes.specs.declared.count.Ended.the-variants.{Absent, At, Damaged as Unsound}
 use Rattle.boxes_parts.proofs.Cuts.{startIn, endIn, cut-spans}

@@ -12,8 +12,8 @@ use Rattle.laws.proofs.Invariant.{named-kept}
 use Rattle.points.specs.Points.{at}
 use Rattle.points.proofs.Seen.{tag-joins}
 use Rattle.paper.specs.declared.Tally.{Tally}
-use Rattle.boxes_parts.specs.Parts.{spreadsOver}
-use Rattle.boxes.specs.Box.{InCell, childTaken, cellPart, pointerPart}
+use Rattle.boxes_parts.specs.Parts.{InCell, spreadsOver}
+use Rattle.boxes.specs.Box.{childTaken, cellPart, pointerPart}
 use Rattle.boxes.proofs.Parts.{one-up, part-absent, part-bad, part-there, above, one-child, one-spans}
 use borrow.Author.Needs.{needs}
 use Rattle.boxes.proofs.count.down.Statement.{statement}

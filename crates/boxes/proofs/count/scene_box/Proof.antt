@@ -8,8 +8,10 @@ use borrow.Author.Needs.{needs}
 use Rattle.paper.specs.Rooms.{Point, hasVoxel}
 use Rattle.paper.specs.Store.{sceneDepth, sceneRoot}
 use Rattle.points.specs.Points.{at}
-use Rattle.boxes.specs.Box.{InCell, pointerPart}
-use Rattle.boxes.proofs.Scenes.{high-positive, depth-in, scene-none, scene-in, scene-some}
+use Rattle.boxes_parts.specs.Parts.{InCell}
+use Rattle.boxes.specs.Box.{pointerPart}
+use Rattle.boxes_parts.proofs.Corners.{high-positive}
+use Rattle.boxes.proofs.Scenes.{depth-in, scene-none, scene-in, scene-some}
 use Rattle.boxes.proofs.count.scene_box.Statement.{statement}
 use Rattle.boxes.proofs.count.scene_box.Tie as tie
 
