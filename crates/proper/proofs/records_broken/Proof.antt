@@ -95,11 +95,12 @@ popular-lists-bad-requires c κs =
 returns-2 : tie.Need-returns-2
 returns-2 c =
     let p = c .before .before in
-    let e = kept (p .before .before .before .before) in
+    let zero = p .before .before in
+    let e = kept (zero .before .before) in
     p .popular-lists-bad .ensures ∙ sym (ap not (popular-decides (file (read (marked e))) (good e)))
 
 pub records-broken-spec : {M : Type 1} → statement M
 records-broken-spec =
     tie.close
-    (tie.spec (λ c κs. search needs) (λ c. omega (arith, c .before .before .before .before .pre .0 .tested .long)) (λ c κs. search needs) (λ c. omega (arith, c .wide .ensures .0, start c .pre .0 .tested .deep))
+    (tie.spec (λ c κs. search needs) (λ c. let s = c .before .before in omega (arith, s .before .before .pre .0 .tested .long)) (λ c κs. search needs) (λ c. omega (arith, c .wide .ensures .0, start c .pre .0 .tested .deep))
     (λ c κs. search needs) marked-broken-requires (λ c. search needs) returns (λ c κs. search needs) popular-lists-bad-requires (λ c. search needs) returns-2)

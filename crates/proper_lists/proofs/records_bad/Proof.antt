@@ -74,8 +74,9 @@ loop-again c =
 
 returns-2 : tie.Need-returns-2 Inv-loop μ-loop
 returns-2 c =
-    let a = c .before .before .before .before .args in
-    let l = c .before .loop in
+    let at = c .before in
+    let a = at .before .before .before .args in
+    let l = at .loop in
     sym (ap not (l .inv .1 ∙ allIn-none (recordRules (a .unit) (a .marks .now) (a .list .now)) (restFrom (a .list .now) (l .place)) (rest-none (a .list .now) (l .place) (c .loop-test .left))))
 
 pub records-bad-spec : {M : Type 1} → statement M
