@@ -43,12 +43,14 @@
  * 'The whole store is tested' below means that 2 is given unless the header is in range and all words of its capacity are
  * lent; each scene held has a depth of 2 to 16 and a root that is none or a kept cell; no kept leaf is 0; each kept inner
  * cell, of height 3 and up, has a child, each of its pointers is none or leads to a kept cell, and the solid count kept with
- * it is the sum of its children's counts, a leaf's being its ones (as whole numbers: nothing wraps); all other words of its
- * capacity are 0.
+ * it is the sum of its children's counts, a leaf's being its ones (as whole numbers: nothing wraps); each chain, from its head
+ * along the next words, is the kept cells of its key, numbers rising; all other words of its capacity are 0. Chains are for
+ * finding equal cells (docs/RULES.md, 'Chains'). No question looks at them.
  *
- * Nothing is promised of time. A box enters no inner cell that lies wholly inside; one whose faces lie off the grid can enter
- * each cell that they cut. rooms_any ends at the first leaf with a solid voxel in the box: the less the box holds, the more it
- * may have to enter. A sight line steps over an empty cell at once, however large, and goes through leaves voxel by voxel.
+ * Nothing is promised of time. rooms_add compares a cell with those of one chain, of 256 at its height; a file can be made so
+ * that they are many. A box enters no inner cell that lies wholly inside; one whose faces lie off the grid can enter each cell
+ * that they cut. rooms_any ends at the first leaf with a solid voxel in the box: the less the box holds, the more it may have
+ * to enter. A sight line steps over an empty cell at once, however large, and goes through leaves voxel by voxel.
  */
 #ifndef ROOMS_H
 #define ROOMS_H
@@ -86,9 +88,11 @@ extern "C" {
 
 /*
  * Words of a store that keeps up to `capacity` cells at each height, 1 to ROOMS_MAX_CAPACITY: a header of 32, 64 scenes of 2,
- * then for each height `capacity` cells, leaves of 2 words and inner cells of 10: eight pointers and the solid count.
+ * then for each height `capacity` cells, leaves of 2 words and inner cells of 10: eight pointers and the solid count; then for
+ * each of the 15 heights the heads of 256 chains, and for each height a next word for each of `capacity` cells.
  */
-#define ROOMS_STORE_WORDS(capacity) ((size_t)160 + (size_t)142 * (size_t)(capacity))
+#define ROOMS_STORE_WORDS(capacity) \
+    ((size_t)160 + (size_t)142 * (size_t)(capacity) + (size_t)3840 + (size_t)15 * (size_t)(capacity))
 
 /* Words of scratch that rooms_pack takes for a store of this capacity. */
 #define ROOMS_PACK_SCRATCH_WORDS(capacity) ((size_t)60 * (size_t)(capacity))
@@ -118,8 +122,10 @@ extern "C" {
 uint32_t rooms_new(uint32_t *store, size_t store_words, uint32_t capacity);
 
 /*
- * Add the room of an outline file: its cells are merged into those kept, each new inner cell with its solid count. *scene is
- * the scene's number: how many were held before it. An empty room, and one added twice, takes a number too.
+ * Add the room of an outline file: its cells are merged into those kept, each new one put at the end of its chain, an inner
+ * cell with its solid count. A cell is sought along its chain; the one found is the one that a search of all kept cells, lowest
+ * number first, would find. *scene is the scene's number: how many were held before it. An empty room, and one added twice,
+ * takes a number too.
  * Refusals, in order: 2 (the whole store is tested), 3, 4, 5, 6 (the file), 7, 8. The store is then as it was.
  * On a store of these calls 2 is never given, and 8, if nothing before it, exactly where at some height the scenes held and
  * this one have more differing cells, images counted once, than the capacity.

@@ -41,7 +41,8 @@ fn answer<T>(number: u32, value: T) -> Answer<T> {
 
 /// The words of a store of this capacity, and the words of scratch that packing takes.
 pub fn store_words(capacity: u32) -> usize {
-    160 + 142 * capacity as usize
+    let capacity = capacity as usize;
+    160 + 142 * capacity + 3_840 + 15 * capacity
 }
 
 pub fn pack_words(capacity: u32) -> usize {

@@ -9,6 +9,7 @@
 //!                                   of a whole program's instructions
 //!     bench lines WHICH TIMES KEPT ROOM   asks for all sight lines of a room, TIMES times: for a counter of a whole program's
 //!                                   instructions (src/sight.rs)
+//!     bench added WHICH TIMES ROOM  adds a room to a new store, or builds the plain graph of it, TIMES times: for the same
 //!
 //! KEPT is a folder for the words of the stores.
 mod anything;
@@ -17,6 +18,7 @@ mod bitmap;
 mod boxes;
 mod callgrind;
 mod calls;
+mod chains;
 mod classes;
 mod clock;
 mod deep;
@@ -77,7 +79,10 @@ fn main() {
         ["asked", what, which, times, kept, room] => {
             asked::repeat(what, which, times.parse().unwrap(), Path::new(kept), room)
         }
-        _ => panic!("bench times | count | gather | table | lines | asked: see src/main.rs"),
+        ["added", which, times, room] => work::repeat_adding(which, times.parse().unwrap(), room),
+        _ => {
+            panic!("bench times | count | gather | table | lines | asked | added: see src/main.rs")
+        }
     }
 }
 

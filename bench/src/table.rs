@@ -1,4 +1,5 @@
-//! The tables: sizes, ratios with their goals, the check's growth, what damage tests and the search for equal cells take.
+//! The tables: sizes, ratios with their goals, adding and its chains, the check's growth, what damage tests and the search for equal cells
+//! take.
 use crate::anything::{self, ENTERED};
 use crate::deep;
 use crate::growth::{KINDS, SIZES};
@@ -96,6 +97,19 @@ macro_rules! beside_graph {
     };
 }
 
+/// A room's depth and its noise by its name, `..-d9-n20`.
+fn named(room: &str) -> Option<(&str, u32, &str)> {
+    let (kind, rest) = room.split_once("-d")?;
+    let (depth, noise) = rest.split_once("-n")?;
+    Some((kind, depth.parse().ok()?, noise))
+}
+
+/// Adding may take so many times what building the plain graph takes: more where there is noise.
+fn adding_goal(room: &str) -> Option<f64> {
+    let (_, _, noise) = named(room)?;
+    Some(if noise == "0" { 3.0 } else { 6.0 })
+}
+
 pub fn rows() -> Vec<Row> {
     vec![
         beside_graph!("voxel, uniform", "voxel, uniform", |_| Some(3.0)),
@@ -153,7 +167,7 @@ pub fn rows() -> Vec<Row> {
             |_| Some(0.2)
         ),
         beside_graph!("outline out", "outline out", |_| None),
-        beside_graph!("add", "add", |_| None),
+        beside_graph!("add", "add", adding_goal),
         row!("pack / add", ("pack", "store"), ("add", "store"), |_| Some(
             1.0
         )),
@@ -220,6 +234,7 @@ pub fn print(all: &Measured) {
     }
     in_the_way(all);
     lines(all);
+    adding(all);
     whole_calls(all);
     growth(all);
     shares(all);
@@ -228,7 +243,7 @@ pub fn print(all: &Measured) {
 
 fn sizes(all: &Measured) {
     println!("\n## Sizes\n");
-    println!("Cells: kept with images once (store), with equal cells once (graph), without sharing (octree). Bytes: 8 a leaf, 32 an inner cell (store 40: its solid count too).\n");
+    println!("Cells: kept with images once (store), with equal cells once (graph), without sharing (octree). Bytes: 8 a leaf, 32 an inner cell (store 12 and 44: a next word each, and the solid count; its 3,840 chain heads aside).\n");
     print_head(&[
         "room",
         "solid voxels",
@@ -413,6 +428,108 @@ fn lines(all: &Measured) {
             fields.push(cell(all.instructions(item, room, who)));
         }
         print_row(fields);
+    }
+}
+
+/// Adding's instructions for each of so many cells of a room, or its nanoseconds where instructions weren't counted.
+fn adding_each(all: &Measured, room: &str, cells: &str) -> Option<Ratio> {
+    let many = all.told(cells, room, "store")?;
+    let counted = all.instructions("add", room, "store");
+    let sum = counted.or_else(|| all.told("add", room, "store"))?;
+    Some(Ratio {
+        value: sum / many,
+        counted: counted.is_some(),
+    })
+}
+
+fn adding(all: &Measured) {
+    println!("\n## Adding a room, beside building the plain graph of it\n");
+    println!("Sought: every cell of the room, where it stands in the outline. Compared: with how many kept cells each was compared on the");
+    println!("average, those of its chain up to the one found, or all of them where none was. Longest chain: of any height. Instructions,");
+    println!("and in brackets by time; * nanoseconds, where instructions weren't counted.\n");
+    print_head(&[
+        "room",
+        "sought",
+        "kept",
+        "longest chain",
+        "compared",
+        "store",
+        "graph",
+        "store / graph",
+        "goal",
+        "each cell sought",
+        "each cell kept",
+    ]);
+    let starred = |ratio: Option<Ratio>| {
+        ratio.map_or("-".to_string(), |ratio| {
+            let star = if ratio.counted { "" } else { "*" };
+            format!("{}{star}", short(ratio.value))
+        })
+    };
+    for room in &all.rooms {
+        let told = |item| all.told(item, room, "store");
+        let whole = |value: Option<f64>| value.map_or("-".to_string(), |v| format!("{v:.0}"));
+        let compared = told("cells compared").zip(told("cells sought"));
+        let work = |who| {
+            let count = cell(all.instructions("add", room, who));
+            let time = all.told("add", room, who);
+            let time = time.map_or("-".to_string(), |time| format!("{:.2} ms", time / 1e6));
+            format!("{count} ({time})")
+        };
+        let over = ("add", "store");
+        let under = ("add", "graph");
+        let time = cell(all.by_time(over, under, room));
+        let ratio = starred(all.ratio(over, under, room));
+        print_row([
+            room.clone(),
+            whole(told("cells sought")),
+            whole(told("cells kept")),
+            format!(
+                "{}, height {}",
+                whole(told("longest chain")),
+                whole(told("longest chain's height"))
+            ),
+            cell(compared.map(|(a, b)| a / b)),
+            work("store"),
+            work("graph"),
+            format!("{ratio} ({time})"),
+            cell(adding_goal(room)),
+            starred(adding_each(all, room, "cells sought")),
+            starred(adding_each(all, room, "cells kept")),
+        ]);
+    }
+    adding_growth(all);
+}
+
+/// How adding's work for a cell changes from the least depth to the greatest of rooms of one kind.
+fn adding_growth(all: &Measured) {
+    println!("\nFrom the least depth to the greatest, rooms of one kind and noise: 1 is work that grows as the cells do.\n");
+    print_head(&["from", "to", "each cell sought", "each cell kept"]);
+    let mut kinds: Vec<(&str, &str)> = Vec::new();
+    for (kind, _, noise) in all.rooms.iter().filter_map(|room| named(room)) {
+        if !kinds.contains(&(kind, noise)) {
+            kinds.push((kind, noise));
+        }
+    }
+    for (kind, noise) in kinds {
+        let alike = |room: &&String| named(room).is_some_and(|(k, _, n)| (k, n) == (kind, noise));
+        let depth = |room: &&String| named(room).map(|(_, depth, _)| depth);
+        let rooms: Vec<&String> = all.rooms.iter().filter(alike).collect();
+        let from = rooms.iter().copied().min_by_key(depth);
+        let to = rooms.iter().copied().max_by_key(depth);
+        let Some((from, to)) = from.zip(to).filter(|(from, to)| from != to) else {
+            continue;
+        };
+        let step = |cells: &str| {
+            let (a, b) = adding_each(all, from, cells).zip(adding_each(all, to, cells))?;
+            (a.counted == b.counted).then_some(b.value / a.value)
+        };
+        print_row([
+            from.clone(),
+            to.clone(),
+            cell(step("cells sought")),
+            cell(step("cells kept")),
+        ]);
     }
 }
 

@@ -15,7 +15,7 @@ fn header_bad(store: &[u32]) -> bool {
     }
     let capacity = store[0];
     !(1..=65536).contains(&capacity)
-        || store.len() < 160 + 142 * capacity as usize
+        || store.len() < 4_000 + 157 * capacity as usize
         || store[1] > 64
         || store[2..17].iter().any(|&kept| kept > capacity)
         || store[17..32].iter().any(|&word| word != 0)

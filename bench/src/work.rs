@@ -7,7 +7,7 @@ use crate::graph::Graph;
 use crate::measure::Meter;
 use crate::octree::Octree;
 use crate::questions::{self, Point};
-use crate::{anything, classes, outline, sight, twin};
+use crate::{anything, chains, classes, outline, sight, twin};
 use std::collections::HashSet;
 use std::fs;
 use std::hint::black_box;
@@ -51,6 +51,7 @@ pub fn room(meter: &Meter, name: &str, file: Vec<u8>, kept: &Path) {
         }
     }
     built(meter, name, &file);
+    chained(meter, name, &store);
     let packed = packed(meter, name, &store, capacity, &file);
     let subject = Subject {
         meter,
@@ -115,10 +116,12 @@ fn write_words(path: &Path, store: &[u32]) {
     fs::write(path, bytes).unwrap();
 }
 
+/// The words in a file, if they are those of a store: another layout's are not.
 fn read_words(path: &Path) -> Option<Vec<u32>> {
     let bytes = fs::read(path).ok()?;
     let word = |four: &[u8]| u32::from_le_bytes(four.try_into().unwrap());
-    Some(bytes.chunks(4).map(word).collect())
+    let words: Vec<u32> = bytes.chunks(4).map(word).collect();
+    (words.len() == calls::store_words(*words.first()?)).then_some(words)
 }
 
 /// The store with the room added, and what adding costs, also of the same records with all leaves equal: next to no search.
@@ -166,6 +169,42 @@ fn built(meter: &Meter, name: &str, file: &[u8]) {
     meter.work(("add", name, "graph"), 1, none, |()| Graph::of(file));
     meter.work(("add", name, "octree"), 1, none, |()| Octree::of(file));
     meter.work(("add", name, "bitmap"), 1, none, |()| Bitmap::of(file));
+}
+
+/// What the store's chains tell of its adding.
+fn chained(meter: &Meter, name: &str, store: &[u32]) {
+    if meter.counting() {
+        return;
+    }
+    let chains = chains::of(store);
+    let (cells, height) = chains.longest;
+    meter.tell("longest chain", name, "store", cells);
+    meter.tell("longest chain's height", name, "store", height);
+    meter.tell("cells sought", name, "store", chains.sought as usize);
+    meter.tell("cells compared", name, "store", chains.compared as usize);
+}
+
+/// Adds a room to a new store (`store`), or builds the plain graph of it (`graph`), so many times.
+pub fn repeat_adding(which: &str, times: usize, room: &str) {
+    let file = fs::read(room).unwrap();
+    let capacity = least_capacity(&classes::of(&file));
+    let mut store = zeros(calls::store_words(capacity));
+    let mut kept = 0;
+    for _ in 0..times {
+        match which {
+            "store" => {
+                calls::new(&mut store, capacity).unwrap();
+                assert_eq!(calls::add(&mut store, black_box(&file)), Ok(0));
+                kept = (2..=16).map(|h| store[h] as usize).sum();
+            }
+            "graph" => {
+                let (cells, leaves) = black_box(Graph::of(black_box(&file))).kept();
+                kept = cells + leaves;
+            }
+            _ => panic!("store or graph"),
+        }
+    }
+    println!("added {times} times, {kept} cells kept");
 }
 
 /// The packed scene, and what packing and checking cost.
@@ -226,7 +265,7 @@ impl Subject<'_> {
         let leaves = differing[2] as usize;
         let cells = differing[3..].iter().sum::<u32>() as usize;
         tell("store", "cells kept", leaves + cells);
-        tell("store", "bytes", 8 * leaves + 40 * cells);
+        tell("store", "bytes", 12 * leaves + 44 * cells);
         tell("store", "capacity", self.store[0] as usize);
         tell("store", "lent bytes", 4 * self.store.len());
         tell("store", "packed bytes", self.packed.len());

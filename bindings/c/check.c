@@ -54,7 +54,7 @@ struct argument {
 };
 
 /* Elements of each memory. No number given is greater, so that any pointer may be lent with any of them as its length. */
-#define SIZE 1400
+#define SIZE 5300
 
 #define SLICES 5 /* of words */
 #define MOST 13  /* arguments of a call */
@@ -417,6 +417,9 @@ static void orders(void)
 #define CAPACITY 8
 #define STORE ROOMS_STORE_WORDS(CAPACITY)
 
+/* The words before its chains: header, scenes, leaves and cells. */
+#define LISTS (160 + 142 * CAPACITY)
+
 /* Document 01's first sample: depth 3, voxels (0, 0, 0) and (7, 0, 0). Its two leaves are mirror images in x. */
 static const uint8_t sample[] = {
     0x11, 0, 0, 0, 23, 3,   /* version, length, depth */
@@ -501,22 +504,105 @@ static size_t cell_at(size_t height, size_t number)
     return 160 + 2 * CAPACITY + 10 * ((height - 3) * CAPACITY + number);
 }
 
+/* Where the head of a chain is, and the next word of a cell. */
+static size_t head_at(size_t height, size_t chain)
+{
+    return LISTS + 256 * (height - 2) + chain;
+}
+
+static size_t next_at(size_t height, size_t number)
+{
+    return LISTS + 3840 + (height - 2) * CAPACITY + number;
+}
+
+/* Chains that no store of these calls has. */
+static void put_noise_in_chains(void)
+{
+    for (size_t i = LISTS; i < STORE; i++) {
+        before.words[0][i] = (uint32_t)(2654435761u * i + 1);
+    }
+}
+
+/* A question answers the same where all chains are wrong: it doesn't look at them. */
+static void accepted_without_chains(void)
+{
+    struct memory *kept = malloc(2 * sizeof *kept);
+    if (kept == NULL) {
+        stop("no memory", "chains");
+    }
+    kept[0] = before;
+    kept[1] = after;
+    put_noise_in_chains();
+    memcpy(&after.words[0][LISTS], &before.words[0][LISTS], (STORE - LISTS) * sizeof(uint32_t));
+    accepted("the same with noise in its chains");
+    before = kept[0];
+    after = kept[1];
+    free(kept);
+}
+
+/* What a call that tests the whole store refuses of chains, on the store of `pair`. Its leaves 0 and 1 have one voxel each: chain 1, with both.
+   Cells 0 and 1 of height 3 have a child each, leaf 0 and leaf 1: keys 0x9E3779B1 and twice that modulo 2^32, 0x3C6EF362.
+   Cell 0 of height 4 has both of these: the sum, 0xDAA66D13. */
+static void refused_chains(void)
+{
+    put_store(pair, sizeof pair);
+    refused_word(head_at(2, 1), 0, ROOMS_DAMAGED_STORE);            /* a chain cut off */
+    refused_word(head_at(2, 1), 2, ROOMS_DAMAGED_STORE);            /* without its first leaf */
+    refused_word(head_at(2, 1), 3, ROOMS_DAMAGED_STORE);            /* beginning with a leaf that is not kept */
+    refused_word(head_at(2, 1), UINT32_MAX, ROOMS_DAMAGED_STORE);
+    refused_word(next_at(2, 0), 0, ROOMS_DAMAGED_STORE);            /* without its last leaf */
+    refused_word(next_at(2, 0), 1, ROOMS_DAMAGED_STORE);            /* a ring */
+    refused_word(next_at(2, 1), 1, ROOMS_DAMAGED_STORE);            /* a greater ring */
+    refused_word(next_at(2, 1), 3, ROOMS_DAMAGED_STORE);            /* a leaf too many, not kept */
+    refused_word(next_at(2, 2), 1, ROOMS_DAMAGED_STORE);            /* the next word of a leaf that is not kept */
+    refused_word(next_at(2, CAPACITY - 1), 1, ROOMS_DAMAGED_STORE);
+    refused_word(head_at(2, 0), 1, ROOMS_DAMAGED_STORE);            /* a leaf in another chain besides */
+    refused_word(head_at(2, 2), 2, ROOMS_DAMAGED_STORE);
+    refused_word(head_at(2, 255), 1, ROOMS_DAMAGED_STORE);          /* a chain that no leaf can be in */
+    refused_word(head_at(3, 0x9E), 0, ROOMS_DAMAGED_STORE);
+    refused_word(head_at(3, 0x9E), 2, ROOMS_DAMAGED_STORE);         /* the other cell */
+    refused_word(head_at(3, 0x3C), 0, ROOMS_DAMAGED_STORE);
+    refused_word(head_at(3, 0x3C), 1, ROOMS_DAMAGED_STORE);
+    refused_word(next_at(3, 0), 2, ROOMS_DAMAGED_STORE);
+    refused_word(head_at(4, 0xDA), 0, ROOMS_DAMAGED_STORE);
+    refused_word(head_at(4, 0xDA), 1u << 29 | 1, ROOMS_DAMAGED_STORE); /* a pointer, not a number */
+    refused_word(next_at(4, 0), 1, ROOMS_DAMAGED_STORE);
+    refused_word(next_at(4, 1), 1, ROOMS_DAMAGED_STORE);
+    refused_word(head_at(16, 255), 1, ROOMS_DAMAGED_STORE);         /* the last head, at a height that keeps nothing */
+    refused_word(next_at(16, 0), 1, ROOMS_DAMAGED_STORE);
+    /* the two leaves in falling order: right but for that */
+    before.words[0][head_at(2, 1)] = 2;
+    before.words[0][next_at(2, 0)] = 0;
+    refused_word(next_at(2, 1), 1, ROOMS_DAMAGED_STORE);
+    /* the two cells of height 3 in each other's chains */
+    put_store(pair, sizeof pair);
+    before.words[0][head_at(3, 0x9E)] = 2;
+    refused_word(head_at(3, 0x3C), 1, ROOMS_DAMAGED_STORE);
+}
+
 /* What a call that tests the whole store of `sample` refuses besides: an unused word, a count that is not the sum of its children's. */
 static void refused_whole(void)
 {
+    refused_word(LISTS - 1, 1, ROOMS_DAMAGED_STORE);
     refused_word(STORE - 1, 1, ROOMS_DAMAGED_STORE);
     refused_word(cell_at(3, 1) + 8, 1, ROOMS_DAMAGED_STORE); /* the count words of a cell that is not kept */
     refused_word(cell_at(3, 1) + 9, 1, ROOMS_DAMAGED_STORE);
     refused_word(cell_at(3, 0) + 8, 1, ROOMS_DAMAGED_STORE); /* 2^32 + 2, where 2 is due */
     refused_word(cell_at(3, 0) + 9, 1, ROOMS_DAMAGED_STORE);
     refused_word(cell_at(3, 0) + 9, 3, ROOMS_DAMAGED_STORE);
-    refused_word(161, 3, ROOMS_DAMAGED_STORE); /* the leaf has a voxel more, and the cell has it twice */
+    /* the leaf has a voxel more, in chain 2, and the cell has it twice */
+    before.words[0][head_at(2, 1)] = 0;
+    before.words[0][head_at(2, 2)] = 1;
+    refused_word(161, 3, ROOMS_DAMAGED_STORE);
+    before.words[0][head_at(2, 1)] = 1;
+    before.words[0][head_at(2, 2)] = 0;
 }
 
 /* What every call on a scene refuses: a short slice, a header out of range, a scene that is not there. */
 static void refused_store(void)
 {
     refused(whole("store_words", STORE - 1), ROOMS_DAMAGED_STORE);
+    refused(whole("store_words", LISTS), ROOMS_DAMAGED_STORE); /* all but the chains */
     refused(whole("store_words", 0), ROOMS_DAMAGED_STORE);
     refused_word(17, 1, ROOMS_DAMAGED_STORE);
     refused(whole("scene", 2), ROOMS_NO_SCENE);
@@ -533,8 +619,43 @@ static void try_new(void)
     accepted("a new store");
     orders();
     refused(whole("store_words", STORE - 1), ROOMS_BAD_SIZE);
+    refused(whole("store_words", LISTS), ROOMS_BAD_SIZE); /* all but the chains */
     refused(whole("capacity", CAPACITY + 1), ROOMS_BAD_SIZE);
     refused(whole("capacity", 0), ROOMS_BAD_SIZE);
+}
+
+/* The room of two voxels as scene 1: a chain of two leaves, and three of one cell each; `refused_chains` says why these. */
+static void accepted_pair(void)
+{
+    struct argument kept = given[place_of("file_bytes")];
+    put_store_by_hand(CAPACITY);
+    put_file(pair, sizeof pair);
+    change(whole("file_bytes", sizeof pair));
+    memcpy(&after, &before, sizeof after);
+    uint32_t *store = after.words[0];
+    store[1] = 2;                   /* scenes held */
+    store[2] = store[3] = 2;        /* leaves and cells of height 3 kept */
+    store[4] = 1;                   /* cells of height 4 */
+    store[34] = 4;                  /* scene 1: its depth */
+    store[35] = 1;                  /* and its root */
+    store[161] = 1 << 14;           /* the leaves */
+    store[163] = 1 << 8;
+    store[cell_at(3, 0) + 4] = 1;   /* cell 0 of height 3: child 4 is leaf 0; its solid count */
+    store[cell_at(3, 0) + 9] = 1;
+    store[cell_at(3, 1) + 4] = 2;
+    store[cell_at(3, 1) + 9] = 1;
+    store[cell_at(4, 0)] = 1;
+    store[cell_at(4, 0) + 7] = 2;
+    store[cell_at(4, 0) + 9] = 2;
+    store[head_at(2, 1)] = 1;       /* leaf 0, and after it leaf 1 */
+    store[next_at(2, 0)] = 2;
+    store[head_at(3, 0x9E)] = 1;
+    store[head_at(3, 0x3C)] = 2;
+    store[head_at(4, 0xDA)] = 1;
+    after.words[1][0] = 1;          /* *scene */
+    accepted("the pair as scene 1");
+    change(kept);
+    put_file(sample, sizeof sample);
 }
 
 static void try_add(void)
@@ -552,10 +673,13 @@ static void try_add(void)
     after.words[0][160 + 2 * CAPACITY] = 1;             /* the cell: child 0 is leaf 0 */
     after.words[0][160 + 2 * CAPACITY + 1] = 0x20000001; /* child 1 is leaf 0 mirrored in x */
     after.words[0][160 + 2 * CAPACITY + 9] = 2;         /* its solid count, the low word */
+    after.words[0][head_at(2, 1)] = 1;                  /* leaf 0 has one voxel: chain 1 */
+    after.words[0][head_at(3, 0x3C)] = 1;               /* cell 0 has the key 2 times 2,654,435,761, modulo 2^32: 0x3C6EF362 */
     after.words[1][0] = 1;                              /* *scene */
     accepted("the sample as scene 1");
     orders();
     refused(whole("store_words", STORE - 1), ROOMS_DAMAGED_STORE);
+    refused(whole("store_words", LISTS), ROOMS_DAMAGED_STORE); /* all but the chains */
     refused_word(17, 1, ROOMS_DAMAGED_STORE);
     refused(whole("file_bytes", 0), ROOMS_BAD_VERSION);
     refused_byte(0, 0x21, ROOMS_BAD_VERSION, 0);
@@ -564,6 +688,8 @@ static void try_add(void)
     refused_byte(6, 0, ROOMS_BROKEN_RULES, 0);
     put_store(sample, sizeof sample);
     refused_whole();
+    refused_chains();
+    accepted_pair();
     put_store_by_hand(CAPACITY);
     for (size_t i = 0; i < ROOMS_MAX_SCENES; i++) {
         before.words[0][32 + 2 * i] = 2;
@@ -607,6 +733,7 @@ static void try_voxel(void)
     after.words[1][0] = 1; /* solid, and no other point is; no scene has a higher number */
     after.words[2][0] = 0; /* the height of a solid voxel */
     accepted("the one voxel");
+    accepted_without_chains();
     orders();
     refused_store();
     refused(whole("x", 32), ROOMS_OUTSIDE);
@@ -652,6 +779,7 @@ static void try_sight(void)
     put_store(row, sizeof row);
     give(4, 13, words("store", 0), whole("store_words", STORE), whole("scene", 1), whole("from_x", 2), whole("from_y", 5), whole("from_z", 11), whole("to_x", 26), whole("to_y", 23), whole("to_z", 17), words("blocked", 1), words("x", 2), words("y", 3), words("z", 4));
     seen(1, 10, 11, 13, "from the one end of the row: the first voxel");
+    accepted_without_chains();
     orders();
     refused_store();
     for (size_t i = 0; i < 6; i++) {
@@ -688,6 +816,7 @@ static void try_cell(void)
     give(1, 8, words("store", 0), whole("store_words", STORE), whole("scene", 1), whole("height", 2), whole("x", 3), whole("y", 4), whole("z", 5), words("full", 1));
     after.words[1][0] = 1; /* the leaf of (13, 18, 23) is that of (3, 4, 5) * 4, and the only one */
     accepted("the one leaf");
+    accepted_without_chains();
     orders();
     refused_store();
     refused(whole("height", 6), ROOMS_OUTSIDE);
@@ -759,6 +888,7 @@ static void try_box(void)
     give(1, 10, words("store", 0), whole("store_words", STORE), whole("scene", 1), whole("low_x", 2), whole("low_y", 3), whole("low_z", 4), whole("high_x", 9), whole("high_y", 11), whole("high_z", 13), wide("count"));
     after.wide[0] = 2;
     accepted("a box with both voxels");
+    accepted_without_chains();
     orders();
     refused_store();
     static const char *const lows[] = {"low_x", "low_y", "low_z"}, *const highs[] = {"high_x", "high_y", "high_z"};
@@ -832,6 +962,7 @@ static void try_any(void)
        cells are entered; with lows of 2, 3 and 4 it has the first voxel, after three. */
     give(2, 11, words("store", 0), whole("store_words", STORE), whole("scene", 1), whole("low_x", 3), whole("low_y", 2), whole("low_z", 4), whole("high_x", 9), whole("high_y", 11), whole("high_z", 13), words("solid", 1), wide("entered"));
     found(1, 5, "a box with the second voxel, past the first");
+    accepted_without_chains();
     orders();
     refused_store();
     refused_word(34, 17, ROOMS_DAMAGED_STORE); /* the scene's depth */
@@ -873,6 +1004,7 @@ static void try_kept(void)
     give(1, 4, words("store", 0), whole("store_words", STORE), whole("height", 3), words("count", 1));
     after.words[1][0] = 2; /* its leaves differ from each other's images, and so do the two cells above them */
     accepted("height 3");
+    accepted_without_chains();
     orders();
     change(whole("height", 4));
     after.words[1][0] = 1;
@@ -898,6 +1030,7 @@ static void try_outline(void)
     refused_store();
     refused_whole();
     refused(whole("out_bytes", sizeof sample - 1), ROOMS_OUTPUT_SHORT);
+    refused_chains();
 }
 
 static void try_pack(void)
@@ -915,6 +1048,7 @@ static void try_pack(void)
     refused_whole();
     refused(whole("scratch_words", scratch - 1), ROOMS_SCRATCH_SHORT);
     refused_scratch(whole("out_bytes", sizeof sample_packed - 1), ROOMS_OUTPUT_SHORT, 0, scratch);
+    refused_chains();
 }
 
 static void try_check(void)
@@ -1054,8 +1188,8 @@ static void is(const char *what, uint32_t got, uint32_t due)
 /* A new store of the greatest capacity. */
 static void try_greatest(void)
 {
-    const size_t most = ROOMS_STORE_WORDS(ROOMS_MAX_CAPACITY);
-    uint32_t *store = malloc((most + 142) * sizeof *store);
+    const size_t most = ROOMS_STORE_WORDS(ROOMS_MAX_CAPACITY), more = ROOMS_STORE_WORDS(ROOMS_MAX_CAPACITY + 1);
+    uint32_t *store = malloc(more * sizeof *store);
     if (store == NULL) {
         is("no memory for the greatest store", 1, 0);
         return;
@@ -1065,7 +1199,7 @@ static void try_greatest(void)
     is("its last word", store[most - 1], 0);
     is("the word behind it", store[most], 7);
     is("one word too few", rooms_new(store, most - 1, ROOMS_MAX_CAPACITY), ROOMS_BAD_SIZE);
-    is("a greater capacity", rooms_new(store, most + 142, ROOMS_MAX_CAPACITY + 1), ROOMS_BAD_SIZE);
+    is("a greater capacity", rooms_new(store, more, ROOMS_MAX_CAPACITY + 1), ROOMS_BAD_SIZE);
     free(store);
 }
 

@@ -5,7 +5,8 @@
 //! A refused call leaves store and output as they were. Nothing is allocated and nothing kept between calls.
 //!
 //! 'The whole store is tested' below: the header, every scene held, every kept cell (not empty, no bad pointer, its solid count the
-//! sum of its children's, a leaf's being its ones), and that all other words are 0.
+//! sum of its children's, a leaf's being its ones), every chain (the kept cells of its key, numbers rising), and that all other
+//! words are 0. Questions don't look at chains.
 //!
 //! ```
 //! let mut store = [0; rooms::store_words(32)];
@@ -29,9 +30,10 @@ pub const MAX_SCENES: u32 = 64;
 pub const MAX_CAPACITY: u32 = 65_536;
 
 /// Words of a store that keeps up to `capacity` cells at each height, 1 to `MAX_CAPACITY`: leaves of 2 words, other cells of 10, eight
-/// pointers and the solid count.
+/// pointers and the solid count; then for each of 15 heights the heads of 256 chains, and a next word for each cell.
 pub const fn store_words(capacity: u32) -> usize {
-    160 + 142 * capacity as usize
+    let capacity = capacity as usize;
+    160 + 142 * capacity + 3_840 + 15 * capacity
 }
 
 /// Words of scratch that `pack` takes for a store of this capacity.
@@ -52,7 +54,8 @@ pub fn new_store(store: &mut [u32], capacity: u32) -> Result<(), Refusal> {
     accepted(c::rooms_new(store, capacity), ())
 }
 
-/// Adds the room of an outline; answers the scene's number, the count of scenes before.
+/// Adds the room of an outline; answers the scene's number, the count of scenes before. Each of its cells is compared with the kept
+/// cells of its chain alone: every cell that it matches, under any mirror, is there.
 /// Refusals, in order: `DamagedStore` (the whole store is tested), `BadVersion`, `BadLength`, `BadDepth`, `BrokenRules`, `ScenesFull`,
 /// `CellsFull`.
 pub fn add(store: &mut [u32], file: &[u8]) -> Result<u32, Refusal> {

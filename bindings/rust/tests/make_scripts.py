@@ -24,8 +24,13 @@ def new(capacity, words):
     return b"N" + u32(capacity, words)
 
 
-def used(capacity):
+def lists(capacity):
+    """The words before the chains."""
     return 160 + 142 * capacity
+
+
+def used(capacity):
+    return lists(capacity) + 3840 + 15 * capacity
 
 
 def fresh(capacity, spare=3):
@@ -172,32 +177,62 @@ def place(capacity, height, number):
     return 160 + 2 * capacity + 10 * ((height - 3) * capacity + number)
 
 
-def counts_of(leaves, lists):
+def counts_of(leaves, cells):
     """The solid count of each cell, by height and number; a pointer to no cell adds nothing."""
     counts = {(2, n): bits.bit_count() for n, bits in enumerate(leaves)}
-    for h in sorted(lists):
-        for n, pointers in enumerate(lists[h]):
+    for h in sorted(cells):
+        for n, pointers in enumerate(cells[h]):
             counts[h, n] = sum(counts.get((h - 1, (p & 2**29 - 1) - 1), 0) for p in pointers)
     return counts
 
 
-def by_hand(capacity, scenes, leaves, lists, spare=2):
-    """A store written word by word, its counts true; lists: for each height its cells."""
+def head(capacity, height, chain):
+    """Where the head of a chain is."""
+    return lists(capacity) + 256 * (height - 2) + chain
+
+
+def following(capacity, height, number):
+    """Where the next word of a cell is."""
+    return lists(capacity) + 3840 + (height - 2) * capacity + number
+
+
+def chain_of(pointers):
+    """The chain of an inner cell."""
+    return (sum((p & 2**29 - 1) * 2654435761 for p in pointers) & MOST) >> 24
+
+
+def chained(capacity, chains_by_height):
+    """The chain words of a store, by place: for each height the chains of its cells, by number."""
+    words = {}
+    for h, chains in chains_by_height.items():
+        last = {}
+        for n, chain in enumerate(chains):
+            words[last.get(chain, head(capacity, h, chain))] = n + 1
+            last[chain] = following(capacity, h, n)
+    return words
+
+
+def by_hand(capacity, scenes, leaves, cells, spare=2):
+    """A store written word by word, its counts true and its chains right; cells: for each height its cells."""
     script = fresh(capacity, spare)
     script += word(1, len(scenes)) + word(2, len(leaves))
-    for h in lists:
-        script += word(h, len(lists[h]))
+    for h in cells:
+        script += word(h, len(cells[h]))
     for i, (depth, root) in enumerate(scenes):
         script += word(32 + 2 * i, depth) + word(33 + 2 * i, root)
     for i, bits in enumerate(leaves):
         script += word(160 + 2 * i, bits >> 32) + word(161 + 2 * i, bits)
-    counts = counts_of(leaves, lists)
-    for h in lists:
-        for n, pointers in enumerate(lists[h]):
+    counts = counts_of(leaves, cells)
+    for h in cells:
+        for n, pointers in enumerate(cells[h]):
             count = counts[h, n]
             for j, p in enumerate([*pointers, count >> 32, count & MOST]):
                 if p:
                     script += word(place(capacity, h, n) + j, p)
+    chains = {h: [chain_of(pointers) for pointers in cells[h]] for h in cells}
+    chains[2] = [bits.bit_count() for bits in leaves]
+    for at, n in chained(capacity, chains).items():
+        script += word(at, n)
     return script
 
 
@@ -215,10 +250,11 @@ def questions():
     script = b""
     # before the first new store: a slice of no words
     script += voxel(0, 0, 0, 0) + cell(0, 0, 0, 0, 0) + both(0, (0, 0, 0), (0, 0, 0)) + kept(2) + outline_out(0, 10) + STORE_SUM
-    for words in (0, 1, 31, 32, 159, 160, 301, 302):
+    for words in (0, 1, 31, 32, 159, 160, 302, 4156, 4157):
         script += new(1, words) + voxel(0, 0, 0, 0) + kept(2) + both(0, (0, 0, 0), (0, 0, 0)) + cell(0, 0, 0, 0, 0) + outline_out(0, 8)
-    for c in (0, 1, 2, 921, 922, 65535, 65536, 65537, MOST):
-        script += new(c, 330) + new(c, 131072) + new(c, min(131072, used(c))) + new(c, min(131072, used(c) - 1))
+    for c in (0, 1, 2, 1644, 1645, 65535, 65536, 65537, 27356481, MOST):
+        script += new(c, 4300) + new(c, 262144) + new(c, min(262144, used(c))) + new(c, min(262144, used(c) - 1))
+        script += new(c, min(262144, lists(c)))
 
     base = by_hand(
         2,
@@ -259,12 +295,27 @@ def questions():
     first, second, above, end = place(2, 3, 0), place(2, 3, 1), place(2, 4, 0), used(2)
     cells = [(first, 0x20000000), (first, pointer(0, 2)), (first + 1, pointer(0, 7)), (first + 3, pointer(0, 2**29 - 2))]
     cells += [(first + 7, 1), (second, 0), (above, pointer(0, 2)), (above, 0x40000000), (above + 7, pointer(0, 3))]
-    cells += [(above + 10, 1), (end - 1, 1), (end, 1), (end + 1, 77)]
+    cells += [(above + 10, 1), (lists(2) - 1, 1), (end - 1, 1), (end, 1), (end + 1, 77)]
     # counts: the first cell has 68, the second 16, the one above them 152
     counts = [(first + 9, 67), (first + 9, 69), (first + 9, 512), (first + 9, 513), (first + 8, 1), (second + 9, 0), (second + 8, MOST)]
-    counts += [(above + 9, 151), (above + 9, 4096), (above + 9, 4097), (above + 8, 1), (above + 18, 1), (above + 19, 1), (end - 2, 1)]
+    counts += [(above + 9, 151), (above + 9, 4096), (above + 9, 4097), (above + 8, 1), (above + 18, 1), (above + 19, 1), (lists(2) - 2, 1)]
     for at, n in header + scenes + unused + leaves + cells + counts:
         script += base + word(at, n) + few + STORE_SUM
+    # chains: the leaves' are 2 and 64; a head gone, another's, one that is not kept; rings; cells that are not kept; heights that keep none
+    own = [chain_of([pointer(0, 0), pointer(3, 1), pointer(7, 0)]), chain_of([pointer(2, 0)] * 8)]
+    top = chain_of([pointer(6, 0), pointer(1, 1), pointer(0, 0)])
+    chains = [(head(2, 2, 2), 0), (head(2, 2, 2), 2), (head(2, 2, 64), 3), (head(2, 2, 0), 1), (head(2, 2, 65), 1), (head(2, 2, 255), 2)]
+    chains += [(head(2, 3, own[0]), 2), (head(2, 3, own[1]), 0), (head(2, 3, own[1]), pointer(1, 1)), (head(2, 4, top), MOST), (head(2, 5, 0), 1)]
+    chains += [(head(2, 16, 255), 1), (following(2, 2, 0), 1), (following(2, 2, 0), 2), (following(2, 3, 1), 1), (following(2, 4, 0), 1)]
+    chains += [(following(2, 4, 1), 1), (following(2, 4, 1), 2), (following(2, 5, 0), 1), (following(2, 16, 1), MOST)]
+    brief = b"".join(voxel(s, 3, 1, 2) + cell(s, 2, 0, 0, 0) + both(s, (0, 0, 0), (8, 8, 8)) + outline_out(s, 300) for s in (0, 4))
+    brief += pack(0, 120, 99) + add(S1) + add(b"") + kept(3) + STORE_SUM
+    for at, n in chains:
+        script += base + word(at, n) + brief
+    # the damage of a cell or of a leaf, its chain with it
+    script += base + word(162, 0) + word(163, 1) + word(head(2, 2, 64), 0) + word(head(2, 2, 1), 2) + brief
+    script += base + word(first, pointer(0, 2)) + word(head(2, 3, own[0]), 0)
+    script += word(head(2, 3, chain_of([pointer(0, 2), pointer(3, 1), pointer(7, 0)])), 1) + brief
     # the words of a count exchanged; a wrong count below, and the one above summed up from it; a sum that is right modulo 2^64 only
     pairs = [[(first + 8, 68), (first + 9, 0)], [(above + 8, 152), (above + 9, 0)], [(second + 9, 17), (above + 9, 153)]]
     pairs += [[(first + 8, 2**31), (first + 9, 0), (above + 9, 16)]]
@@ -365,7 +416,7 @@ def adding():
             script += add(outline(5, some_voxels(5, n))) + STORE_SUM
         script += add(ROOM_P) + add(S1) + kept(2) + kept(3) + kept(4) + kept(5)
     # noise beyond the used words stays; a store damaged beyond is not seen
-    script += new(2, 500) + add(S1) + word(499, 7) + add(ROOM_P) + STORE_SUM
+    script += new(2, 4500) + add(S1) + word(4499, 7) + add(ROOM_P) + STORE_SUM
     # stores that no call wrote: cells that match, tags not lowest
     script += by_hand(4, [], [1, 8, 0x8001], {3: [[pointer(3, 2), 0, 0, 0, 0, 0, 0, 0], [pointer(0, 2), 0, 0, 0, 0, 0, 0, 0]]})
     script += add(S1) + add(ROOM_P) + add(raw(3, b"\x01" + leaf(0x8001))) + add(raw(3, b"\x80" + leaf(0x8001))) + STORE_SUM

@@ -11,19 +11,20 @@ use lib.ListN.{length, drop, getD, drop-of-length-le}
 use lib.Seq.{drop-cons}
 use borrow.Author.Tests.{eqb-true, eqb-false}
 use Rattle.paper.specs.Outline.{Tree, none, Read, bad, ok, readRecord, readRoot, readWhole, treeRead, outlineHead, fileDepth, outlineRead, outlineRules, outlineTree}
-use Rattle.paper.specs.Store.{Cell, used, capacityOf, scenesHeld, keptOf, storeOf}
+use Rattle.paper.specs.Store.{Cell, capacityOf, keptOf}
 use Rattle.paper.specs.Match.{Adding, addTree}
 use Rattle.paper.specs.Calls.{adding}
 use Rattle.paper.specs.Runs.{Bytes}
 use Rattle.laws.proofs.Tests.{T-true}
-use Rattle.laws.proofs.Undamaged.{Undamaged, undamaged, depth-low, store-fine, wordsOf-storeOf}
+use Rattle.laws.specs.InOrder.{InOrder}
+use Rattle.laws.proofs.Undamaged.{depth-low}
+use Rattle.laws.proofs.InOrder.{in-order}
 use Rattle.laws.proofs.Growing.{ext-refl}
-use Rattle.laws.proofs.Places.{store-sound}
 use Rattle.add_records.specs.declared.RecordAdded.the-variants.{At}
 use Rattle.add_records.specs.RecordAdding.{RecordAdding, recordAdding, addRecord}
 use Rattle.add_records.proofs.Settings.{Setting, wordsWith, Good}
 use Rattle.add_records.proofs.Standing.{Stands, After}
-use Rattle.add_records.proofs.RecordStanding.{record-stands}
+use Rattle.add_records.proofs.Lasting as lasting
 use Rattle.add.specs.SceneAdding.{Ready, addRoot}
 use Rattle.add.proofs.Roots.{accepted, file-long}
 
@@ -40,27 +41,18 @@ module _ (ws file : List ℕ) (lent : Lent ws file) where
   abbrev K : List (List Cell)
   K = keptOf ws
 
-  pub sane : Undamaged ws
-  sane = undamaged ws (lent .ready .whole)
+  -- the store is in order, and its setting with the file
+  pub ordered : InOrder ws
+  ordered = in-order ws (lent .ready .whole) (lent .words)
 
   abbrev pub setting : Setting
-  setting = record {
-    capacity = capacityOf ws;
-    capacity-ok = sane .capacity;
-    held = scenesHeld ws;
-    places = storeOf ws .scenes;
-    behind = drop (used (capacityOf ws)) ws;
-    file = file;
-    bytes = lent .bytes;
-  }
+  setting = lasting.setting ws file ordered (lent .bytes)
 
   pub good : Good setting K
-  unfolding storeOf
-  good = record { sound = store-sound ws sane (lent .words); fine = store-fine ws sane }
+  good = lasting.good ws file ordered (lent .bytes)
 
   pub again : wordsWith setting K ≡ ws
-  unfolding storeOf
-  again = wordsOf-storeOf ws sane (lent .words)
+  again = lasting.again ws file ordered (lent .bytes)
 
   abbrev pub Standing : Adding ℕ → RecordAdding → Type 0
   Standing a o = Stands setting K (D - 2) [] a o
@@ -84,8 +76,7 @@ module _ (ws file : List ℕ) (lent : Lent ws file) where
   record-after : After-adding (readRecord (D - 2) (drop outlineHead file)) (addRecord file (D - 2) outlineHead ws)
   record-after =
       let fair = lent .ready .fair in
-      subst (λ (w : List ℕ). After-adding (readRecord (D - 2) (drop outlineHead file)) (addRecord file (D - 2) outlineHead w)) again
-      (record-stands setting (D - 2) (depth-low D (accepted file fair .deep)) outlineHead K (file-long file fair) good)
+      lasting.record-after ws file ordered (lent .bytes) (D - 2) outlineHead (depth-low D (accepted file fair .deep)) (file-long file fair)
 
   root-read : outlineHead < length file → readRoot (D - 2) (drop outlineHead file) ≡ readRecord (D - 2) (drop outlineHead file)
   unfolding readRoot

@@ -2,8 +2,7 @@
 // refused with the store as it was.
 ghost use mathlib.Core.Path.{_≡_};
 ghost use mathlib.Core.List.{[], _∷_};
-ghost use lib.Dec.{T};
-ghost use Rattle.paper.specs.Store.{headerOk};
+ghost use Rattle.laws.specs.InOrder.{InOrder};
 ghost use Rattle.paper.specs.Answers.{outcome, added};
 ghost use Rattle.paper.specs.Order.{firstOf};
 ghost use Rattle.paper.specs.Calls.{outlineOrder, addOutcome};
@@ -27,7 +26,7 @@ use store_whole::store_bad;
 // The root's record, or none for an empty scene.
 fn add_root(file: &[u8], store: &mut [u32]) -> RecordAdded
     requires { ⌜ firstOf (outlineOrder (now file)) ≡ 0 ⌝ }
-    requires { ⌜ T (headerOk (now store)) ⌝ }
+    requires { ⌜ InOrder (now store) ⌝ }
     ensures { λ r. ⌜ recordAdding r (now (store .exit)) ≡ addRoot (now (file .entry)) (now (store .entry)) ⌝ }
 {
     if file.len() == OUTLINE_HEAD {

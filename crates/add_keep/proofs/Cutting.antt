@@ -1,26 +1,28 @@
 -- On the words of a store: lists cut back to a front part of each give the words of the store with those front parts.
--- By zeros stored over the rows of the cells cut, in the list's region, and induction on the lists. On the way the cells above still have the counts
--- that all cells gave; at the end each has its own again. Assumes nothing.
+-- By zeros stored over the rows of the cells cut, in the list's region, the links of its chains cut, and induction on the lists. On the way the cells above
+-- still have the counts that all cells gave; at the end each has its own again. Assumes nothing.
 use mathlib.Core.Path.{_≡_, refl, sym, subst, ap, ap₂, _∙_}
 use mathlib.Core.List.{List, [], _∷_, _++_, map, append-assoc, append-nil}
 use Prim.Native.Nat.{ℕ, zero, suc, _+_, _-_, _*_, _≤_, _<_}
-use native.Mathlib.Nat.{not-suc-le-zero, add-zero, zero-add, mul-comm}
+use native.Mathlib.Nat.{not-suc-le-zero, add-zero, zero-add, mul-comm, mul-add, mul-le-mul-left}
 use native.Mathlib.Decide.{ℕ-discrete}
 use native.Mathlib.Omega.{arith}
 use lib.ListN.{length, getD, set, replicate, length-map, length-append, length-replicate, length-set, replicate-append-replicate}
 use lib.Seq.{sets, length-sets, set-append-left, set-comm, drop-length, getD-set-same, getD-set-other, ext-getD}
 use Rattle.paper.specs.Numbers.{tabulate, flatten}
-use Rattle.paper.specs.Store.{Cell, heights, keptCount, cellLength, stride, listPosition, cellPosition, cellsAt, padded, rowOf}
+use Rattle.paper.specs.Store.{Cell, heights, chains, keptCount, cellLength, stride, listPosition, cellPosition, firstHead, headPosition, nextPosition, cellsAt, padded, rowOf, chainWords}
+use Rattle.laws.specs.Chains.{cutLinks}
 use Rattle.laws.proofs.Put.{sets-left, sets-right}
 use Rattle.laws.proofs.Lists.{getD-tabulate, map-append}
 use Rattle.laws.proofs.Padded.{flatten-append, Sized, snil, scons, flatten-length}
-use Rattle.laws.proofs.Rows.{rows-sized, Lists, lnil, lcons, words-fit}
-use Rattle.laws.proofs.Words.{Fine, stored, countedBy, counted-own, counted-grown, length-by, list-by, capacity-by, count-by, cells-sized, cells-few, count-read}
+use Rattle.laws.proofs.Rows.{rows-sized, Lists, lnil, lcons, list-end, words-fit}
+use Rattle.laws.proofs.ChainWords.{chains-long}
+use Rattle.laws.proofs.ChainLinks.{cut-long, cut-within, cut-words}
+use Rattle.laws.proofs.Words.{Fine, stored, stored-own, countedBy, counted-grown, length-by, list-by, capacity-by, count-by, cells-sized, cells-few, count-read}
 use Rattle.laws.proofs.Invariant.{OkCells}
 use Rattle.laws.proofs.Growing.{Extends, ext-length}
-use Rattle.add_keep.specs.Keeping.{cutList, cutLists, cutBack}
+use Rattle.add_keep.specs.Keeping.{cutChains, cutCells, cutList, cutLists, cutBack}
 use Rattle.add_keep.proofs.Headers.{past-header}
-use Rattle.store.proofs.Positions.{position-in}
 use Rattle.store.proofs.InPlace.{zeros-first}
 
 -- ---- one list: a front part a of its cells, and the others b
@@ -128,11 +130,12 @@ module _ (C N : ℕ) (S : List Cell) (Ks : List (List Cell)) (f : Fine C N S Ks)
       zeros-fit : cellPosition C k (length a) + length zeros ≤ length (countedBy G C N S Ks)
       zeros-fit =
           let few : length a + length b ≤ C = omega (arith, cells-few C N S Ks f k, all-lengths) in
-          simp length-replicate (omega (arith, length-by G C N S Ks f, position-in C k (length a + length b) h few))
+          simp length-replicate (omega (arith, length-by G C N S Ks f, list-end C k h, mul-le-mul-left (stride k) few, mul-add (stride k) (length a) (length b)))
 
-      pub list-cut-stored : cutList k (length a) (countedBy G C N S Ks ++ x) ≡ countedBy G C N S (set Ks k a) ++ x
-      unfolding cutList
-      list-cut-stored =
+      -- the cells, x being the words behind the lists
+      cells-cut-stored : cutCells k (length a) (countedBy G C N S Ks ++ x) ≡ countedBy G C N S (set Ks k a) ++ x
+      unfolding cutCells
+      cells-cut-stored =
           let W : List ℕ = countedBy G C N S Ks in
           let n : ℕ = length a in
           let i : ℕ = cellPosition C k n in
@@ -141,6 +144,32 @@ module _ (C N : ℕ) (S : List Cell) (Ks : List (List Cell)) (f : Fine C N S Ks)
           ∙ ap (λ (l : List ℕ). set l (2 + k) n) (sets-left zeros W x i zeros-fit)
           ∙ set-append-left (sets W i zeros) x (2 + k) n (rw (length-sets W i zeros) (omega (arith, length-by G C N S Ks f)))
           ∙ ap (λ (l : List ℕ). l ++ x) (set-before zeros W i (2 + k) n (omega (arith, past-header C k n)) ∙ sym words-cut)
+
+    module _ (x : List ℕ) where
+      -- the chains, x being the words behind them
+      chains-cut-stored : cutChains k (length a) (countedBy G C N S Ks ++ (chainWords Ks C ++ x)) ≡ countedBy G C N S Ks ++ (chainWords (set Ks k a) C ++ x)
+      unfolding cutChains
+      chains-cut-stored =
+          let W : List ℕ = countedBy G C N S Ks in
+          let y : List ℕ = chainWords Ks C ++ x in
+          let n : ℕ = length a in
+          let m : ℕ = length (cellsAt Ks k) in
+          let heads : ℕ = chains * k in
+          let nexts : ℕ = chains * heights + C * k in
+          let long : length W ≡ firstHead C = length-by G C N S Ks f in
+          let cut : List ℕ = cutLinks n heads chains (chainWords Ks C) in
+          let at-heads : headPosition C k 0 ≡ length W + heads = omega (arith, long) in
+          let at-nexts : nextPosition C k 0 ≡ length W + nexts = omega (arith, long) in
+          ap₂ (λ (D q : ℕ). cutLinks n (nextPosition D k 0) q (cutLinks n (headPosition D k 0) chains (W ++ y))) (capacity-by G C N S Ks f y) (count-by G C N S Ks f y k h)
+          ∙ ap₂ (λ (i j : ℕ). cutLinks n i m (cutLinks n j chains (W ++ y))) at-nexts at-heads
+          ∙ ap (cutLinks n (length W + nexts) m) (cut-within n heads chains (chainWords Ks C) (omega (arith, chains-long Ks C)) W x)
+          ∙ cut-within n nexts m cut (omega (arith, cut-long n heads chains (chainWords Ks C), chains-long Ks C, cells-few C N S Ks f k, mul-le-mul-left C h)) W x
+          ∙ ap (λ (w : List ℕ). W ++ (w ++ x)) (sym (cut-words Ks C k (f .lists) h a b e (cells-few C N S Ks f k)))
+
+      -- both
+      pub list-cut-stored : cutList k (length a) (countedBy G C N S Ks ++ (chainWords Ks C ++ x)) ≡ countedBy G C N S (set Ks k a) ++ (chainWords (set Ks k a) C ++ x)
+      unfolding cutList
+      list-cut-stored = ap (cutCells k (length a)) chains-cut-stored ∙ cells-cut-stored (chainWords (set Ks k a) C ++ x)
 
 -- ---- all lists: each back to the front part that K has of it
 
@@ -178,7 +207,8 @@ module _ (C N : ℕ) (S : List Cell) (K K′ : List (List Cell)) (f : Fine C N S
   back-fine (suc k) h = cut-fine C N S (back k K K′) (back-fine k (omega arith)) k h (cellsAt K k) (g .more k) (back-rest K K′ k k (omega arith) ∙ g .is k)
 
   module _ (tall : length K ≡ heights) (x ns : List ℕ) (counted : (k : ℕ) → k < heights → getD ns k 0 ≡ length (cellsAt K k)) where
-    lists-cut-stored : (m : ℕ) → m ≤ heights → cutLists m ns (countedBy K′ C N S K′ ++ x) ≡ countedBy K′ C N S (back m K K′) ++ x
+    lists-cut-stored : (m : ℕ) → m ≤ heights
+        → cutLists m ns (countedBy K′ C N S K′ ++ (chainWords K′ C ++ x)) ≡ countedBy K′ C N S (back m K K′) ++ (chainWords (back m K K′) C ++ x)
     unfolding cutLists back
     lists-cut-stored zero h = refl
     lists-cut-stored (suc k) h =
@@ -189,10 +219,11 @@ module _ (C N : ℕ) (S : List Cell) (K K′ : List (List Cell)) (f : Fine C N S
     pub cut-stored : OkCells K → cutBack ns (stored C N S K′ x) ≡ stored C N S K x
     unfolding cutBack
     cut-stored ok =
-        ap (λ (w : List ℕ). cutLists heights ns (w ++ x)) (counted-own C N S K′)
+        ap (cutLists heights ns) (stored-own C N S K′ x)
         ∙ lists-cut-stored heights (omega arith)
-        ∙ ap (λ (Ks : List (List Cell)). countedBy K′ C N S Ks ++ x) (ap (λ (m : ℕ). back m K K′) (sym tall) ∙ back-all K K′ (tall ∙ sym (f .lists)))
-        ∙ ap (λ (w : List ℕ). w ++ x) (counted-grown C N S g ok)
+        ∙ ap (λ (Ks : List (List Cell)). countedBy K′ C N S Ks ++ (chainWords Ks C ++ x)) (ap (λ (m : ℕ). back m K K′) (sym tall) ∙ back-all K K′ (tall ∙ sym (f .lists)))
+        ∙ ap (λ (w : List ℕ). w ++ (chainWords K C ++ x)) (counted-grown C N S g ok)
+        ∙ sym (stored-own C N S K x)
 
     -- which cutting back asks for: no list has fewer cells than that
     pub cut-counts : (k : ℕ) → k < heights → getD ns k 0 ≤ keptCount (stored C N S K′ x) k

@@ -1,7 +1,7 @@
--- The header after a cell more, a scene more, and after lists are cut back: it is in order as before, and only the count written has changed.
+-- The header after a link stored, a cell more, a scene more, and after lists are cut back: it is in order as before, and only the count written has changed.
 -- By words stored in the header or past it, and for all lists by induction on their number. Assumes nothing.
 use mathlib.Core.Path.{_≡_, refl, sym, subst, ap, _∙_}
-use mathlib.Core.List.{List, [], _∷_}
+use mathlib.Core.List.{List, [], _∷_, map}
 use Prim.Native.Nat.{ℕ, zero, suc, _+_, _-_, _*_, _≤_, _<_}
 use native.Mathlib.Decide.{ℕ-discrete}
 use native.Mathlib.Omega.{arith}
@@ -9,9 +9,11 @@ use lib.Dec.{T, eqb}
 use lib.ListN.{length, take, drop, getD, set, replicate, length-set}
 use lib.Seq.{sets, length-sets, getD-set-same, getD-set-other, drop-set-lt, drop-set-add, take-set-le}
 use Rattle.paper.specs.Numbers.{allIn}
-use Rattle.paper.specs.Store.{Cell, heights, firstScene, zerosPosition, capacityOf, keptCount, stride, cellPosition, blank, capacityOk, headerOk}
+use Rattle.paper.specs.Store.{Cell, heights, chains, firstScene, zerosPosition, capacityOf, keptCount, stride, cellPosition, headPosition, nextPosition, blank, capacityOk, headerOk}
+use Rattle.laws.specs.Chains.{linkPosition, cutLink, cutLinks}
 use Rattle.laws.proofs.Undamaged.{FineHeader, fine-header, fine-header-ok}
-use Rattle.add_keep.specs.Keeping.{keepIn, cutList, cutLists}
+use Rattle.laws.proofs.ChainLinks.{link-past}
+use Rattle.add_keep.specs.Keeping.{Room, linkIn, keepIn, cutChains, cutCells, cutList, cutLists}
 
 -- ---- words stored in the header, or past it
 
@@ -35,6 +37,47 @@ zeros-past (v ∷ c) l a h = zeros-past c (set l a v) (suc a) (omega arith) ∙ 
 word-past : (c l : List ℕ) (a j : ℕ) → j < a → getD (sets l a c) j 0 ≡ getD l j 0
 word-past [] l a j h = refl
 word-past (v ∷ c) l a j h = word-past c (set l a v) (suc a) j (omega arith) ∙ getD-set-other l a j v 0 (λ e. omega (arith, e))
+
+-- ---- nothing of the header changed
+
+-- the header's words are as they were
+pub record Unchanged (ws vs : List ℕ) : Type 0 where
+  pub same-length : length vs ≡ length ws
+  pub words : (j : ℕ) → j < firstScene → getD vs j 0 ≡ getD ws j 0
+  pub zeros : blank vs zerosPosition unused ≡ blank ws zerosPosition unused
+
+past-unchanged : (ws c : List ℕ) (a : ℕ) → firstScene ≤ a → Unchanged ws (sets ws a c)
+unfolding blank
+past-unchanged ws c a past = record {
+  same-length = length-sets ws a c;
+  words = λ j h. word-past c ws a j (omega arith);
+  zeros = ap (allIn (eqb 0)) (zeros-past c ws a past);
+}
+
+unchanged-twice : {ws vs us : List ℕ} → Unchanged ws vs → Unchanged vs us → Unchanged ws us
+unchanged-twice d e = record {
+  same-length = e .same-length ∙ d .same-length;
+  words = λ j h. e .words j h ∙ d .words j h;
+  zeros = e .zeros ∙ d .zeros;
+}
+
+module _ {ws vs : List ℕ} (d : Unchanged ws vs) where
+  pub same-capacity : capacityOf vs ≡ capacityOf ws
+  same-capacity = d .words 0 (omega arith)
+
+  pub same-count : (k : ℕ) → k < heights → keptCount vs k ≡ keptCount ws k
+  same-count k h = d .words (2 + k) (omega arith)
+
+  pub same-header : T (headerOk ws) → T (headerOk vs)
+  same-header t =
+      let facts : FineHeader ws = fine-header ws t in
+      fine-header-ok vs (record {
+        long = rw (same-capacity, d .same-length) (facts .long);
+        capacity = subst (λ (n : ℕ). T (capacityOk n)) (sym same-capacity) (facts .capacity);
+        held = rw (d .words 1 (omega arith)) (facts .held);
+        few = λ j h. rw (same-capacity, same-count j h) (facts .few j h);
+        header-zeros = subst T (sym (d .zeros)) (facts .header-zeros);
+      })
 
 -- ---- one count of the header changed
 
@@ -63,6 +106,14 @@ count-last ws c a i v past low inside = record {
   zeros = ap (allIn (eqb 0)) (zeros-low (sets ws a c) i v low ∙ zeros-past c ws a past);
 }
 
+then-changed : {ws vs us : List ℕ} {i v : ℕ} → Unchanged ws vs → Changed vs us i v → Changed ws us i v
+then-changed d e = record {
+  same-length = e .same-length ∙ d .same-length;
+  here = e .here;
+  others = λ j h ne. e .others j h ne ∙ d .words j h;
+  zeros = e .zeros ∙ d .zeros;
+}
+
 module _ (ws vs : List ℕ) (t : T (headerOk ws)) where
   abbrev facts : FineHeader ws
   facts = fine-header ws t
@@ -83,6 +134,34 @@ module _ (ws vs : List ℕ) (t : T (headerOk ws)) where
       few j g C (yes e) = omega (arith, C, ap (λ (n : ℕ). keptCount vs n) e, d .here)
       few j g C (no ne) = omega (arith, C, d .others (2 + j) (omega arith) (λ e. ne (omega (arith, e))), facts .few j g)
 
+-- ---- a link stored, or links cut
+
+pub link-unchanged : (k j last : ℕ) (ws : List ℕ) → Unchanged ws (linkIn k j last ws)
+unfolding linkIn
+link-unchanged k j last ws =
+    let at : ℕ = linkPosition (capacityOf ws) k j last in
+    past-unchanged ws (suc (keptCount ws k) ∷ []) at (omega (arith, link-past (capacityOf ws) k j last))
+
+pub link-header : (k j last : ℕ) (ws : List ℕ) → T (headerOk ws) → T (headerOk (linkIn k j last ws))
+link-header k j last ws t = same-header (link-unchanged k j last ws) t
+
+-- the list has its room still
+pub link-room : (k j last : ℕ) (ws : List ℕ) → Room k ws → Room k (linkIn k j last ws)
+link-room k j last ws r =
+    let d : Unchanged ws (linkIn k j last ws) = link-unchanged k j last ws in
+    record { header = same-header d (r .header); list = r .list; room = rw (same-count d k (r .list), same-capacity d) (r .room) }
+
+links-unchanged : (n at m : ℕ) (ws : List ℕ) → firstScene ≤ at → Unchanged ws (cutLinks n at m ws)
+unfolding cutLinks
+links-unchanged n at m ws past = past-unchanged ws (map (cutLink n) (take m (drop at ws))) at past
+
+pub chains-unchanged : (k n : ℕ) (ws : List ℕ) → Unchanged ws (cutChains k n ws)
+unfolding cutChains
+chains-unchanged k n ws =
+    let C : ℕ = capacityOf ws in
+    unchanged-twice (links-unchanged n (headPosition C k 0) chains ws (omega arith))
+    (links-unchanged n (nextPosition C k 0) (keptCount ws k) (cutLinks n (headPosition C k 0) chains ws) (omega arith))
+
 -- ---- a cell more, a list cut back
 
 pub past-header : (C k n : ℕ) → firstScene ≤ cellPosition C k n
@@ -101,16 +180,26 @@ module _ (ws : List ℕ) (t : T (headerOk ws)) where
         (omega arith) (omega (arith, long-header))
 
     pub cut-changed : (n : ℕ) → Changed ws (cutList k n ws) (2 + k) n
-    unfolding cutList
+    unfolding cutList cutCells
     cut-changed n =
-        count-last ws (replicate (stride k * (keptCount ws k - n)) 0) (cellPosition (capacityOf ws) k n) (2 + k) n (past-header (capacityOf ws) k n)
-        (omega arith) (omega (arith, long-header))
+        let d : Unchanged ws (cutChains k n ws) = chains-unchanged k n ws in
+        let vs : List ℕ = cutChains k n ws in
+        then-changed d
+        (count-last vs (replicate (stride k * (keptCount vs k - n)) 0) (cellPosition (capacityOf vs) k n) (2 + k) n (past-header (capacityOf vs) k n)
+        (omega arith) (omega (arith, long-header, d .same-length)))
 
     pub keep-header : (c : Cell) → keptCount ws k < capacityOf ws → T (headerOk (keepIn k c ws))
     keep-header c l = count-header ws (keepIn k c ws) t k (suc (keptCount ws k)) (keep-changed c) h l
 
     pub cut-header : (n : ℕ) → n ≤ keptCount ws k → T (headerOk (cutList k n ws))
     cut-header n l = count-header ws (cutList k n ws) t k n (cut-changed n) h (omega (arith, fine-header ws t .few k h))
+
+-- a cell more, linked before
+pub linked-header : (ws : List ℕ) → T (headerOk ws) → (k : ℕ) → k < heights → (j last : ℕ) (c : Cell) → keptCount ws k < capacityOf ws
+    → T (headerOk (keepIn k c (linkIn k j last ws)))
+linked-header ws t k h j last c l =
+    let r : Room k (linkIn k j last ws) = link-room k j last ws (record { header = t; list = h; room = l }) in
+    keep-header (linkIn k j last ws) (r .header) k h c (r .room)
 
 -- ---- the first m lists cut back
 

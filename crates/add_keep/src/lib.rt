@@ -7,13 +7,17 @@ ghost use lib.ListN.{length, getD, set};
 ghost use lib.Seq.{sets};
 ghost use Rattle.paper.specs.Numbers.{tabulate};
 ghost use Rattle.paper.specs.Store.{mostScenes, heights, scenesHeld, keptCount, stride, twoWords, headerOk};
-ghost use Rattle.add_keep.specs.Keeping.{Room, Keeps, keepIn, holdIn, cutList, cutBack};
+ghost use Rattle.laws.specs.Chains.{cutLinks};
+ghost use Rattle.add_keep.specs.Keeping.{Room, Behind, Keeps, keepIn, linkIn, holdIn, cutChains, cutList, cutBack};
+use store::CHAINS;
 use store::FIRST_COUNT;
 use store::HEIGHTS;
 use store::HIGH_WORD;
 use store::capacity;
 use store::cell_position;
+use store::head_position;
 use store::kept_count;
+use store::next_position;
 use store::put_zeros;
 use store::scene_position;
 use store::scenes_held;
@@ -42,6 +46,20 @@ fn put_words(store: &mut [u32], at: usize, words: &[u32])
     }
 }
 
+// The next cell of list k is linked behind cell `last` of chain j, its number plus 1, or to the chain's head where that is 0.
+fn link(store: &mut [u32], k: u32, j: u32, last: u32)
+    requires { ⌜ Behind k j last (now store) ⌝ }
+    ensures { λ _. ⌜ now (store .exit) ≡ linkIn k j last (now (store .entry)) ⌝ }
+{
+    let c = capacity(store);
+    let number = kept_count(store, k) + 1;
+    if last == 0 {
+        store[head_position(c, k, j)] = number;
+    } else {
+        store[next_position(c, k, last - 1)] = number;
+    }
+}
+
 // One more cell in list k, of these words.
 fn keep(store: &mut [u32], k: u32, words: &[u32])
     requires { ⌜ Room k (now store) ⌝ }
@@ -54,11 +72,12 @@ fn keep(store: &mut [u32], k: u32, words: &[u32])
     put_words(store, at, words);
 }
 
-// One more leaf, of its two words.
-pub fn keep_leaf(store: &mut [u32], leaf: [u32; 2])
-    requires { ⌜ Room 0 (now store) ⌝ }
-    ensures { λ _. ⌜ now (store .exit) ≡ keepIn 0 leaf (now (store .entry)) ⌝ }
+// One more leaf, of its two words, behind cell `last` of chain j.
+pub fn keep_leaf(store: &mut [u32], leaf: [u32; 2], j: u32, last: u32)
+    requires { ⌜ Behind 0 j last (now store) ⌝ }
+    ensures { λ _. ⌜ now (store .exit) ≡ keepIn 0 leaf (linkIn 0 j last (now (store .entry))) ⌝ }
 {
+    link(store, 0, j, last);
     keep(store, 0, &leaf);
 }
 
@@ -81,12 +100,13 @@ fn cell_words(cell: [u32; 8], solid: u64) -> [u32; 10]
     ]
 }
 
-// One more cell of eight pointers, with so many solid voxels, in list k, k not 0.
-pub fn keep_cell(store: &mut [u32], k: u32, cell: [u32; 8], solid: u64)
+// One more cell of eight pointers, with so many solid voxels, in list k, k not 0, behind cell `last` of chain j.
+pub fn keep_cell(store: &mut [u32], k: u32, cell: [u32; 8], solid: u64, j: u32, last: u32)
     requires { ⌜ 1 ≤ k ⌝ }
-    requires { ⌜ Room k (now store) ⌝ }
-    ensures { λ _. ⌜ now (store .exit) ≡ keepIn k (cell ++ twoWords solid) (now (store .entry)) ⌝ }
+    requires { ⌜ Behind k j last (now store) ⌝ }
+    ensures { λ _. ⌜ now (store .exit) ≡ keepIn k (cell ++ twoWords solid) (linkIn k j last (now (store .entry))) ⌝ }
 {
+    link(store, k, j, last);
     let words = cell_words(cell, solid);
     keep(store, k, &words);
 }
@@ -125,11 +145,37 @@ pub fn counts(store: &[u32]) -> [u32; 15]
     all
 }
 
-// List k back to its first `count` cells: only the words of the others, and the count, are written.
+// So many links from `at` on: one to any of the first `count` cells stays, any other becomes none.
+fn cut_links(store: &mut [u32], at: usize, many: usize, count: u32)
+    requires { ⌜ at + many ≤ length (now store) ⌝ }
+    ensures { λ _. ⌜ now (store .exit) ≡ cutLinks count at many (now (store .entry)) ⌝ }
+{
+    let mut i = 0;
+    while i < many {
+        if count < store[at + i] {
+            store[at + i] = 0;
+        }
+        i += 1;
+    }
+}
+
+// The chains of list k back to its first `count` cells: numbers along a chain rise, so a link that is cut has only cells behind it that go.
+fn cut_chains(store: &mut [u32], k: u32, count: u32)
+    requires { ⌜ Keeps k count (now store) ⌝ }
+    ensures { λ _. ⌜ now (store .exit) ≡ cutChains k count (now (store .entry)) ⌝ }
+{
+    let units = capacity(store);
+    let kept = kept_count(store, k);
+    cut_links(store, head_position(units, k, 0), CHAINS, count);
+    cut_links(store, next_position(units, k, 0), kept as usize, count);
+}
+
+// List k back to its first `count` cells: only the words of the others, their links, and the count, are written.
 fn cut_list(store: &mut [u32], k: u32, count: u32)
     requires { ⌜ Keeps k count (now store) ⌝ }
     ensures { λ _. ⌜ now (store .exit) ≡ cutList k count (now (store .entry)) ⌝ }
 {
+    cut_chains(store, k, count);
     let units = capacity(store);
     let end = cell_position(units, k, kept_count(store, k));
     let at = cell_position(units, k, count);

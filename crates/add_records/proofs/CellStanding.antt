@@ -11,7 +11,7 @@ use lib.Dec.{eqb, leb, ltb, leb→le, lit<}
 use lib.ListN.{length, drop, set}
 use borrow.Author.Tests.{ltb-true, ne-eqb}
 use Rattle.paper.specs.Leaf.{mirrorLeaf}
-use Rattle.paper.specs.Store.{Cell, cellsAt, cellAt, cellNo, pointer, mostCapacity, heights, cellLength, leafSolid, solidOf, rowOf}
+use Rattle.paper.specs.Store.{Cell, cellsAt, cellAt, cellNo, pointer, mostCapacity, heights, cellLength, leafSolid, solidOf, chainOf, rowOf}
 use Rattle.paper.specs.Meaning.{cellVoxel}
 use Rattle.paper.specs.Match.{Adding, full, added, orKeep, matches, find, keep, addCell, leafCell}
 use Rattle.laws.proofs.Tests.{and-right}
@@ -24,9 +24,8 @@ use Rattle.laws.proofs.Occurring.{Occurs}
 use Rattle.laws.proofs.Counts.{addCell-solid}
 use Rattle.laws.proofs.AddingTrees.{leaf-words}
 use Rattle.laws.proofs.Capacity.{grown-refl}
-use Rattle.add_keep.specs.Keeping.{keepIn}
 use Rattle.add_cells.specs.declared.CellAdded.the-variants as cellAdded
-use Rattle.add_cells.specs.CellAdding.{CellAdding, cellAdding, keptWith, foundOr, addLeafIn, addCellIn}
+use Rattle.add_cells.specs.CellAdding.{CellAdding, cellAdding, keptBehind, keptWith, foundOr, addLeafIn, addCellIn}
 use Rattle.add_seek.proofs.SymmetryImage.{leaf-symmetry-of}
 use Rattle.add_seek.proofs.FindSymmetries.{find-symmetries}
 use Rattle.add_records.specs.RecordAdding.{endingAt}
@@ -89,12 +88,12 @@ module _ (g : Setting) (K : List (List Cell)) (good : Good g K) (at : ℕ) (with
 
     -- kept, by the words: its list's count against the capacity
     abbrev keptOr : Bool → CellAdding
-    keptOr b = cond b (cellAdding (cellAdded.At (pointer 0 (length (cellsAt K k))) symmetry) (keepIn k row ws)) (cellAdding cellAdded.Full ws)
+    keptOr b = cond b (cellAdding (cellAdded.At (pointer 0 (length (cellsAt K k))) symmetry) (keptBehind k (chainOf k c) row ws)) (cellAdding cellAdded.Full ws)
 
-    kept-words : keptWith symmetry k row ws ≡ keptOr (ltb (length (cellsAt K k)) C)
+    kept-words : keptWith symmetry k (chainOf k c) row ws ≡ keptOr (ltb (length (cellsAt K k)) C)
     unfolding keptWith
     kept-words =
-        ap₂ (λ (n D : ℕ). cond (ltb n D) (cellAdding (cellAdded.At (pointer 0 n) symmetry) (keepIn k row ws)) (cellAdding cellAdded.Full ws))
+        ap₂ (λ (n D : ℕ). cond (ltb n D) (cellAdding (cellAdded.At (pointer 0 n) symmetry) (keptBehind k (chainOf k c) row ws)) (cellAdding cellAdded.Full ws))
         (count-is g K (good .fine) k hk) (capacity-is g K (good .fine))
 
     kept-stands : Right (keep C k c K) → Masked (keep C k c K) → Counted (keep C k c K) → Standing (keep C k c K) (keptOr (ltb (length (cellsAt K k)) C))
@@ -110,14 +109,14 @@ module _ (g : Setting) (K : List (List Cell)) (good : Good g K) (at : ℕ) (with
             taken _ _ _ (more-fit g K (good .fine) k hk c sized room) (more-words g K (good .fine) k hk c sized room (good .sound .ok) okc) (λ z. omega arith) d m s
         go false e d m s = record { lists = K; fine = good .fine; grown = grown-refl K; words = refl }
 
-    cell-stands : Standing (addCell C k c K) (foundOr (find (λ b t. matches K k c b t) (cellsAt K k) 0) symmetry k row ws)
+    cell-stands : Standing (addCell C k c K) (foundOr (find (λ b t. matches K k c b t) (cellsAt K k) 0) symmetry k (chainOf k c) row ws)
     unfolding addCell foundOr
     cell-stands =
         go (find (λ b t. matches K k c b t) (cellsAt K k) 0) (find-is (λ b t. matches K k c b t) (cellsAt K k) 0) right (addCell-symmetry C few K (good .sound) k in-lists c okc)
         (addCell-solid C few K (good .sound) k in-lists c okc)
       where
         go : (o : Option ℕ) → Sought (λ b t. matches K k c b t) (cellsAt K k) 0 o → Right (orKeep o K (keep C k c K)) → Masked (orKeep o K (keep C k c K))
-            → Counted (orKeep o K (keep C k c K)) → Standing (orKeep o K (keep C k c K)) (foundOr o symmetry k row ws)
+            → Counted (orKeep o K (keep C k c K)) → Standing (orKeep o K (keep C k c K)) (foundOr o symmetry k (chainOf k c) row ws)
         go O.none f d m s = rw kept-words (kept-stands d m s)
         go (some p) f d m s = taken p K ws (good .fine) refl (λ z. omega (arith, f .is, z)) d m s
 
@@ -128,7 +127,7 @@ module _ (g : Setting) (K : List (List Cell)) (good : Good g K) (at : ℕ) (with
   leaf-stands n hn =
       rw (lists-are g K (good .fine))
       (subst (λ (m : ℕ). Stands g K 0 (drop at (g .file)) (addCell C 0 (leafCell n) K)
-      (endingAt at m (foundOr (find (λ b t. matches K 0 (leafCell n) b t) (cellsAt K 0) 0) (symmetryFor (λ t. eqb n (mirrorLeaf t n))) 0 (leafCell n) ws)))
+      (endingAt at m (foundOr (find (λ b t. matches K 0 (leafCell n) b t) (cellsAt K 0) 0) (symmetryFor (λ t. eqb n (mirrorLeaf t n))) 0 (chainOf 0 (leafCell n)) (leafCell n) ws)))
       (ap leafSolid (leaf-words n))
       (cell-stands 0 (lit< tt) (leafCell n) refl (rw (leaf-words n) hn) (symmetryFor (λ t. eqb n (mirrorLeaf t n))) (leaf-symmetry-of K n)))
 

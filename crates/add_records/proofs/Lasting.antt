@@ -1,78 +1,99 @@
--- A header in order stays so while cells are sought or kept: of a cell, of the children that are left, and of a record. By induction on the height and
--- on the children left, a cell being kept only where there is room. Assumes nothing.
-use mathlib.Core.Path.{_≡_, refl}
-use mathlib.Core.Bool.{Bool, true, false, cond}
+-- A store in order is the words of its lists, whose cells are ok; so it is in order after a record that is read to the end and taken, and the pointer that is
+-- answered names a cell or is none. By what taking a record comes to on the words of lists. Assumes nothing.
+use mathlib.Core.Path.{_≡_, sym, subst}
 use mathlib.Core.List.{List}
-use mathlib.Core.Option.{Option, some}
-use mathlib.Core.Option as O
-use Prim.Native.Nat.{ℕ, zero, suc, _+_, _-_, _/_, _%_, _<_}
+use mathlib.Core.Logic.{inl, inr}
+use Prim.Native.Nat.{ℕ, suc, _+_, _-_, _<_, _≤_}
+use native.Mathlib.Decide.{ℕ-discrete}
 use native.Mathlib.Omega.{arith}
-use lib.Dec.{T, eqb, ltb, lit<}
-use lib.ListN.{set}
-use borrow.Author.Tests.{ltb-true}
-use Rattle.paper.specs.Store.{pointer, capacityOf, keptCount, heights, headerOk}
-use Rattle.add_keep.specs.Keeping.{keepIn}
-use Rattle.add_cells.specs.declared.CellAdded.the-variants as cellAdded
+use lib.ListN.{length, drop, getD, set}
+use lib.Seq.{getD-set-same, getD-set-other}
+use Rattle.paper.specs.Outline.{Tree, Read, bad, ok, readRecord}
+use Rattle.paper.specs.Store.{Cell, cellsAt, lowOf, heights, used, capacityOf, scenesHeld, keptOf, storeOf}
+use Rattle.paper.specs.Match.{Adding, full, added, addTree}
+use Rattle.paper.specs.Runs.{Bytes}
+use Rattle.laws.specs.Chains.{NamesCells}
+use Rattle.laws.specs.InOrder.{InOrder}
+use Rattle.laws.proofs.InOrder.{order-header, order-fine, order-sound, order-stored, stored-in-order}
+use Rattle.laws.proofs.Keys.{HasNumber, ok-number}
+use Rattle.outline.specs.Positions.{recordAt, Agrees}
+use Rattle.outline.specs.declared.Reading.{Reading}
+use Rattle.outline.specs.declared.Reading.the-variants.{Broken, EndsAt}
+use Rattle.outline.proofs.Agreeing.{record-agrees}
 use Rattle.add_records.specs.declared.RecordAdded.the-variants.{At, Full}
-use Rattle.add_cells.specs.CellAdding.{CellAdding, cellAdding, keptWith, foundOr, addLeafIn, addCellIn}
-use Rattle.add_records.specs.RecordAdding.{RecordAdding, recordAdding, endingAt, thenAdd, addChildren, addRecord}
-use Rattle.add_keep.proofs.Headers.{keep-header}
+use Rattle.add_records.specs.RecordAdding.{RecordAdding, recordAdding, addRecord, Whole}
+use Rattle.add_records.proofs.Settings.{Setting, wordsWith, Good}
+use Rattle.add_records.proofs.Standing.{Stands, After}
+use Rattle.add_records.proofs.RecordStanding.{record-stands}
+use Rattle.add_records.proofs.Wholes.{whole-leaf, whole-inner}
 
--- the words after have a header in order
-abbrev pub CellAdded-header : CellAdding → Type 0
-CellAdded-header (cellAdding r ws) = T (headerOk ws)
+-- ---- the setting of a store in order
 
-abbrev pub RecordAdded-header : RecordAdding → Type 0
-RecordAdded-header (recordAdding r ws) = T (headerOk ws)
+module _ (ws file : List ℕ) (o : InOrder ws) (bytes : Bytes file) where
+  abbrev pub setting : Setting
+  setting = record {
+    capacity = capacityOf ws;
+    capacity-ok = order-header ws o .capacity;
+    held = scenesHeld ws;
+    places = storeOf ws .scenes;
+    behind = drop (used (capacityOf ws)) ws;
+    file = file;
+    bytes = bytes;
+  }
 
-ending-header : (next n : ℕ) (x : CellAdding) → CellAdded-header x → RecordAdded-header (endingAt next n x)
-unfolding endingAt
-ending-header next n (cellAdding (cellAdded.At p m) ws) h = h
-ending-header next n (cellAdding cellAdded.Full ws) h = h
+  pub good : Good setting (keptOf ws)
+  good = record { sound = order-sound ws o; fine = order-fine ws o }
 
-module _ (symmetry k : ℕ) (c ws : List ℕ) (t : T (headerOk ws)) (hk : k < heights) where
-  kept-header : CellAdded-header (keptWith symmetry k c ws)
-  unfolding keptWith
-  kept-header = go (ltb (keptCount ws k) (capacityOf ws)) refl
-    where
-      go : (b : Bool) → ltb (keptCount ws k) (capacityOf ws) ≡ b
-          → CellAdded-header (cond b (cellAdding (cellAdded.At (pointer 0 (keptCount ws k)) symmetry) (keepIn k c ws)) (cellAdding cellAdded.Full ws))
-      go true e = keep-header ws t k hk c (ltb-true (keptCount ws k) (capacityOf ws) e)
-      go false e = t
+  pub again : wordsWith setting (keptOf ws) ≡ ws
+  again = order-stored ws o
 
-  found-header : (o : Option ℕ) → CellAdded-header (foundOr o symmetry k c ws)
-  unfolding foundOr
-  found-header O.none = kept-header
-  found-header (some p) = t
+  -- the trees that may be read of list k, added
+  abbrev pub After-adding : ℕ → Read Tree → RecordAdding → Type 0
+  After-adding k r x = After setting (keptOf ws) k r (λ t. addTree (capacityOf ws) t k (keptOf ws)) x
 
-leaf-header : (n : ℕ) (ws : List ℕ) → T (headerOk ws) → CellAdded-header (addLeafIn n ws)
-unfolding addLeafIn
-leaf-header n ws t = found-header _ 0 _ ws t (lit< tt) _
+  pub record-after : (k at : ℕ) → k < heights → at ≤ length file → After-adding k (readRecord k (drop at file)) (addRecord file k at ws)
+  record-after k at h l =
+      subst (λ (w : List ℕ). After-adding k (readRecord k (drop at file)) (addRecord file k at w)) again (record-stands setting k h at (keptOf ws) l good)
 
-cell-header : (k : ℕ) (c ms : List ℕ) (n : ℕ) (ws : List ℕ) → k < heights → T (headerOk ws) → CellAdded-header (addCellIn k c ms n ws)
-unfolding addCellIn
-cell-header k c ms n ws hk t = found-header _ k _ ws t hk _
+  -- ---- after a record
 
--- children each taken by f, after which the header is in order
-module _ (f : ℕ → List ℕ → RecordAdding) (k : ℕ) (hk : k < heights) (lasts : (at : ℕ) (ws : List ℕ) → T (headerOk ws) → RecordAdded-header (f at ws)) where
-  then-header : (x : RecordAdding) (g : ℕ → ℕ → ℕ → ℕ → List ℕ → RecordAdding) → RecordAdded-header x → ((next p s n : ℕ) (ws : List ℕ) → T (headerOk ws) → RecordAdded-header (g next p s n ws))
-      → RecordAdded-header (thenAdd x g)
-  unfolding thenAdd
-  then-header (recordAdding (At next p s n) ws) g h ih = ih next p s n ws h
-  then-header (recordAdding Full ws) g h ih = h
+  -- the store is in order, and a pointer has a number or is none
+  pub record Lasts (u : List ℕ) (p : ℕ) : Type 0 where
+    pub order : InOrder u
+    pub number : HasNumber p
 
-  children-header : (n m at : ℕ) (c ms : List ℕ) (v : ℕ) (ws : List ℕ) → T (headerOk ws) → RecordAdded-header (addChildren f k n m at c ms v ws)
-  unfolding addChildren
-  children-header zero m at c ms v ws t = ending-header at v (addCellIn k c ms v ws) (cell-header k c ms v ws hk t)
-  children-header (suc n) m at c ms v ws t = go (eqb (m % 2) 1) (children-header n (m / 2))
-    where
-      go : (b : Bool) → ((at′ : ℕ) (c′ ms′ : List ℕ) (v′ : ℕ) (ws′ : List ℕ) → T (headerOk ws′) → RecordAdded-header (addChildren f k n (m / 2) at′ c′ ms′ v′ ws′))
-          → RecordAdded-header (cond b (thenAdd (f at ws) (λ next p s u ws′. addChildren f k n (m / 2) next (set c (7 - n) p) (set ms (7 - n) s) (v + u) ws′)) (addChildren f k n (m / 2) at c ms v ws))
-      go true ih = then-header (f at ws) _ (lasts at ws t) (λ next p s u ws′. ih next (set c (7 - n) p) (set ms (7 - n) s) (v + u) ws′)
-      go false ih = ih at c ms v ws t
+  module _ (k next p s n : ℕ) (u : List ℕ) where
+    lasts-added : (a : Adding ℕ) (rest : List ℕ) → Stands setting (keptOf ws) k rest a (recordAdding (At next p s n) u) → Lasts u p
+    lasts-added full rest t = absurd t
+    lasts-added (added q K′) rest t = record {
+      order = subst InOrder (sym (t .words))
+          (stored-in-order (capacityOf ws) (scenesHeld ws) (storeOf ws .scenes) K′ (t .good .fine) (order-header ws o .capacity) (t .good .sound .ok) (drop (used (capacityOf ws)) ws));
+      number = subst HasNumber (sym (t .same)) (ok-number (length (cellsAt K′ k)) q (t .okp));
+    }
 
-pub record-header : (file : List ℕ) (k at : ℕ) (ws : List ℕ) → k < heights → T (headerOk ws) → RecordAdded-header (addRecord file k at ws)
-unfolding addRecord
-record-header file zero at ws hk t = ending-header _ _ _ (leaf-header _ ws t)
-record-header file (suc k) at ws hk t =
-    children-header (addRecord file k) (suc k) hk (λ at′ ws′ t′. record-header file k at′ ws′ (omega arith) t′) 8 _ _ _ _ _ ws t
+    lasts-read : (x : Reading) (r : Read Tree) → Whole x → Agrees file x r → After-adding k r (recordAdding (At next p s n) u) → Lasts u p
+    lasts-read Broken r w a t = absurd w
+    lasts-read (EndsAt q) bad w a t = absurd a
+    lasts-read (EndsAt q) (ok tree rest) w a t = lasts-added (addTree (capacityOf ws) tree k (keptOf ws)) rest t
+
+    pub record-lasts : (at : ℕ) → k < heights → at ≤ length file → Whole (recordAt file k at) → addRecord file k at ws ≡ recordAdding (At next p s n) u → Lasts u p
+    record-lasts at h l w e =
+        lasts-read (recordAt file k at) (readRecord k (drop at file)) w (record-agrees file k at l) (subst (After-adding k (readRecord k (drop at file))) e (record-after k at h l))
+
+-- ---- a whole record is in the file
+
+pub whole-within : (file : List ℕ) (h at : ℕ) → 2 ≤ h → Whole (recordAt file (h - 2) at) → at ≤ length file
+whole-within file h at l w = go (ℕ-discrete h 2)
+  where
+    go : Dec (h ≡ 2) → at ≤ length file
+    go (yes e) = omega (arith, whole-leaf file h at e w)
+    go (no n) = omega (arith, whole-inner file h at (omega arith) w .0)
+
+-- ---- a pointer more in a cell
+
+pub names-set : (c : Cell) (i p : ℕ) → i < length c → NamesCells c → HasNumber p → NamesCells (set c i p)
+names-set c i p h names n j hj = go (ℕ-discrete j i)
+  where
+    go : Dec (j ≡ i) → (getD (set c i p) j 0 ≡ 0 → ⊥) → 1 ≤ lowOf (getD (set c i p) j 0)
+    go (yes e) = rw (e, getD-set-same c i p 0 h) n
+    go (no ne) = rw (getD-set-other c i j p 0 ne) (names j hj)

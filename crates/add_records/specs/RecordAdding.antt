@@ -3,11 +3,12 @@
 use mathlib.Core.Bool.{cond}
 use mathlib.Core.List.{List}
 use Prim.Native.Nat.{ℕ, zero, suc, _+_, _-_, _/_, _%_, _≤_}
-use lib.Dec.{T, eqb}
+use lib.Dec.{eqb}
 use lib.ListN.{drop, getD, set, replicate}
 use Rattle.paper.specs.Numbers.{num}
 use Rattle.paper.specs.Rooms.{least, deepest}
-use Rattle.paper.specs.Store.{Cell, leafSolid, headerOk}
+use Rattle.paper.specs.Store.{Cell, leafSolid}
+use Rattle.laws.specs.InOrder.{InOrder}
 use Rattle.outline.specs.Positions.{recordAt}
 use Rattle.outline.specs.declared.Reading.{Reading}
 use Rattle.outline.specs.declared.Reading.the-variants.{Broken, EndsAt}
@@ -49,9 +50,9 @@ abbrev pub Whole : Reading → Type 0
 Whole Broken = ⊥
 Whole (EndsAt p) = Unit {0}
 
--- the record of a cell of this height stands whole at a position of the file, and the store's header is in order
+-- the record of a cell of this height stands whole at a position of the file, and the store is in order
 pub record AtRecord (file ws : List ℕ) (at height : ℕ) : Type 0 where
   pub low : least ≤ height
   pub high : height ≤ deepest
   pub whole : Whole (recordAt file (height - 2) at)
-  pub header : T (headerOk ws)
+  pub store : InOrder ws

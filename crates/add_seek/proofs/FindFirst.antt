@@ -1,14 +1,12 @@
--- The first number that passes: a loop that counts up finds it, nothing below it passes, and it passes where it is below the end.
+-- The first number that passes: a loop that counts up finds it, and it is what `lowest` finds, or the end where that finds none.
 -- By the clauses of `lowest`, on how many numbers are left. Assumes nothing.
-use mathlib.Core.Path.{_≡_, ap, _∙_}
+use mathlib.Core.Path.{_≡_, refl, sym, ap, ap₂, _∙_}
 use mathlib.Core.Bool.{Bool, true, false, cond}
 use mathlib.Core.Option.{Option, some}
 use mathlib.Core.Option as O
-use Prim.Native.Nat.{ℕ, suc, _+_, _-_, _<_, _≤_}
-use native.Mathlib.Nat.{le-refl}
+use Prim.Native.Nat.{ℕ, zero, suc, _+_, _-_, _<_, _≤_}
 use native.Mathlib.Numerals.{add-one}
 use native.Mathlib.Omega.{arith}
-use lib.Dec.{T}
 use Rattle.paper.specs.Match.{lowest}
 use Rattle.laws.proofs.Seeking.{Lowest, lowest-is}
 use Rattle.add_seek.specs.Sought.{orEnd, firstBelow}
@@ -38,25 +36,33 @@ module _ (end : ℕ) (p : ℕ → Bool) (n : ℕ) {A : ℕ} where
   unfolding lowest
   first-over a h = let e : end - n ≡ 0 = omega arith in a ∙ ap (λ (m : ℕ). orEnd end (lowest m n p)) e
 
--- ---- what it says
+-- ---- tests that agree
 
-pub record First (p : ℕ → Bool) (end n : ℕ) : Type 0 where
-  pub within : n ≤ end
-  pub passes : n < end → T (p n)
-  pub none-lower : (q : ℕ) → q < n → T (p q) → ⊥
+pub lowest-same : (n t : ℕ) (p q : ℕ → Bool) → ((u : ℕ) → u < t + n → p u ≡ q u) → lowest n t p ≡ lowest n t q
+unfolding lowest
+lowest-same zero t p q e = refl
+lowest-same (suc n) t p q e =
+    ap₂ (λ (b : Bool) (r : Option ℕ). cond b (some t) r) (e t (omega arith)) (lowest-same n (suc t) p q (λ u h. e u (omega arith)))
 
-pub first-is : (end : ℕ) (p : ℕ → Bool) → First p end (firstBelow end p)
+pub first-same : (end : ℕ) (p q : ℕ → Bool) → ((u : ℕ) → u < end → p u ≡ q u) → firstBelow end p ≡ firstBelow end q
 unfolding firstBelow
-first-is end p = go (lowest end 0 p) (lowest-is end 0 p)
-  where
-    go : (o : Option ℕ) → Lowest p 0 end o → First p end (orEnd end o)
-    go O.none h = record { within = le-refl end; passes = λ l. absurd (omega arith); none-lower = λ q l s. h q (omega arith) (omega arith) s }
-    go (some n) h = record { within = omega (arith, h .1); passes = λ l. h .2; none-lower = λ q l s. h .3 q (omega arith) l s }
+first-same end p q e = ap (orEnd end) (lowest-same end 0 p q (λ u h. e u (omega arith)))
 
--- the same of tests that agree below the end
-pub first-agree : (end n : ℕ) (p q : ℕ → Bool) → ((i : ℕ) → i < end → p i ≡ q i) → First p end n → First q end n
-first-agree end n p q e f = record {
-  within = f .within;
-  passes = λ l. rw (e n l) at (f .passes l);
-  none-lower = λ i l s. f .none-lower i l (let h : i < end = omega (arith, f .within) in rw (e i h) s);
-}
+-- ---- what the number says
+
+module _ (end : ℕ) (p : ℕ → Bool) {n : ℕ} (is : n ≡ firstBelow end p) where
+  pub first-some : n < end → lowest end 0 p ≡ some n
+  unfolding firstBelow
+  first-some h = go (lowest end 0 p) is
+    where
+      go : (o : Option ℕ) → n ≡ orEnd end o → o ≡ some n
+      go O.none e = absurd (omega arith)
+      go (some u) e = ap some (sym e)
+
+  pub first-none : end ≤ n → lowest end 0 p ≡ O.none
+  unfolding firstBelow
+  first-none h = go (lowest end 0 p) (lowest-is end 0 p) is
+    where
+      go : (o : Option ℕ) → Lowest p 0 end o → n ≡ orEnd end o → o ≡ O.none
+      go O.none l e = refl
+      go (some u) l e = absurd (omega (arith, l .1))

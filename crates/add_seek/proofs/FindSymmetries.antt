@@ -1,21 +1,15 @@
 -- Tests that agree find the same; so seeking by symmetries is seeking by the match rule, where the symmetries are those of the children. By induction on
--- the mirrors and on the cells. Assumes nothing.
+-- the cells. Assumes nothing.
 use mathlib.Core.Path.{_≡_, refl, ap₂}
-use mathlib.Core.Bool.{Bool, cond}
+use mathlib.Core.Bool.{Bool}
 use mathlib.Core.List.{List, [], _∷_}
-use mathlib.Core.Option.{Option, some}
-use Prim.Native.Nat.{ℕ, zero, suc, _+_, _<_}
-use native.Mathlib.Omega.{arith}
+use mathlib.Core.Option.{Option}
+use Prim.Native.Nat.{ℕ, suc, _<_}
 use Rattle.paper.specs.Store.{Cell, cellsAt}
-use Rattle.paper.specs.Match.{lowest, orFound, find, matches}
+use Rattle.paper.specs.Match.{orFound, find, matches}
 use Rattle.laws.specs.Symmetries.{symmetryMatch, ChildSymmetries}
 use Rattle.laws.proofs.Symmetries.{symmetry-match}
-
-lowest-same : (n t : ℕ) (p q : ℕ → Bool) → ((u : ℕ) → u < t + n → p u ≡ q u) → lowest n t p ≡ lowest n t q
-unfolding lowest
-lowest-same zero t p q e = refl
-lowest-same (suc n) t p q e =
-    ap₂ (λ (b : Bool) (r : Option ℕ). cond b (some t) r) (e t (omega arith)) (lowest-same n (suc t) p q (λ u h. e u (omega arith)))
+use Rattle.add_seek.proofs.FindFirst.{lowest-same}
 
 pub find-same : (p q : Cell → ℕ → Bool) → ((c : Cell) (t : ℕ) → t < 8 → p c t ≡ q c t) → (cs : List Cell) (n : ℕ) → find p cs n ≡ find q cs n
 unfolding find

@@ -4,6 +4,7 @@ pub mod SymmetryImage
 pub mod SymmetryWays
 -- seeking
 pub mod FindFirst
-pub mod FindBest
-pub mod FindImages
+pub mod FindChain
+pub mod FindLeaves
+pub mod FindCells
 pub mod FindSymmetries

@@ -1,82 +1,63 @@
--- A cell matches another under t exactly where its image under t matches it under 0, with its children's symmetries in the image's order. Pointer by
--- pointer: child (i xor t) of the image is child i, its mirror joined by t. And the symmetry of a leaf. Assumes nothing.
-use mathlib.Core.Path.{_≡_, refl, sym, ap, ap₂, _∙_, subst}
+-- A cell matches another under t exactly where it matches the other mirrored by t under 0. Pointer by pointer: the tag that is changed by t stands for the
+-- mirror. And the symmetry of a leaf. Assumes nothing.
+use mathlib.Core.Path.{_≡_, refl, sym, ap, _∙_}
 use mathlib.Core.Bool.{Bool, true, false}
 use mathlib.Core.List.{List}
 use Prim.Native.Nat.{ℕ, _<_}
-use native.Mathlib.Nat.{zero-add}
 use borrow.Author.Tests.{eqb-true, eqb-false, ne-eqb}
 use lib.Bits.{bitXor, xor-zero-r}
-use lib.Dec.{T, eqb}
+use lib.Dec.{eqb}
 use lib.ListN.{getD}
 use Rattle.paper.specs.Numbers.{allBelow}
 use Rattle.paper.specs.Leaf.{mirrorLeaf}
-use Rattle.paper.specs.Store.{Cell, tagOf}
+use Rattle.paper.specs.Store.{Cell, tagOf, cellNo}
 use Rattle.paper.specs.Match.{pointerMatch, matches, leafCell}
-use Rattle.laws.proofs.Tests.{all-at, all-T, iff-eq}
-use Rattle.laws.proofs.Lists.{getD-tabulate}
-use Rattle.laws.proofs.Eight.{xor8-lt, xor8-swap, xor8-back}
+use Rattle.paper.specs.Claims.{turned}
+use Rattle.laws.proofs.Tests.{all-same}
+use Rattle.laws.proofs.Eight.{xor8-lt, xor8-assoc}
 use Rattle.laws.proofs.Matching.{tag-lt}
 use Rattle.laws.proofs.AddingTrees.{leaf-words}
+use Rattle.laws.proofs.Keys.{HasNumber}
+use Rattle.laws.specs.Chains.{NamesCells}
 use Rattle.laws.specs.Symmetries.{symmetryFor, marked, symmetryMatch, symmetryOf}
 use Rattle.laws.proofs.Symmetries.{symmetry-same}
-use Rattle.store_pointers.specs.Mirrored.{mirroredPointer, mirroredCell}
-use Rattle.store_pointers.proofs.MirroredCells.{mirroredPointer-none, mirroredPointer-some, tag-mirrored, number-mirrored, mirrored-child}
-use Rattle.add_seek.specs.Sought.{symmetriesUnder}
+use Rattle.store_pointers.proofs.Turned.{turned-none, turned-some, tag-turned, number-turned}
+use Rattle.add_seek.proofs.SymmetryWays.{pair}
 
 -- ---- one pointer
 
--- the image's pointer under 0 matches what the pointer does under t
-module _ (self : ℕ → ℕ → Bool) (t p q : ℕ) (ht : t < 8) where
-  abbrev image : ℕ
-  image = mirroredPointer t p
+-- p matches w under 0 as it does q under t, if w names the same cell and its mirror is joined by t
+joined : (self : ℕ → ℕ → Bool) (t p q w : ℕ) → t < 8 → (q ≡ 0 → ⊥) → (w ≡ 0 → ⊥) → cellNo w ≡ cellNo q → tagOf w ≡ bitXor (tagOf q) t
+    → pointerMatch self 0 p w ≡ pointerMatch self t p q
+unfolding pointerMatch
+joined self t p q w ht n m number tag =
+    let x : bitXor (bitXor (tagOf p) (bitXor (tagOf q) t)) 0 ≡ bitXor (bitXor (tagOf p) (tagOf q)) t =
+    xor-zero-r (bitXor (tagOf p) (bitXor (tagOf q) t)) ∙ sym (xor8-assoc (tagOf p) (tagOf q) t (tag-lt p) (tag-lt q) ht) in
+    rw (ne-eqb w 0 m, ne-eqb q 0 n, number, tag, x)
 
-  image-none : p ≡ 0 → pointerMatch self 0 image q ≡ pointerMatch self t p q
+-- so does the mirrored pointer
+module _ (self : ℕ → ℕ → Bool) (t p q : ℕ) (ht : t < 8) (number : HasNumber q) where
+  pointer-turned : pointerMatch self 0 p (turned t q) ≡ pointerMatch self t p q
   unfolding pointerMatch
-  image-none e =
-      let i : image ≡ 0 = mirroredPointer-none t p e in
-      rw (i, e)
-
-  image-some : (p ≡ 0 → ⊥) → pointerMatch self 0 image q ≡ pointerMatch self t p q
-  unfolding pointerMatch
-  image-some n =
-      let x : bitXor (bitXor (bitXor (tagOf p) t) (tagOf q)) 0 ≡ bitXor (bitXor (tagOf p) (tagOf q)) t =
-      xor-zero-r (bitXor (bitXor (tagOf p) t) (tagOf q)) ∙ sym (xor8-swap (tagOf p) (tagOf q) t (tag-lt p) (tag-lt q) ht) in
-      rw (ne-eqb image 0 (mirroredPointer-some t p n), ne-eqb p 0 n, number-mirrored t p ht n, tag-mirrored t p ht n, x)
-
-  pub pointer-image : pointerMatch self 0 image q ≡ pointerMatch self t p q
-  pointer-image = go (eqb p 0) refl
+  pointer-turned = go (eqb q 0) refl
     where
-      go : (b : Bool) → eqb p 0 ≡ b → pointerMatch self 0 image q ≡ pointerMatch self t p q
-      go true e = image-none (eqb-true p 0 e)
-      go false e = image-some (eqb-false p 0 e)
+      go : (b : Bool) → eqb q 0 ≡ b → pointerMatch self 0 p (turned t q) ≡ pointerMatch self t p q
+      go true e = rw (turned-none t q (eqb-true q 0 e), eqb-true q 0 e)
+      go false e =
+          let n : q ≡ 0 → ⊥ = eqb-false q 0 e in
+          joined self t p q (turned t q) ht n (turned-some t q n (number n)) (number-turned t q n) (tag-turned t q n ht)
 
 -- ---- all eight
 
--- eight tests in the order of a mirror
-all-mirrored : (f g : ℕ → Bool) (t : ℕ) → t < 8 → ((j : ℕ) → j < 8 → f j ≡ g (bitXor j t)) → allBelow 8 f ≡ allBelow 8 g
-all-mirrored f g t ht e =
-    iff-eq (allBelow 8 f) (allBelow 8 g)
-    (λ s. all-T 8 g (λ i hi.
-    subst (λ (n : ℕ). T (g n)) (xor8-back i t hi ht) (subst T (e (bitXor i t) (xor8-lt i t hi ht)) (all-at 8 f s (bitXor i t) (xor8-lt i t hi ht)))))
-    (λ s. all-T 8 f (λ j hj. subst T (sym (e j hj)) (all-at 8 g s (bitXor j t) (xor8-lt j t hj ht))))
+-- pointer i of a against that of b mirrored by t
+abbrev pub pairAt : List ℕ → Cell → Cell → ℕ → ℕ → Bool
+pairAt ms a b t i = pair (getD ms i 0) (getD a i 0) (turned t (getD b (bitXor i t) 0))
 
-pub symmetry-at : (ms : List ℕ) (t j : ℕ) → j < 8 → getD (symmetriesUnder t ms) j 0 ≡ getD ms (bitXor j t) 0
-unfolding symmetriesUnder
-symmetry-at ms t j hj = getD-tabulate 8 0 j (λ i. getD ms (bitXor i t) 0) 0 hj ∙ ap (λ (i : ℕ). getD ms (bitXor i t) 0) (zero-add j)
-
-abbrev one : List ℕ → Cell → Cell → ℕ → ℕ → Bool
-one ms a b t i = pointerMatch (λ q u. marked (getD ms i 0) u) t (getD a i 0) (getD b (bitXor i t) 0)
-
-pub symmetry-image : (ms : List ℕ) (a b : Cell) (t : ℕ) → t < 8 → symmetryMatch (symmetriesUnder t ms) (mirroredCell t a) b 0 ≡ symmetryMatch ms a b t
+pub match-pairs : (ms : List ℕ) (a b : Cell) (t : ℕ) → t < 8 → NamesCells b → symmetryMatch ms a b t ≡ allBelow 8 (pairAt ms a b t)
 unfolding symmetryMatch
-symmetry-image ms a b t ht =
-    all-mirrored (one (symmetriesUnder t ms) (mirroredCell t a) b 0) (one ms a b t) t ht (λ j hj.
-    let i : ℕ = bitXor j t in
-    let q : getD b (bitXor j 0) 0 ≡ getD b (bitXor i t) 0 = ap (λ (n : ℕ). getD b n 0) (xor-zero-r j ∙ sym (xor8-back j t hj ht)) in
-    ap (λ (m : ℕ). pointerMatch (λ c u. marked m u) 0 (getD (mirroredCell t a) j 0) (getD b (bitXor j 0) 0)) (symmetry-at ms t j hj)
-    ∙ ap₂ (λ (x y : ℕ). pointerMatch (λ c u. marked (getD ms i 0) u) 0 x y) (mirrored-child t a j hj) q
-    ∙ pointer-image (λ c u. marked (getD ms i 0) u) t (getD a i 0) (getD b (bitXor i t) 0) ht)
+match-pairs ms a b t ht names =
+    all-same 8 (λ i. pointerMatch (λ q u. marked (getD ms i 0) u) t (getD a i 0) (getD b (bitXor i t) 0)) (pairAt ms a b t)
+    (λ i h. sym (pointer-turned (λ q u. marked (getD ms i 0) u) t (getD a i 0) (getD b (bitXor i t) 0) ht (names (bitXor i t) (xor8-lt i t h ht))))
 
 -- ---- a leaf
 

@@ -1,18 +1,14 @@
--- The ways through the test of two pointers under mirror 0, in the code's words, each by the value of the tests passed; and a cell's match as
--- eight such tests. Assumes nothing.
-use mathlib.Core.Path.{_≡_, ap}
+-- The ways through the test of two pointers under mirror 0, in the code's words, each by the value of the tests passed.
+-- Assumes nothing.
+use mathlib.Core.Path.{_≡_}
 use mathlib.Core.Bool.{Bool, false}
-use mathlib.Core.List.{List}
 use Prim.Native.Nat.{ℕ}
 use borrow.Author.Tests.{eq-eqb, ne-eqb}
 use lib.Bits.{bitXor, xor-zero-r}
 use lib.Dec.{eqb}
-use lib.ListN.{getD}
-use Rattle.paper.specs.Numbers.{allBelow}
-use Rattle.paper.specs.Store.{Cell, tagOf, cellNo}
+use Rattle.paper.specs.Store.{tagOf, cellNo}
 use Rattle.paper.specs.Match.{pointerMatch}
-use Rattle.laws.proofs.Tests.{all-same}
-use Rattle.laws.specs.Symmetries.{marked, symmetryMatch}
+use Rattle.laws.specs.Symmetries.{marked}
 
 module _ (m p q : ℕ) where
   abbrev pub pair : Bool
@@ -33,13 +29,3 @@ module _ (m p q : ℕ) where
   pub pair-turn : (p ≡ 0 → ⊥) → (q ≡ 0 → ⊥) → cellNo p ≡ cellNo q → pair ≡ marked m (bitXor (tagOf p) (tagOf q))
   unfolding pointerMatch
   pair-turn n o e = rw (ne-eqb p 0 n, ne-eqb q 0 o, eq-eqb (cellNo p) (cellNo q) e, xor-zero-r (bitXor (tagOf p) (tagOf q)))
-
--- pointer i against pointer i
-abbrev pub pairAt : List ℕ → Cell → Cell → ℕ → Bool
-pairAt ms a b i = pair (getD ms i 0) (getD a i 0) (getD b i 0)
-
-pub match-pairs : (ms : List ℕ) (a b : Cell) → symmetryMatch ms a b 0 ≡ allBelow 8 (pairAt ms a b)
-unfolding symmetryMatch
-match-pairs ms a b =
-    all-same 8 (λ i. pair (getD ms i 0) (getD a i 0) (getD b (bitXor i 0) 0)) (pairAt ms a b)
-    (λ i h. ap (λ (j : ℕ). pair (getD ms i 0) (getD a i 0) (getD b j 0)) (xor-zero-r i))

@@ -1,2 +1,2 @@
--- Definitions that the contracts cite: what seeking answers, and the best so far.
+-- Definitions that the contracts cite: what seeking answers.
 pub mod Sought

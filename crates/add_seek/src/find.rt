@@ -1,133 +1,145 @@
-// A cell sought among those kept at its height: the lowest number wins and, for it, the lowest mirror. For each mirror the
-// image is made once, and the kept cells below the best number so far are scanned for the first that it matches.
+// A cell sought among those kept at its height: the lowest number wins and, for it, the lowest mirror. Cells that match are in one chain, whose numbers
+// rise: the first cell of the chain that matches under some mirror is the one that a search of all kept cells finds.
 ghost use mathlib.Core.Path.{_≡_};
 ghost use Prim.Native.Nat.{_≤_, _<_};
-ghost use lib.Dec.{T, eqb};
-ghost use Rattle.paper.specs.Store.{mostCapacity, heights, keptCount, keptOf, cellsAt, cellAt, leafNo, headerOk};
+ghost use lib.Dec.{eqb};
+ghost use lib.ListN.{getD};
+ghost use Rattle.paper.specs.Numbers.{tabulate};
+ghost use Rattle.paper.specs.Store.{heights, keptOf, cellsAt, keyOf, chainOf};
 ghost use Rattle.paper.specs.Match.{matches, find, leafCell};
 ghost use Rattle.laws.specs.Symmetries.{symmetryMatch};
-ghost use Rattle.add_seek.specs.Sought.{symmetriesUnder, sought, firstBelow, betterOf, foundOf};
+ghost use Rattle.laws.specs.Chains.{lastOf, exchanged, NamesCells};
+ghost use Rattle.laws.specs.InOrder.{InOrder};
+ghost use Rattle.add_seek.specs.Sought.{sought, EndsAt, leafImages, firstBelow};
 use crate::symmetries::same_cell;
+use leaf::leaf_solid;
 use leaf::mirror_leaf;
 use limits::MIRRORS;
+use store::HIGH_WORD;
 use store::cell_at;
-use store::kept_count;
-use store::leaf_at;
-use store_pointers::mirrored;
+use store::head_at;
+use store::leaf_exchanged_at;
+use store::next_at;
+use store_pointers::cell_chain;
+use store_pointers::cell_key;
 use store_pointers::pointer;
 
-// The pointer found, or none.
+// The pointer found; or none, with the last cell of the chain, its number plus 1, or 0 where the chain is empty.
 pub enum Sought {
     At(u32),
-    Nowhere,
+    Nowhere(u32),
 }
 
-// The lowest number found so far, with its mirror.
-struct Best {
-    number: u32,
-    mirror: u32,
-}
-
-// The best after one mirror more, whose scan found number n, or n not below the best.
-fn better(best: Best, n: u32, mirror: u32) -> Best
-    ensures { λ r. ⌜ r ≡ betterOf best n mirror ⌝ }
+// The eight images of a leaf, one a mirror.
+pub fn leaf_images(leaf: u64) -> [u64; 8]
+    ensures { λ r. ⌜ r ≡ leafImages leaf ⌝ }
 {
-    if n < best.number {
-        return Best {
-            number: n,
-            mirror: mirror,
-        };
-    }
-    best
-}
-
-// The pointer to the best, where its number is one of `count` kept cells.
-fn found(best: Best, count: u32) -> Sought
-    requires { ⌜ (best .mirror < 8) × (count ≤ mostCapacity) ⌝ }
-    ensures { λ r. ⌜ sought r ≡ foundOf best count ⌝ }
-{
-    if best.number < count {
-        return Sought::At(pointer(best.mirror, best.number));
-    }
-    Sought::Nowhere
-}
-
-// The first kept leaf below `end` that is this one, or `end`.
-fn first_leaf(store: &[u32], leaf: u64, end: u32) -> u32
-    requires { ⌜ T (headerOk (now store)) ⌝ }
-    requires { ⌜ end ≤ keptCount (now store) 0 ⌝ }
-    ensures { λ r. ⌜ r ≡ firstBelow end (λ n. eqb leaf (leafNo (cellAt (keptOf (now (store .entry))) 0 n))) ⌝ }
-{
-    let mut n = 0u32;
-    while n < end {
-        if leaf == leaf_at(store, n) {
-            return n;
-        }
-        n += 1;
-    }
-    end
-}
-
-// A leaf sought among those kept.
-pub fn find_leaf(store: &[u32], leaf: u64) -> Sought
-    requires { ⌜ T (headerOk (now store)) ⌝ }
-    ensures { λ r. ⌜ sought r ≡ find (λ b t. matches (keptOf (now (store .entry))) 0 (leafCell leaf) b t) (cellsAt (keptOf (now (store .entry))) 0) 0 ⌝ }
-{
-    let count = kept_count(store, 0);
-    let mut best = Best {
-        number: count,
-        mirror: 0,
-    };
+    let mut all = [0u64; 8];
     let mut t = 0u32;
     while t < MIRRORS {
-        let n = first_leaf(store, mirror_leaf(leaf, t), best.number);
-        best = better(best, n, t);
+        all[t as usize] = mirror_leaf(leaf, t);
         t += 1;
     }
-    found(best, count)
+    all
 }
 
-// The first cell kept in list k below `end` that the image of a cell under a mirror matches under mirror 0, or `end`; `symmetries`
-// are those of the cell's children.
-fn first_cell(
-    store: &[u32],
-    k: u32,
-    image: [u32; 8],
-    symmetries: [u8; 8],
-    mirror: u32,
-    end: u32,
-) -> u32
-    requires { ⌜ T (headerOk (now store)) ⌝ }
-    requires { ⌜ (1 ≤ k) × (k < heights) ⌝ }
-    requires { ⌜ (end ≤ keptCount (now store) k) × (mirror < 8) ⌝ }
-    ensures { λ r. ⌜ r ≡ firstBelow end (λ n. symmetryMatch (symmetriesUnder mirror symmetries) image (cellAt (keptOf (now (store .entry))) k n) 0) ⌝ }
+// The lowest mirror whose image this leaf is, or 8.
+fn image_of(images: [u64; 8], leaf: u64) -> u32
+    ensures { λ r. ⌜ r ≡ firstBelow 8 (λ t. eqb (getD images t 0) leaf) ⌝ }
 {
-    let mut n = 0u32;
-    while n < end {
-        if same_cell(image, symmetries, mirror, cell_at(store, k, n)) {
-            return n;
+    let mut t = 0u32;
+    while t < MIRRORS {
+        if images[t as usize] == leaf {
+            return t;
         }
-        n += 1;
+        t += 1;
     }
-    end
+    MIRRORS
+}
+
+// A leaf with its two words exchanged, as `leaf_exchanged_at` reads it.
+fn exchange(leaf: u64) -> u64
+    ensures { λ r. ⌜ r ≡ exchanged leaf ⌝ }
+{
+    leaf % HIGH_WORD * HIGH_WORD + leaf / HIGH_WORD
+}
+
+// The eight images so.
+fn exchange_all(images: [u64; 8]) -> [u64; 8]
+    ensures { λ r. ⌜ r ≡ tabulate 0 8 (λ t. exchanged (getD images t 0)) ⌝ }
+{
+    [
+        exchange(images[0]),
+        exchange(images[1]),
+        exchange(images[2]),
+        exchange(images[3]),
+        exchange(images[4]),
+        exchange(images[5]),
+        exchange(images[6]),
+        exchange(images[7]),
+    ]
+}
+
+// A leaf sought among those kept, by its eight images.
+pub fn find_leaf(store: &[u32], leaf: u64, images: [u64; 8]) -> Sought
+    requires { ⌜ InOrder (now store) ⌝ }
+    requires { ⌜ images ≡ leafImages leaf ⌝ }
+    ensures { λ r. ⌜ sought r ≡ find (λ b t. matches (keptOf (now (store .entry))) 0 (leafCell leaf) b t) (cellsAt (keptOf (now (store .entry))) 0) 0 ⌝ }
+    ensures { λ r. ⌜ EndsAt r (lastOf (keptOf (now (store .entry))) 0 (chainOf 0 (leafCell leaf))) ⌝ }
+{
+    let all = exchange_all(images);
+    let mut last = 0u32;
+    let mut n = head_at(store, 0, leaf_solid(leaf) as u32);
+    while n != 0 {
+        let t = image_of(all, leaf_exchanged_at(store, n - 1));
+        if t < MIRRORS {
+            return Sought::At(pointer(t, n - 1));
+        }
+        last = n;
+        n = next_at(store, 0, n - 1);
+    }
+    Sought::Nowhere(last)
+}
+
+// The lowest mirror under which a cell matches another, or 8; `symmetries` are those of the cell's children, and `key` is its key: a cell of another key
+// doesn't match, whatever the mirror.
+fn match_of(cell: [u32; 8], key: u32, symmetries: [u8; 8], other: [u32; 8]) -> u32
+    requires { ⌜ NamesCells cell ⌝ }
+    requires { ⌜ NamesCells other ⌝ }
+    requires { ⌜ key ≡ keyOf cell ⌝ }
+    ensures { λ r. ⌜ r ≡ firstBelow 8 (symmetryMatch symmetries cell other) ⌝ }
+{
+    if cell_key(other) != key {
+        return MIRRORS;
+    }
+    let mut mirror = 0u32;
+    while mirror < MIRRORS {
+        if same_cell(cell, symmetries, mirror, other) {
+            return mirror;
+        }
+        mirror += 1;
+    }
+    MIRRORS
 }
 
 // A cell sought among those kept in list k, k not 0, `symmetries` being those of its children.
 pub fn find_cell(store: &[u32], k: u32, cell: [u32; 8], symmetries: [u8; 8]) -> Sought
-    requires { ⌜ T (headerOk (now store)) ⌝ }
+    requires { ⌜ InOrder (now store) ⌝ }
     requires { ⌜ (1 ≤ k) × (k < heights) ⌝ }
+    requires { ⌜ NamesCells cell ⌝ }
     ensures { λ r. ⌜ sought r ≡ find (symmetryMatch symmetries cell) (cellsAt (keptOf (now (store .entry))) k) 0 ⌝ }
+    ensures { λ r. ⌜ EndsAt r (lastOf (keptOf (now (store .entry))) k (chainOf k cell)) ⌝ }
 {
-    let count = kept_count(store, k);
-    let mut best = Best {
-        number: count,
-        mirror: 0,
-    };
-    let mut t = 0u32;
-    while t < MIRRORS {
-        let n = first_cell(store, k, mirrored(cell, t), symmetries, t, best.number);
-        best = better(best, n, t);
-        t += 1;
+    let key = cell_key(cell);
+    let mut last = 0u32;
+    let mut n = head_at(store, k, cell_chain(cell));
+    while n != 0 {
+        let mirror = match_of(cell, key, symmetries, cell_at(store, k, n - 1));
+        if mirror < MIRRORS {
+            return Sought::At(pointer(mirror, n - 1));
+        }
+        last = n;
+        n = next_at(store, k, n - 1);
     }
-    found(best, count)
+    Sought::Nowhere(last)
 }

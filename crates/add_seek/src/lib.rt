@@ -5,4 +5,6 @@ mod symmetries; // the mirrors under which a cell matches itself
 pub use find::Sought;
 pub use find::find_cell;
 pub use find::find_leaf;
+pub use find::leaf_images;
 pub use symmetries::cell_symmetry;
+pub use symmetries::image_symmetry;

@@ -1,18 +1,42 @@
 // Matching by symmetries. A cell's symmetry has 8 bits, bit t set where it matches itself under mirror t; with the symmetries of a
-// cell's children, matching looks at no cell below them. The cell is mirrored as one value: it matches another under t
-// exactly where its image under t matches it under 0.
+// cell's children, matching looks at no cell below them. A cell matches another under t exactly where it
+// matches the other so mirrored under 0, and a leaf matches itself under t where it is its own image.
 ghost use mathlib.Core.Path.{_≡_};
 ghost use mathlib.Core.Bool.{not};
 ghost use Prim.Native.Nat.{_<_};
+ghost use lib.Dec.{eqb};
 ghost use Rattle.paper.specs.Numbers.{bitFor};
+ghost use Rattle.paper.specs.Leaf.{mirrorLeaf};
 ghost use Rattle.paper.specs.Match.{pointerMatch};
 ghost use Rattle.laws.specs.Symmetries.{symmetryFor, marked, symmetryMatch};
-ghost use Rattle.add_seek.specs.Sought.{symmetriesUnder};
+ghost use Rattle.laws.specs.Chains.{NamesCells};
+ghost use Rattle.add_seek.specs.Sought.{leafImages};
 use limits::CHILDREN;
 use limits::MIRRORS;
 use store_pointers::cell_number;
-use store_pointers::mirrored;
+use store_pointers::mirrored_at;
 use store_pointers::tag;
+
+// 1 where a leaf is its image, 0 elsewhere.
+fn leaf_bit(leaf: u64, image: u64) -> u8
+    ensures { λ r. ⌜ r ≡ bitFor (eqb leaf image) ⌝ }
+{
+    if leaf == image { 1 } else { 0 }
+}
+
+// The symmetry of a leaf, from its eight images.
+pub fn image_symmetry(leaf: u64, images: [u64; 8]) -> u8
+    requires { ⌜ images ≡ leafImages leaf ⌝ }
+    ensures { λ r. ⌜ r ≡ symmetryFor (λ t. eqb leaf (mirrorLeaf t leaf)) ⌝ }
+{
+    let mut t = MIRRORS;
+    let mut symmetry = 0u8;
+    while t != 0 {
+        t -= 1;
+        symmetry = 2 * symmetry + leaf_bit(leaf, images[t as usize]);
+    }
+    symmetry
+}
 
 // Whether two pointers don't match under mirror 0, `symmetry` being that of the cell that p names.
 fn pointers_differ(p: u32, q: u32, symmetry: u8) -> bool
@@ -30,17 +54,17 @@ fn pointers_differ(p: u32, q: u32, symmetry: u8) -> bool
     (symmetry >> (tag(p) ^ tag(q))) % 2 != 1
 }
 
-// Whether the image of a cell under a mirror matches another cell under mirror 0, `symmetries` being those of the cell's children:
-// child i of the image is child (i xor mirror) of the cell.
-pub fn same_cell(image: [u32; 8], symmetries: [u8; 8], mirror: u32, other: [u32; 8]) -> bool
+// Whether a cell matches another under a mirror, `symmetries` being those of the cell's children: its pointers against those of the other so mirrored.
+pub fn same_cell(cell: [u32; 8], symmetries: [u8; 8], mirror: u32, other: [u32; 8]) -> bool
     requires { ⌜ mirror < 8 ⌝ }
-    ensures { λ r. ⌜ r ≡ symmetryMatch (symmetriesUnder mirror symmetries) image other 0 ⌝ }
+    requires { ⌜ NamesCells other ⌝ }
+    ensures { λ r. ⌜ r ≡ symmetryMatch symmetries cell other mirror ⌝ }
 {
-    let by = mirror as usize;
-    let mut i = CHILDREN as usize;
+    let mut i = CHILDREN;
     while i != 0 {
         i -= 1;
-        if pointers_differ(image[i], other[i], symmetries[i ^ by]) {
+        let at = i as usize;
+        if pointers_differ(cell[at], mirrored_at(other, mirror, i), symmetries[at]) {
             return false;
         }
     }
@@ -50,9 +74,10 @@ pub fn same_cell(image: [u32; 8], symmetries: [u8; 8], mirror: u32, other: [u32;
 // 1 where a cell matches itself under a mirror, 0 elsewhere.
 fn cell_bit(cell: [u32; 8], symmetries: [u8; 8], mirror: u32) -> u8
     requires { ⌜ mirror < 8 ⌝ }
+    requires { ⌜ NamesCells cell ⌝ }
     ensures { λ r. ⌜ r ≡ bitFor (symmetryMatch symmetries cell cell mirror) ⌝ }
 {
-    if same_cell(mirrored(cell, mirror), symmetries, mirror, cell) {
+    if same_cell(cell, symmetries, mirror, cell) {
         return 1;
     }
     0
@@ -60,6 +85,7 @@ fn cell_bit(cell: [u32; 8], symmetries: [u8; 8], mirror: u32) -> u8
 
 // The symmetry of a cell, from those of its children.
 pub fn cell_symmetry(cell: [u32; 8], symmetries: [u8; 8]) -> u8
+    requires { ⌜ NamesCells cell ⌝ }
     ensures { λ r. ⌜ r ≡ symmetryFor (symmetryMatch symmetries cell cell) ⌝ }
 {
     let mut t = MIRRORS;

@@ -22,6 +22,11 @@ pub mod OutlineClaim
 -- words
 pub mod Kept
 pub mod TrueCounts
+pub mod Chains
+pub mod ChainEnds
+pub mod ChainGrowing
+pub mod ChainWords
+pub mod ChainLinks
 pub mod Padded
 pub mod Regions
 pub mod Rows
@@ -61,6 +66,8 @@ pub mod Records
 pub mod Sums
 pub mod Boxes
 pub mod Counts
+pub mod Keys
+pub mod ChainCounts
 pub mod BoxTallies
 -- searches
 pub mod SearchLaws
@@ -70,6 +77,7 @@ pub mod SearchTrue
 pub mod TreesRead
 pub mod MirrorClaim
 pub mod Filled
+pub mod InOrder
 pub mod Filling
 pub mod RefusalNumbers
 pub mod Refusals
@@ -77,6 +85,7 @@ pub mod Running
 pub mod Walks
 pub mod Holding
 pub mod CountClaim
+pub mod ChainClaim
 pub mod AnyClaim
 pub mod NoDamage
 pub mod Differing

@@ -1,24 +1,22 @@
 -- Words at their places: word i of kept cell q is the store's word there; and in an undamaged store of 32-bit words every kept cell is ok, so the
 -- laws of adding hold of it. By the groups that the lists are read in. Assumes nothing.
 use mathlib.Core.Path.{_≡_, _∙_, subst, ap}
-use mathlib.Core.Bool.{false, not}
+use mathlib.Core.Bool.{false}
 use mathlib.Core.List.{List, []}
 use Prim.Native.Nat.{ℕ, zero, suc, _+_, _^_, _<_, _≤_}
 use native.Mathlib.Nat.{not-suc-le-zero}
 use native.Mathlib.Decide.{decLt}
 use native.Mathlib.Omega.{arith}
-use borrow.Author.Tests.{not-true}
-use lib.Dec.{T, eqb, lit<}
+use lib.Dec.{lit<}
 use lib.ListN.{length, drop, getD, List·getD-eq-default}
 use lib.Seq.{getD-take, getD-drop}
-use Rattle.paper.specs.Numbers.{allBelow}
-use Rattle.paper.specs.Store.{Cell, cellsAt, cellAt, leafNo, badPointer, anyBad, heights, capacityOf, keptCount, cellLength, cellPosition, keptOf, cellUsable, listUsable}
-use Rattle.laws.proofs.Tests.{T-true, and-right, none-at}
-use Rattle.laws.proofs.Lists.{allIn-in}
+use Rattle.paper.specs.Store.{Cell, cellsAt, cellAt, leafNo, badPointer, anyBad, heights, capacityOf, keptCount, cellLength, cellPosition, keptOf}
+use Rattle.laws.proofs.Tests.{none-at}
 use Rattle.laws.proofs.Kept.{kept-length}
 use Rattle.laws.proofs.Kept.{kept-cell, kept-tall}
 use Rattle.laws.proofs.Invariant.{OkCell, OkCells, not-bad-ok}
 use Rattle.laws.proofs.Adding.{Sound}
+use Rattle.laws.proofs.TrueCounts.{usable-sound}
 use Rattle.laws.proofs.Undamaged.{Undamaged}
 
 -- ---- kept cells by place
@@ -48,33 +46,29 @@ leaf-fits ws words q h =
     let C : ℕ = capacityOf ws in
     omega (arith, kept-word ws 0 q 0 (lit< tt) h (lit< tt), kept-word ws 0 q 1 (lit< tt) h (lit< tt), words (cellPosition C 0 q + 0), words (cellPosition C 0 q + 1))
 
--- ---- an undamaged store's cells are ok
+-- ---- a store's cells are ok where no list is longer than the capacity, each leaf has 64 bits and no kept cell has a bad pointer
 
-usable-ok : (n : ℕ) (c : Cell) → T (cellUsable n c) → (i : ℕ) → i < 8 → badPointer n (getD c i 0) ≡ false
-unfolding cellUsable
-usable-ok n c t =
-    none-at 8 (λ i. badPointer n (getD c i 0))
-    (not-true (anyBad n c) (T-true {b = not (anyBad n c)} (and-right (not (allBelow 8 (λ i. eqb (getD c i 0) 0))) (not (anyBad n c)) t)))
+module _ (ws : List ℕ) (few : (k : ℕ) → k < heights → keptCount ws k ≤ capacityOf ws)
+    (leaves : (q : ℕ) → q < length (cellsAt (keptOf ws) 0) → leafNo (cellAt (keptOf ws) 0 q) < 2 ^ 64)
+    (sound : (k q : ℕ) → q < length (cellsAt (keptOf ws) (suc k)) → anyBad (length (cellsAt (keptOf ws) k)) (cellAt (keptOf ws) (suc k) q) ≡ false) where
+  pub cells-ok : OkCells (keptOf ws)
+  cells-ok zero q l = leaves q l
+  cells-ok (suc k) q l = λ i hi.
+      let n : ℕ = length (cellsAt (keptOf ws) k) in
+      let c : Cell = cellAt (keptOf ws) (suc k) q in
+      not-bad-ok n (getD c i 0) (none-at 8 (λ j. badPointer n (getD c j 0)) (sound k q l) i hi)
 
-module _ (ws : List ℕ) (u : Undamaged ws) (words : (i : ℕ) → getD ws i 0 < 2 ^ 32) where
-  cell-ok : (k q : ℕ) → k < heights → q < length (cellsAt (keptOf ws) k) → OkCell (keptOf ws) k (cellAt (keptOf ws) k q)
-  unfolding listUsable
-  cell-ok zero q h l = leaf-fits ws words q (subst (λ (n : ℕ). q < n) (kept-length ws 0 h) l)
-  cell-ok (suc k) q h l = λ i hi.
-      not-bad-ok (length (cellsAt (keptOf ws) k)) (getD (cellAt (keptOf ws) (suc k) q) i 0)
-      (usable-ok (length (cellsAt (keptOf ws) k)) (cellAt (keptOf ws) (suc k) q)
-      (allIn-in (cellUsable (length (cellsAt (keptOf ws) k))) [] (cellsAt (keptOf ws) (suc k)) (u .usable (suc k) h) q l) i hi)
-
-  pub store-cells-ok : OkCells (keptOf ws)
-  store-cells-ok k q l = go (decLt k heights)
+  pub cells-sound : Sound (capacityOf ws) (keptOf ws)
+  cells-sound = record { ok = cells-ok; few = λ j. most j (decLt j heights) }
     where
-      go : Dec (k < heights) → OkCell (keptOf ws) k (cellAt (keptOf ws) k q)
-      go (yes h) = cell-ok k q h l
-      go (no n) = absurd (not-suc-le-zero (subst (λ (cs : List Cell). q < length cs) (kept-none ws k (omega arith)) l))
+      most : (j : ℕ) → Dec (j < heights) → length (cellsAt (keptOf ws) j) ≤ capacityOf ws
+      most j (yes h) = omega (arith, kept-length ws j h, few j h)
+      most j (no n) = rw (kept-none ws j (omega arith)) (omega arith)
 
-  pub store-sound : Sound (capacityOf ws) (keptOf ws)
-  store-sound = record { ok = store-cells-ok; few = λ j. few j (decLt j heights) }
-    where
-      few : (j : ℕ) → Dec (j < heights) → length (cellsAt (keptOf ws) j) ≤ capacityOf ws
-      few j (yes h) = omega (arith, kept-length ws j h, u .few j h)
-      few j (no n) = rw (kept-none ws j (omega arith)) (omega arith)
+-- so in an undamaged store
+module _ (ws : List ℕ) (u : Undamaged ws) where
+  pub store-none-bad : (k q : ℕ) → q < length (cellsAt (keptOf ws) (suc k)) → anyBad (length (cellsAt (keptOf ws) k)) (cellAt (keptOf ws) (suc k) q) ≡ false
+  store-none-bad k q l = usable-sound (keptOf ws) k q (u .usable (suc k) (kept-placed ws (suc k) q l .0)) l
+
+  pub store-leaves : ((i : ℕ) → getD ws i 0 < 2 ^ 32) → (q : ℕ) → q < length (cellsAt (keptOf ws) 0) → leafNo (cellAt (keptOf ws) 0 q) < 2 ^ 64
+  store-leaves words q l = leaf-fits ws words q (kept-placed ws 0 q l .1)

@@ -7,7 +7,7 @@ use native.Mathlib.Nat.{le-of-suc-le-suc, not-suc-le-zero, add-zero, mul-le-mul-
 use native.Mathlib.Omega.{arith}
 use lib.ListN.{length, take, getD, set, length-map, length-append}
 use lib.Seq.{take-all, take-at}
-use Rattle.paper.specs.Store.{Cell, cellsAt, cellAt, twoWords, heights, used, cellLength, stride, listPosition, solidOf, padded, Region, region, rowOf, listRegions}
+use Rattle.paper.specs.Store.{Cell, cellsAt, cellAt, twoWords, heights, used, cellLength, stride, listPosition, firstHead, solidOf, padded, Region, region, rowOf, listRegions}
 use Rattle.laws.proofs.Padded.{Sized, snil, scons, padded-length, sized-snoc}
 use Rattle.laws.proofs.Regions.{regionAt, Fit, fnil, fcons, regionPlace}
 use Rattle.laws.proofs.Lists.{length-snoc}
@@ -49,13 +49,16 @@ pub data Lists (C : ℕ) : ℕ → List (List Cell) → Type 0 where
   lnil : {j : ℕ} → Lists C j []
   lcons : {j : ℕ} {cs : List Cell} {Ks : List (List Cell)} → Sized (cellLength j) cs → length cs ≤ C → Lists C (suc j) Ks → Lists C j (cs ∷ Ks)
 
--- where the next list stands, and that the words of each are used
+-- where the next list stands, and that the words of each are before the chains, and used
 pub list-next : (C j : ℕ) → listPosition C (suc j) ≡ listPosition C j + stride j * C
 list-next C zero = omega arith
 list-next C (suc j) = omega arith
 
+pub list-end : (C j : ℕ) → j < heights → listPosition C j + stride j * C ≤ firstHead C
+list-end C j h = omega (arith, list-next C j, mul-le-mul-left (stride 1 * C) (le-of-suc-le-suc h))
+
 pub list-in : (C j : ℕ) → j < heights → listPosition C j + stride j * C ≤ used C
-list-in C j h = omega (arith, list-next C j, mul-le-mul-left (stride 1 * C) (le-of-suc-le-suc h))
+list-in C j h = omega (arith, list-end C j h)
 
 pub words-fit : (j n C : ℕ) → n ≤ C → n * stride j ≤ stride j * C
 words-fit zero n C h = omega arith

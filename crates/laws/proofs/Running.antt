@@ -9,11 +9,11 @@ use native.Mathlib.Decide.{ℕ-discrete}
 use native.Mathlib.Omega.{arith}
 use borrow.Author.Tests.{not-false, leb-false, ne-eqb}
 use lib.Dec.{T, leb}
-use lib.ListN.{length, drop, getD, set, replicate, replicate-append-replicate}
+use lib.ListN.{length, drop, getD, set, replicate, length-replicate, getD-replicate, replicate-append-replicate}
 use lib.Seq.{drop-at}
 use Rattle.paper.specs.Numbers.{flatten}
 use Rattle.paper.specs.Outline.{fileDepth, outlineTree}
-use Rattle.paper.specs.Store.{Cell, mostScenes, heights, firstScene, sceneWords, stride, firstList, used, freePlace, capacityOk, scenesHeld, padded, listRegions, headerRow, wordsOf, emptyStore}
+use Rattle.paper.specs.Store.{Cell, cellsAt, mostScenes, heights, chains, firstScene, sceneWords, stride, firstList, firstHead, used, freePlace, capacityOk, scenesHeld, firstIn, padded, listRegions, headerRow, chainWords, wordsOf, emptyStore}
 use Rattle.paper.specs.Match.{Adding, full, added, addTree}
 use Rattle.paper.specs.Answers.{Outcome, told, outcome}
 use Rattle.paper.specs.Order.{firstOf}
@@ -23,6 +23,7 @@ use Rattle.laws.proofs.Tests.{true-T, and-left}
 use Rattle.laws.proofs.Words.{Fine, storeWith, stored, wordsOf-length, storeOf-wordsOf, capacity-read, kept-read, scenes-read}
 use Rattle.laws.proofs.Regions.{inRow, regionPlace}
 use Rattle.laws.proofs.Rows.{lists-place}
+use Rattle.laws.proofs.ChainWords.{place-in, next-spare, chains-by}
 use Rattle.laws.proofs.Filled.{Filled, filled-fine}
 use Rattle.laws.proofs.Filling.{empty-filled, AddsFile, file-adds, S⁺, held⁺, add-filled}
 use Rattle.laws.proofs.Refusals.{settled-accepted, settled-refused, settled-number, Passed, add-passed}
@@ -56,6 +57,17 @@ bare-header : (C : ℕ) → padded firstScene (headerRow (emptyStore C) ∷ []) 
 unfolding padded flatten emptyStore
 bare-header C = refl
 
+-- no cell is in a chain
+no-chains : (C : ℕ) → chainWords (replicate heights []) C ≡ replicate ((chains + C) * heights) 0
+unfolding firstIn
+no-chains C =
+    let K : List (List Cell) = replicate heights [] in
+    let none : (k : ℕ) → k < heights → cellsAt K k ≡ [] = λ k h. getD-replicate heights k [] [] h in
+    let n : ℕ = (chains + C) * heights in
+    sym (chains-by K C (replicate n 0) (length-replicate n 0)
+    (λ k j hk hj. getD-replicate n (chains * k + j) 0 0 (omega arith) ∙ sym (ap (firstIn k j 0) (none k hk)))
+    (λ k m hk hm. getD-replicate n (chains * heights + (C * k + m)) 0 0 (omega (arith, place-in C k m hm heights hk)) ∙ sym (next-spare K k m (rw (none k hk) (omega arith)))))
+
 -- 'a new store zeroes its words, then sets word 0'
 empty-words : (C : ℕ) → wordsOf (storeWith C 0 (emptyStore C .scenes) (emptyStore C .kept)) ≡ C ∷ replicate (used C - 1) 0
 unfolding wordsOf emptyStore flatten
@@ -63,10 +75,14 @@ empty-words C =
     let K : List (List Cell) = replicate heights [] in
     let n : ℕ = regionPlace (listRegions K C 0 K) heights in
     let m : ℕ = sceneWords * mostScenes in
-    let place : firstList + n ≡ used C = lists-place K C 0 K heights (omega arith) in
-    let e : firstScene - 1 + (m + n) ≡ used C - 1 = omega (arith, place) in
-    ap₂ (λ (a b : List ℕ). a ++ b) (bare-header C) (ap₂ (λ (a b : List ℕ). a ++ b) no-scenes (no-lists K C 0 heights) ∙ replicate-append-replicate m n 0)
-    ∙ ap (λ (a : List ℕ). C ∷ a) (replicate-append-replicate (firstScene - 1) (m + n) 0 ∙ ap (λ (j : ℕ). replicate j 0) e)
+    let r : ℕ = (chains + C) * heights in
+    let place : firstList + n ≡ firstHead C = lists-place K C 0 K heights (omega arith) in
+    let e : firstScene - 1 + (m + n) + r ≡ used C - 1 = omega (arith, place) in
+    ap₂ (λ (a b : List ℕ). a ++ b)
+    (ap₂ (λ (a b : List ℕ). a ++ b) (bare-header C) (ap₂ (λ (a b : List ℕ). a ++ b) no-scenes (no-lists K C 0 heights) ∙ replicate-append-replicate m n 0)
+    ∙ ap (λ (a : List ℕ). C ∷ a) (replicate-append-replicate (firstScene - 1) (m + n) 0))
+    (no-chains C)
+    ∙ ap (λ (a : List ℕ). C ∷ a) (replicate-append-replicate (firstScene - 1 + (m + n)) r 0 ∙ ap (λ (j : ℕ). replicate j 0) e)
 
 pub new-words : (C : ℕ) (ws : List ℕ) → newWords C ws ≡ stored C 0 (emptyStore C .scenes) (emptyStore C .kept) (drop (used C) ws)
 unfolding newWords

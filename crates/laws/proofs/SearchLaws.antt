@@ -21,10 +21,10 @@ use Rattle.paper.specs.Anything.{further, orElse, inOrder, pointerOf, sharedBad
 use Rattle.paper.specs.declared.Search.{Search}
 use Rattle.paper.specs.declared.Search.the-variants.{Met, Passed, Damaged}
 use Rattle.laws.proofs.Tests.{none-at, none-T}
-use Rattle.laws.proofs.Eight.{below8, xor8-lt, xor8-back}
+use Rattle.laws.proofs.Eight.{xor8-lt, xor8-back}
 use Rattle.laws.proofs.Matching.{tag-lt}
 use Rattle.laws.proofs.OutlineWriting.{edge-twice}
-use Rattle.laws.proofs.Sums.{sum-head}
+use Rattle.laws.proofs.Sums.{sum-head, sum-places}
 use Rattle.laws.proofs.Boxes.{box-mirrored}
 use Rattle.laws.proofs.Counts.{origin-clipped, far-clipped}
 use Rattle.laws.proofs.BoxTallies.{whole-box}
@@ -267,12 +267,6 @@ passed-same a b s p q = is-misses b (Passed a) (sym p ∙ q)
 
 -- ---- a cell wholly inside, under another mirror
 
--- eight numbers added up in another order
-sum-turned : (g : ℕ → ℕ) (m : ℕ) → m < 8 → sum 8 (λ i. g (bitXor i m)) ≡ sum 8 g
-unfolding sum
-sum-turned g =
-    below8 (λ m. sum 8 (λ i. g (bitXor i m)) ≡ sum 8 g) (omega arith) (omega arith) (omega arith) (omega arith) (omega arith) (omega arith) (omega arith) (omega arith)
-
 -- a whole cell cut to a child is the whole child
 pub far-child : (k i : ℕ) → clipped (edge k) i (far (edge (suc k))) ≡ far (edge k)
 far-child k i = ap (λ (E : ℕ). clipped (edge k) i (far E)) (edge-twice k) ∙ far-clipped (edge k) i
@@ -347,7 +341,7 @@ module _ (K : List (List Cell)) where
           (ap (λ (x : ℕ). wholePointer K k (getD c x 0) m) (sym (xor8-back j m lj h)) ∙ sym (child-inside k n m (bitXor j m)) ∙ each (bitXor j m) (xor8-lt j m lj h)) in
           ap (λ (x : Bool). cond x Damaged (further 1 (inOrder 0 8 (child m′)))) (shared-turned k n m m′ h h′ b)
           ∙ ap (further 1) (order-all-passed 8 0 (child m′) (λ i. f (bitXor (bitXor i m′) m)) (λ i l. rw (zero-add i) (each′ i l)))
-          ∙ ap (λ (x : ℕ). Passed (1 + x)) (sum-turned (λ j. f (bitXor j m)) m′ h′ ∙ sum-turned f m h ∙ sym total)
+          ∙ ap (λ (x : ℕ). Passed (1 + x)) (sum-places (λ j. f (bitXor j m)) m′ h′ ∙ sum-places f m h ∙ sym total)
           ∙ ap Passed (sym (w .1))
         where
           pointer : ((q t t′ d : ℕ) → t < 8 → t′ < 8 → cellSearch K k q t origin (far (edge k)) ≡ Passed d → cellSearch K k q t′ origin (far (edge k)) ≡ Passed d)

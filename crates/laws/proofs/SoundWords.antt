@@ -3,23 +3,25 @@
 use mathlib.Core.Path.{_≡_, refl, sym, ap, ap₂, _∙_, subst}
 use mathlib.Core.Bool.{Bool, true, false, cond, not, _&&_}
 use mathlib.Core.List.{List, [], _++_}
-use Prim.Native.Nat.{ℕ, zero, suc, _+_, _-_, _*_, _<_}
+use Prim.Native.Nat.{ℕ, zero, suc, _+_, _-_, _*_, _<_, _≤_}
 use native.Mathlib.Nat.{add-zero}
 use native.Mathlib.Omega.{arith}
 use borrow.Author.Tests.{eq-eqb}
 use lib.Dec.{T, eqb, ltb}
-use lib.ListN.{length, drop, getD, length-append, length-map}
+use lib.ListN.{length, take, drop, getD, length-append, length-map}
+use lib.Seq.{take-at}
 use Rattle.paper.specs.Numbers.{allBelow}
 use Rattle.paper.specs.Rooms.{depthOk}
-use Rattle.paper.specs.Store.{Cell, Store, cellsAt, cellAt, badPointer, mostScenes, heights, capacityOf, isHeld, keptCount, sceneWords, scenePosition, stride, listPosition, cellPosition}
-use Rattle.paper.specs.Store.{keptOf, overChildren, solidOf, countOf, sceneDepth, sceneRoot, rowOf, listRegions, wordsOf, blank, capacityOk, headerOk, sceneOk, placeOk, listUsable, countsOk, listBlank, storeOk}
+use Rattle.paper.specs.Store.{Cell, Store, cellsAt, cellAt, badPointer, mostScenes, heights, chains, used, firstHead, capacityOf, isHeld, keptCount, sceneWords, scenePosition, stride, listPosition, cellPosition}
+use Rattle.paper.specs.Store.{keptOf, overChildren, solidOf, countOf, sceneDepth, sceneRoot, rowOf, listRegions, chainWords, wordsOf, blank, capacityOk, headerOk, sceneOk, placeOk, listUsable, countsOk, chainsOk, listBlank, storeOk}
 use Rattle.laws.proofs.Tests.{T-true, and-true, all-at, all-T, true-T, all-same}
 use Rattle.laws.proofs.Kept.{scene-word}
 use Rattle.laws.proofs.Padded.{padded-blank}
 use Rattle.laws.proofs.Regions.{inRow}
 use Rattle.laws.proofs.TrueCounts.{over-same, usable-sound}
 use Rattle.laws.proofs.Rows.{rows-sized}
-use Rattle.laws.proofs.Words.{storeWith, Fine, wordsOf-length, cells-sized, cells-few, zeros-from, cells-from, capacity-read, scenes-read, count-read, kept-read, storeOf-wordsOf, solid-read}
+use Rattle.laws.proofs.Words.{storeWith, Fine, wordsOf-length, cells-sized, cells-few, zeros-from, cells-from, chains-from, capacity-read, scenes-read, count-read, kept-read, storeOf-wordsOf, solid-read}
+use Rattle.laws.proofs.ChainWords.{chains-long, chains-right}
 use Rattle.laws.proofs.Undamaged.{FineHeader, fine-header-ok, depth-list, list-blank-at}
 
 -- a scene's depth is in range, and its root pointer not bad
@@ -74,11 +76,14 @@ module _ (C N : ℕ) (S : List Cell) (Ks : List (List Cell)) (f : Fine C N S Ks)
 
   -- ---- unused words are zero
 
+  words-long : used (capacityOf ws) ≤ length ws
+  words-long = rw (capacity-read C N S Ks f l, length-append (wordsOf (storeWith C N S Ks)) l) (omega (arith, wordsOf-length C N S Ks f))
+
   pub words-header : T (capacityOk C) → FineHeader (wordsOf (storeWith C N S Ks) ++ l)
   words-header c =
       let e : capacityOf ws ≡ C = capacity-read C N S Ks f l in
       record {
-        long = rw (e, length-append (wordsOf (storeWith C N S Ks)) l) (omega (arith, wordsOf-length C N S Ks f));
+        long = words-long;
         capacity = rw e c;
         held = rw (scenes-read C N S Ks f l) (f .few-scenes);
         few = λ k h. rw (e, count-read C N S Ks f l k h) (cells-few C N S Ks f k);
@@ -90,7 +95,7 @@ module _ (C N : ℕ) (S : List Cell) (Ks : List (List Cell)) (f : Fine C N S Ks)
       ap₂ (λ (c m : ℕ). blank ws (cellPosition c k m) (stride k * (c - m))) (capacity-read C N S Ks f l) (count-read C N S Ks f l k h)
       ∙ list-blank-at ws C k (length (cellsAt Ks k))
       ∙ ap (λ (m : ℕ). blank ws (listPosition C k + m * stride k) (stride k * C - m * stride k)) (sym (length-map (cellsAt Ks k) (rowOf Ks k)))
-      ∙ padded-blank ws (listPosition C k) (stride k * C) (inRow (drop (suc k) (listRegions Ks C 0 Ks)) ++ l) (rows-sized Ks k (cells-sized C N S Ks f k h)) (cells-from C N S Ks f l k h)
+      ∙ padded-blank ws (listPosition C k) (stride k * C) (inRow (drop (suc k) (listRegions Ks C 0 Ks)) ++ (chainWords Ks C ++ l)) (rows-sized Ks k (cells-sized C N S Ks f k h)) (cells-from C N S Ks f l k h)
 
   -- ---- counts are true, where every pointer of a kept cell names a kept cell
 
@@ -114,8 +119,16 @@ module _ (C N : ℕ) (S : List Cell) (Ks : List (List Cell)) (f : Fine C N S Ks)
 
   -- ---- undamaged
 
-  join : (H S U B N S′ U′ : Bool) → H ≡ true → S ≡ S′ → U ≡ U′ → B ≡ true → (T U′ → N ≡ true) → H && S && U && B && N ≡ S′ && U′
-  join H S U B N S′ U′ h e u b n = rw (h, e, u, b) (go U′ n)
+  -- the chains' words are those that the cells determine
+  pub stored-chained : T (chainsOk (wordsOf (storeWith C N S Ks) ++ l))
+  stored-chained =
+      chains-right ws words-long
+      (ap (λ (D : ℕ). take ((chains + D) * heights) (drop (firstHead D) ws)) (capacity-read C N S Ks f l)
+      ∙ ap (take ((chains + C) * heights)) (chains-from C N S Ks f l) ∙ take-at (chainWords Ks C) l ((chains + C) * heights) (chains-long Ks C)
+      ∙ sym (ap₂ chainWords (kept-read C N S Ks f l) (capacity-read C N S Ks f l)))
+
+  join : (H S U B N L S′ U′ : Bool) → H ≡ true → S ≡ S′ → U ≡ U′ → B ≡ true → (T U′ → N ≡ true) → L ≡ true → H && S && U && B && N && L ≡ S′ && U′
+  join H S U B N L S′ U′ h e u b n c = rw (h, e, u, b, c) (and-true (S′ && U′ && true && N) ∙ go U′ n)
     where
       go : (b : Bool) → (T b → N ≡ true) → S′ && b && true && N ≡ S′ && b
       go true m = rw (m tt) (and-true (S′ && true && true) ∙ and-true (S′ && true))
@@ -124,9 +137,9 @@ module _ (C N : ℕ) (S : List Cell) (Ks : List (List Cell)) (f : Fine C N S Ks)
   pub sound-words : T (capacityOk C) → storeOk (wordsOf (storeWith C N S Ks) ++ l) ≡ soundStore (storeWith C N S Ks)
   unfolding storeOk soundStore
   sound-words c =
-      join (headerOk ws) (allBelow mostScenes (placeOk ws)) (allBelow heights (listUsable (keptOf ws))) (allBelow heights (listBlank ws)) (allBelow heights (countsOk ws))
+      join (headerOk ws) (allBelow mostScenes (placeOk ws)) (allBelow heights (listUsable (keptOf ws))) (allBelow heights (listBlank ws)) (allBelow heights (countsOk ws)) (chainsOk ws)
       (allBelow mostScenes (placeSound N S Ks)) (allBelow heights (listUsable Ks))
       (T-true (fine-header-ok ws (words-header c))) (all-same mostScenes (placeOk ws) (placeSound N S Ks) place-sound)
       (ap (λ (K : List (List Cell)). allBelow heights (listUsable K)) (kept-read C N S Ks f l))
       (T-true (all-T heights (listBlank ws) (λ k h. true-T (list-blank k h))))
-      (λ t. T-true (all-T heights (countsOk ws) (counts-pass t)))
+      (λ t. T-true (all-T heights (countsOk ws) (counts-pass t))) (T-true stored-chained)

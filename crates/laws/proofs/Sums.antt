@@ -1,5 +1,5 @@
--- Sums over a range and over a cube: equal and bounded where their parts are, above 0 where a part is, row by row, backwards and mirrored, and by
--- the eight children of a cube. By induction on the range, one axis at a time. Assumes nothing.
+-- Sums over a range and over a cube: equal and bounded where their parts are, above 0 where a part is, in mirrored places, row by row, backwards and
+-- mirrored, and by the eight children of a cube. By induction on the range, one axis at a time. Assumes nothing.
 use mathlib.Core.Path.{_≡_, refl, sym, _∙_, ap, ap₂}
 use mathlib.Core.Bool.{Bool, true, false}
 use mathlib.Core.Logic.{_⊎_, inl, inr}
@@ -7,9 +7,11 @@ use Prim.Native.Nat.{ℕ, zero, suc, _+_, _-_, _*_, _/_, _%_, _<_, _≤_}
 use native.Mathlib.Nat.{le-refl, le-of-suc-le-suc, not-suc-le-zero, eq-or-lt-of-le, add-zero, add-suc, zero-mul}
 use native.Mathlib.Numerals.{add-one}
 use native.Mathlib.Omega.{arith}
+use lib.Bits.{bitXor}
 use Rattle.paper.specs.Numbers.{sum}
 use Rattle.paper.specs.Rooms.{Point, point, Inside, flip, markX, markY, markZ, mirror, sum3}
 use Rattle.paper.specs.Leaf.{voxelOf}
+use Rattle.laws.proofs.Eight.{below8}
 use Rattle.laws.proofs.Mirrors.{fromChild}
 
 -- ---- a range
@@ -69,6 +71,12 @@ sum-split : (n m : ℕ) (f : ℕ → ℕ) → sum (n + m) f ≡ sum n f + sum m 
 unfolding sum
 sum-split n zero f = ap (λ (k : ℕ). sum k f) (add-zero n) ∙ sym (add-zero (sum n f))
 sum-split n (suc m) f = ap (λ (k : ℕ). sum k f) (add-suc n m) ∙ omega (arith, sum-split n m f)
+
+-- eight parts in mirrored places
+pub sum-places : (f : ℕ → ℕ) (t : ℕ) → t < 8 → sum 8 (λ i. f (bitXor i t)) ≡ sum 8 f
+unfolding sum
+sum-places f =
+    below8 (λ t. sum 8 (λ i. f (bitXor i t)) ≡ sum 8 f) (omega arith) (omega arith) (omega arith) (omega arith) (omega arith) (omega arith) (omega arith) (omega arith)
 
 -- row by row, m to a row
 pub sum-rows : (n m : ℕ) (f : ℕ → ℕ) → sum (n * m) f ≡ sum n (λ i. sum m (λ j. f (i * m + j)))

@@ -1,7 +1,7 @@
 -- Solid counts: where every list's counts are the sums of the counts below, each is the number of its cell's solid voxels; what is summed over a cell's
 -- children depends on the cells that it names only; and no cell has more than its cube. By induction on the height. Assumes nothing.
 use mathlib.Core.Path.{_≡_, refl, _∙_, ap, subst}
-use mathlib.Core.Bool.{Bool, true, false, cond, not}
+use mathlib.Core.Bool.{Bool, true, false, cond, not, _&&_}
 use mathlib.Core.List.{List, []}
 use Prim.Native.Nat.{ℕ, zero, suc, _*_, _^_, _<_, _≤_, zero-le}
 use native.Mathlib.Nat.{le-refl, le-of-suc-le-suc, pow-succ'}
@@ -10,8 +10,8 @@ use borrow.Author.Tests.{eqb-false}
 use lib.Dec.{T, eqb, eqb→eq}
 use lib.ListN.{length, getD}
 use Rattle.paper.specs.Numbers.{allBelow, bit}
-use Rattle.paper.specs.Store.{Cell, cellsAt, cellAt, leafNo, cellNo, badPointer, anyBad, mostScenes, heights, keptCount, keptOf, leafSolid, overChildren, solidOf, countOf, headerOk, placeOk, cellUsable, listUsable, countsOk, listBlank, storeOk}
-use Rattle.laws.proofs.Tests.{not-false, and-right, and5, all-at, none-at}
+use Rattle.paper.specs.Store.{Cell, cellsAt, cellAt, leafNo, cellNo, badPointer, anyBad, mostScenes, heights, keptCount, keptOf, leafSolid, overChildren, solidOf, countOf, headerOk, placeOk, cellUsable, listUsable, countsOk, chainsOk, listBlank, storeOk}
+use Rattle.laws.proofs.Tests.{not-false, and-left, and-right, and5, all-at, none-at}
 use Rattle.laws.proofs.Lists.{allIn-in}
 use Rattle.laws.proofs.Bits.{bit-lt}
 use Rattle.laws.proofs.Sums.{sum-same, sum-most}
@@ -95,5 +95,7 @@ counts-below ws u (suc k) hk t n h =
 pub counts-true : (ws : List ℕ) → T (storeOk ws) → (k n : ℕ) → k < heights → n < keptCount ws k → countOf ws k n ≡ solidOf (keptOf ws) k (cellAt (keptOf ws) k n)
 unfolding storeOk
 counts-true ws t k n hk h =
-    let s = and5 (headerOk ws) (allBelow mostScenes (placeOk ws)) (allBelow heights (listUsable (keptOf ws))) (allBelow heights (listBlank ws)) (allBelow heights (countsOk ws)) t in
+    let L : Bool = headerOk ws && allBelow mostScenes (placeOk ws) && allBelow heights (listUsable (keptOf ws)) && allBelow heights (listBlank ws) && allBelow heights (countsOk ws) in
+    let s = and5 (headerOk ws) (allBelow mostScenes (placeOk ws)) (allBelow heights (listUsable (keptOf ws))) (allBelow heights (listBlank ws)) (allBelow heights (countsOk ws))
+    (and-left L (chainsOk ws) t) in
     counts-below ws (s .2) k hk (λ j l. all-at heights (countsOk ws) (s .4) j (omega arith)) n h

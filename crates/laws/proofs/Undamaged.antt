@@ -13,17 +13,18 @@ use lib.ListN.{length, take, drop, getD, replicate, length-map, length-drop, tak
 use lib.Seq.{take-add, drop-drop, length-take-le, ext-getD, getD-take, getD-drop}
 use Rattle.paper.specs.Numbers.{tabulate, allBelow, allIn, flatten}
 use Rattle.paper.specs.Rooms.{depthOk}
-use Rattle.paper.specs.Store.{Cell, cellAt, twoWords, mostScenes, heights, used, capacityOf, scenesHeld, isHeld, keptCount, zerosPosition, firstScene, sceneWords, cellLength, stride, listPosition, cellPosition, countPosition, groups, keptIn, keptOf, storeOf, solidOf, countOf}
-use Rattle.paper.specs.Store.{padded, regionWords, rowOf, listRegions, headerRow, regions, wordsOf, blank, capacityOk, headerOk, sceneOk, isFree, placeOk, listUsable, countsOk, listBlank, storeOk}
+use Rattle.paper.specs.Store.{Cell, Store, cellAt, twoWords, mostScenes, heights, chains, used, firstHead, capacityOf, scenesHeld, isHeld, keptCount, zerosPosition, firstScene, sceneWords, cellLength, stride, listPosition, cellPosition, countPosition, groups, keptIn, keptOf, storeOf, solidOf, countOf}
+use Rattle.paper.specs.Store.{padded, regionWords, rowOf, listRegions, headerRow, regions, wordsOf, blank, capacityOk, headerOk, sceneOk, isFree, placeOk, listUsable, countsOk, chainsOk, listBlank, storeOk}
 use Rattle.paper.specs.Calls.{nextScene, noScene}
-use Rattle.laws.proofs.Tests.{T-true, true-T, and-right, and5, and5-T, all-at, all-T}
+use Rattle.laws.proofs.Tests.{T-true, true-T, and-left, and-right, and5, and5-T, all-at, all-T}
 use Rattle.laws.proofs.Lists.{map-at}
 use Rattle.laws.proofs.Kept.{groups-length, groups-at, cell-fits, keptIn-length, kept-list, kept-length, kept-cell, kept-tall, places-length}
 use Rattle.laws.proofs.Padded.{groups-sized, blank-zeros, padded-groups}
-use Rattle.laws.proofs.Regions.{regionAt, regionPlace, regions-length, regions-back}
+use Rattle.laws.proofs.Regions.{inRow, regionAt, regionPlace, regions-length, regions-back}
 use Rattle.laws.proofs.TrueCounts.{counts-below}
 use Rattle.laws.proofs.Rows.{Lists, lnil, lcons, list-in, words-fit, lists-place, lists-many, listOf, list-region}
-use Rattle.laws.proofs.Words.{Fine, store-fit, wordsOf-length}
+use Rattle.laws.proofs.Words.{Fine, countedBy, store-fit, length-by, wordsOf-length}
+use Rattle.laws.proofs.ChainWords.{chains-are}
 
 -- ---- what the tests say
 
@@ -67,19 +68,26 @@ pub record Undamaged (ws : List ℕ) : Type 0 where
   pub usable : (k : ℕ) → k < heights → T (listUsable (keptOf ws) k)
   pub list-zeros : (k : ℕ) → k < heights → T (listBlank ws k)
   pub counts : (k : ℕ) → k < heights → T (countsOk ws k)
+  pub chained : T (chainsOk ws)
 
 store-tests : (ws : List ℕ) → T (storeOk ws)
-    → T (headerOk ws) × T (allBelow mostScenes (placeOk ws)) × T (allBelow heights (listUsable (keptOf ws))) × T (allBelow heights (listBlank ws)) × T (allBelow heights (countsOk ws))
+    → (T (headerOk ws) × T (allBelow mostScenes (placeOk ws)) × T (allBelow heights (listUsable (keptOf ws))) × T (allBelow heights (listBlank ws)) × T (allBelow heights (countsOk ws)))
+    × T (chainsOk ws)
 unfolding storeOk
-store-tests ws = and5 (headerOk ws) (allBelow mostScenes (placeOk ws)) (allBelow heights (listUsable (keptOf ws))) (allBelow heights (listBlank ws)) (allBelow heights (countsOk ws))
+store-tests ws t =
+    let L : Bool = headerOk ws && allBelow mostScenes (placeOk ws) && allBelow heights (listUsable (keptOf ws)) && allBelow heights (listBlank ws) && allBelow heights (countsOk ws) in (
+      and5 (headerOk ws) (allBelow mostScenes (placeOk ws)) (allBelow heights (listUsable (keptOf ws))) (allBelow heights (listBlank ws)) (allBelow heights (countsOk ws))
+          (and-left L (chainsOk ws) t),
+      and-right L (chainsOk ws) t,
+    )
 
 -- an undamaged store has a good header
 pub store-header : (ws : List ℕ) → T (storeOk ws) → T (headerOk ws)
-store-header ws t = store-tests ws t .0
+store-header ws t = store-tests ws t .0 .0
 
 pub undamaged : (ws : List ℕ) → T (storeOk ws) → Undamaged ws
 undamaged ws t =
-    let s = store-tests ws t in
+    let s = store-tests ws t .0 in
     let h : FineHeader ws = fine-header ws (s .0) in
     record {
       long = h .long;
@@ -91,6 +99,7 @@ undamaged ws t =
       usable = all-at heights (listUsable (keptOf ws)) (s .2);
       list-zeros = all-at heights (listBlank ws) (s .3);
       counts = all-at heights (countsOk ws) (s .4);
+      chained = store-tests ws t .1;
     }
 
 pub undamaged-header : {ws : List ℕ} → Undamaged ws → FineHeader ws
@@ -265,10 +274,20 @@ module _ (ws : List ℕ) (u : Undamaged ws) where
         omega (arith, lists-place K C 0 K k (omega (arith, kept-tall ws)) ∙ ap (listPosition C) (zero-add k)) in
         rw (there, start) (list-back k hk)
 
+    -- and the chains' behind them
+    regions-front : inRow (regions (storeOf ws)) ≡ take (firstHead (capacityOf ws)) ws
+    unfolding storeOf countedBy
+    regions-front =
+        let s : Store = storeOf ws in
+        regions-back ws 0 (regions s) region-back
+        ∙ ap (λ (n : ℕ). take n ws) (sym (regions-length (store-fit (s .capacity) (s .held) (s .scenes) (s .kept) store-fine)) ∙ length-by (s .kept) (s .capacity) (s .held) (s .scenes) (s .kept) store-fine)
+
     pub words-front : wordsOf (storeOf ws) ≡ take (used (capacityOf ws)) ws
     unfolding wordsOf storeOf
     words-front =
-        regions-back ws 0 (regions (storeOf ws)) region-back ∙ ap (λ (n : ℕ). take n ws) (sym (regions-length (store-fit (storeOf ws .capacity) (storeOf ws .held) (storeOf ws .scenes) (storeOf ws .kept) store-fine)) ∙ words-long)
+        let n : ℕ = (chains + C) * heights in
+        let all : firstHead C + n ≡ used C = omega arith in
+        ap₂ (λ (a b : List ℕ). a ++ b) regions-front (sym (chains-are ws (u .long) (u .chained))) ∙ sym (take-add (firstHead C) n ws) ∙ ap (λ (m : ℕ). take m ws) all
 
     -- the words are those of the store that they hold, and the rest of the slice
     pub wordsOf-storeOf : wordsOf (storeOf ws) ++ drop (used (capacityOf ws)) ws ≡ ws

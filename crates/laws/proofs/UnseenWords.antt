@@ -10,10 +10,10 @@ use borrow.Author.Tests.{le-leb}
 use lib.Dec.{T, eqb, leb, ltb}
 use lib.ListN.{length, take, drop, getD, length-append, length-drop, List·getD-append}
 use lib.Seq.{take-append-le, drop-append-le, getD-drop}
-use Rattle.paper.specs.Numbers.{allBelow, allIn}
+use Rattle.paper.specs.Numbers.{allBelow, allIn, sameList}
 use Rattle.paper.specs.Rooms.{depthOk}
-use Rattle.paper.specs.Store.{Cell, cellsAt, cellAt, pairNo, leafNo, badPointer, mostScenes, heights, used, capacityOf, scenesHeld, isHeld, keptCount, zerosPosition, firstScene, sceneWords, scenePosition, cellLength, stride, firstList, listPosition, cellPosition, countPosition}
-use Rattle.paper.specs.Store.{groups, keptIn, keptOf, storeOf, leafSolid, overChildren, countOf, sceneDepth, sceneRoot, blank, capacityOk, headerOk, sceneOk, placeOk, listUsable, countsOk, listBlank, storeOk}
+use Rattle.paper.specs.Store.{Cell, cellsAt, cellAt, pairNo, leafNo, badPointer, mostScenes, heights, chains, used, firstHead, capacityOf, scenesHeld, isHeld, keptCount, zerosPosition, firstScene, sceneWords, scenePosition, cellLength, stride, firstList, listPosition, cellPosition, countPosition}
+use Rattle.paper.specs.Store.{groups, keptIn, keptOf, storeOf, leafSolid, overChildren, countOf, sceneDepth, sceneRoot, blank, capacityOk, headerOk, sceneOk, placeOk, listUsable, countsOk, chainWords, chainsOk, listBlank, storeOk}
 use Rattle.laws.proofs.Tests.{true-T, and-left, and-right, all-at, all-same}
 use Rattle.laws.proofs.Lists.{tabulate-same}
 use Rattle.laws.proofs.Kept.{cell-fits, kept-length}
@@ -165,17 +165,29 @@ module _ (f r : List ℕ) (whole : used (capacityOf f) ≤ length f) where
         (usable-sound K k n (all-at heights (listUsable K) u (suc k) l) (rw (kept-length f (suc k) l) h))
         (λ q hq. solid-unseen k q (omega arith) (subst (λ (m : ℕ). q < m) (kept-length f k (omega arith)) hq))))
 
+    chains-unseen : chainsOk (f ++ r) ≡ chainsOk f
+    unfolding chainsOk
+    chains-unseen =
+        let C : ℕ = capacityOf f in
+        let n : ℕ = (chains + C) * heights in
+        ap₂ sameList
+        (ap (λ (D : ℕ). take ((chains + D) * heights) (drop (firstHead D) (f ++ r))) capacity-unseen
+        ∙ ap (take n) (drop-append-le (firstHead C) f r (omega arith)) ∙ take-append-le n (drop (firstHead C) f) r (rw (length-drop (firstHead C) f) (omega arith)))
+        (ap₂ chainWords kept-unseen capacity-unseen)
+
     tests-unseen : storeOk (f ++ r) ≡ storeOk f
     unfolding storeOk
     tests-unseen =
         let U : Bool = allBelow heights (listUsable (keptOf f)) in
         let X : Bool = headerOk f && allBelow mostScenes (placeOk f) in
         let B : Bool = allBelow heights (listBlank f) in
-        ap (λ (b : Bool). b && allBelow heights (countsOk (f ++ r)))
+        ap₂ _&&_
+        (ap (λ (b : Bool). b && allBelow heights (countsOk (f ++ r)))
         (ap₂ _&&_ (ap₂ _&&_ (ap₂ _&&_ header-unseen (all-same mostScenes (placeOk (f ++ r)) (placeOk f) place-unseen)) (ap (λ (K : List (List Cell)). allBelow heights (listUsable K)) kept-unseen))
         (all-same heights (listBlank (f ++ r)) (listBlank f) list-blank-unseen))
         ∙ and-when (X && U && B) (allBelow heights (countsOk (f ++ r))) (allBelow heights (countsOk f))
-        (λ t. all-same heights (countsOk (f ++ r)) (countsOk f) (counts-unseen (and-right X U (and-left (X && U) B t))))
+        (λ t. all-same heights (countsOk (f ++ r)) (countsOk f) (counts-unseen (and-right X U (and-left (X && U) B t)))))
+        chains-unseen
 
   pub undamaged-unseen : storeOk (f ++ r) ≡ storeOk f
   undamaged-unseen = go (headerOk f) refl

@@ -1,19 +1,21 @@
 -- The words of a store: how many they are, that they give the store and the solid counts back, and that a cell or a scene more is its count and its row
--- stored at their places, the counts of the other cells staying. By the laws of regions, and induction on the lists. Assumes nothing.
+-- stored at their places, the counts of the other cells staying; the chains' words follow. By the laws of regions, and induction on the lists. Assumes
+-- nothing.
 use mathlib.Core.Path.{_≡_, refl, sym, _∙_, subst, ap, ap₂}
 use mathlib.Core.Bool.{true}
-use mathlib.Core.List.{List, [], _∷_, _++_, map}
+use mathlib.Core.List.{List, [], _∷_, _++_, map, append-assoc}
 use Prim.Native.Nat.{ℕ, zero, suc, _+_, _-_, _*_, _^_, _<_, _≤_}
 use native.Mathlib.Nat.{zero-add, mul-comm, mul-le-mul-left}
 use native.Mathlib.Omega.{arith}
-use lib.ListN.{length, take, drop, getD, set, length-map, length-set}
-use lib.Seq.{sets, ext-getD, drop-drop, getD-take, getD-drop, getD-append-add}
-use Rattle.paper.specs.Store.{Cell, Store, cellsAt, cellAt, twoWords, pairNo, leafNo, mostScenes, heights, used, capacityOf, scenesHeld, keptCount, zerosPosition, firstScene, sceneWords, scenePosition, cellLength, stride, firstList, listPosition, cellPosition, countPosition}
-use Rattle.paper.specs.Store.{groups, keptIn, keptOf, storeOf, leafSolid, solidOf, countOf, padded, Region, region, regionWords, rowOf, listRegions, headerRow, regions, wordsOf, blank}
+use lib.ListN.{length, take, drop, getD, set, length-map, length-set, length-append}
+use lib.Seq.{sets, ext-getD, drop-drop, getD-take, getD-drop, getD-append-add, drop-at}
+use Rattle.paper.specs.Store.{Cell, Store, cellsAt, cellAt, twoWords, pairNo, leafNo, mostScenes, heights, used, capacityOf, scenesHeld, keptCount, zerosPosition, firstScene, sceneWords, scenePosition, cellLength, stride, firstList, listPosition, cellPosition, countPosition, firstHead}
+use Rattle.paper.specs.Store.{groups, keptIn, keptOf, storeOf, leafSolid, solidOf, countOf, padded, Region, region, regionWords, rowOf, listRegions, headerRow, regions, chainWords, wordsOf, blank}
 use Rattle.laws.proofs.Put.{put, stored-before}
 use Rattle.laws.proofs.Padded.{Sized, snil, scons, sized-at, padded-length, padded-snoc, sized-set, padded-set, row-set, row-word, groups-padded, take-sized, padded-row, padded-blank}
 use Rattle.laws.proofs.Regions.{inRow, regionAt, Fit, fcons, regionPlace, regions-length, region-from, region-set}
-use Rattle.laws.proofs.Rows.{row-length, rows-sized, rows-cells, Lists, list-in, words-fit, lists-sized, lists-few, lists-snoc, lists-fit, lists-place, lists-many, listOf, list-region, list-set, lists-same}
+use Rattle.laws.proofs.Rows.{row-length, rows-sized, rows-cells, Lists, list-end, words-fit, lists-sized, lists-few, lists-snoc, lists-fit, lists-place, lists-many, listOf, list-region, list-set, lists-same}
+use Rattle.laws.proofs.ChainWords.{chains-long}
 use Rattle.laws.proofs.Lists.{length-snoc, map-at, map-append}
 use Rattle.laws.proofs.Kept.{cell-fits, kept-list, kept-tall}
 use Rattle.laws.proofs.Invariant.{OkCell, OkCells}
@@ -30,11 +32,11 @@ storeWith C N S Ks = record { capacity = C; held = N; scenes = S; kept = Ks }
 abbrev pub stored : ℕ → ℕ → List Cell → List (List Cell) → List ℕ → List ℕ
 stored C N S Ks l = wordsOf (storeWith C N S Ks) ++ l
 
--- its words, but with the counts that lists G give
+-- its words up to the chains, but with the counts that lists G give
 unfoldable pub countedBy : List (List Cell) → ℕ → ℕ → List Cell → List (List Cell) → List ℕ
 countedBy G C N S Ks = inRow (region firstScene (headerRow (storeWith C N S Ks) ∷ []) ∷ region (sceneWords * mostScenes) S ∷ listRegions G C 0 Ks)
 
-pub counted-own : (C N : ℕ) (S : List Cell) (Ks : List (List Cell)) → wordsOf (storeWith C N S Ks) ≡ countedBy Ks C N S Ks
+pub counted-own : (C N : ℕ) (S : List Cell) (Ks : List (List Cell)) → wordsOf (storeWith C N S Ks) ≡ countedBy Ks C N S Ks ++ chainWords Ks C
 unfolding wordsOf countedBy
 counted-own C N S Ks = refl
 
@@ -46,9 +48,12 @@ counted-same G G′ C N S Ks e =
     (lists-same G G′ C 0 Ks (λ m q h. subst (λ (i : ℕ). solidOf G i (cellAt Ks m q) ≡ solidOf G′ i (cellAt Ks m q)) (sym (zero-add m)) (e m q h)))
 
 -- lists that grow give the same counts of the cells kept before
-pub counted-grown : (C N : ℕ) (S : List Cell) {Ks G : List (List Cell)} → Extends Ks G → OkCells Ks → countedBy G C N S Ks ≡ wordsOf (storeWith C N S Ks)
-counted-grown C N S {Ks} {G} x ok =
-    counted-same G Ks C N S Ks (λ k q h. ext-solid x ok k (cellAt Ks k q) (ok k q h)) ∙ sym (counted-own C N S Ks)
+pub counted-grown : (C N : ℕ) (S : List Cell) {Ks G : List (List Cell)} → Extends Ks G → OkCells Ks → countedBy G C N S Ks ≡ countedBy Ks C N S Ks
+counted-grown C N S {Ks} {G} x ok = counted-same G Ks C N S Ks (λ k q h. ext-solid x ok k (cellAt Ks k q) (ok k q h))
+
+-- and l behind them, the chains first
+pub stored-own : (C N : ℕ) (S : List Cell) (Ks : List (List Cell)) (l : List ℕ) → stored C N S Ks l ≡ countedBy Ks C N S Ks ++ (chainWords Ks C ++ l)
+stored-own C N S Ks l = ap (λ (w : List ℕ). w ++ l) (counted-own C N S Ks) ∙ append-assoc (countedBy Ks C N S Ks) (chainWords Ks C) l
 
 -- a store that its words can hold
 pub record Fine (C N : ℕ) (S : List Cell) (Ks : List (List Cell)) : Type 0 where
@@ -109,8 +114,8 @@ module _ (G : List (List Cell)) (C N : ℕ) (S : List Cell) (Ks : List (List Cel
       let p : firstList + regionPlace L k ≡ listPosition C k = lists-place G C 0 Ks k (omega (arith, f .lists)) ∙ ap (listPosition C) (zero-add k) in
       omega (arith, p)
 
-  -- 'uses the first'
-  pub length-by : length (countedBy G C N S Ks) ≡ used C
+  -- up to the chains
+  pub length-by : length (countedBy G C N S Ks) ≡ firstHead C
   unfolding countedBy
   length-by =
       regions-length fit-by ∙ ap (λ (n : ℕ). regionPlace (H ∷ P ∷ L) (suc (suc n))) (lists-many G C 0 Ks ∙ f .lists) ∙ start-by heights (omega arith)
@@ -199,7 +204,8 @@ module _ (C N : ℕ) (S : List Cell) (Ks : List (List Cell)) (f : Fine C N S Ks)
 
   -- 'uses the first'
   pub wordsOf-length : length (wordsOf (storeWith C N S Ks)) ≡ used C
-  wordsOf-length = ap length (counted-own C N S Ks) ∙ length-by Ks C N S Ks f
+  wordsOf-length =
+      ap length (counted-own C N S Ks) ∙ length-append (countedBy Ks C N S Ks) (chainWords Ks C) ∙ omega (arith, length-by Ks C N S Ks f, chains-long Ks C)
 
   -- the cells of list k
   pub cells-sized : (k : ℕ) → k < heights → Sized (cellLength k) (getD Ks k [])
@@ -209,10 +215,10 @@ module _ (C N : ℕ) (S : List Cell) (Ks : List (List Cell)) (f : Fine C N S Ks)
   cells-few = lists-few (f .of-cells)
 
   -- a cell more in list k: its count, and its row behind those of the others, whose counts stay
-  pub keep-words : (k : ℕ) (c : Cell) → k < heights → OkCells Ks → OkCell Ks k c → length c ≡ cellLength k → length (getD Ks k []) < C
-      → wordsOf (storeWith C N S (set Ks k (getD Ks k [] ++ (c ∷ []))))
-      ≡ sets (set (wordsOf (storeWith C N S Ks)) (2 + k) (suc (length (getD Ks k [])))) (cellPosition C k (length (getD Ks k []))) (rowOf Ks k c)
-  keep-words k c h ok okc e l =
+  keep-rows : (k : ℕ) (c : Cell) → k < heights → OkCells Ks → OkCell Ks k c → length c ≡ cellLength k → length (getD Ks k []) < C
+      → countedBy (set Ks k (getD Ks k [] ++ (c ∷ []))) C N S (set Ks k (getD Ks k [] ++ (c ∷ [])))
+      ≡ sets (set (countedBy Ks C N S Ks) (2 + k) (suc (length (getD Ks k [])))) (cellPosition C k (length (getD Ks k []))) (rowOf Ks k c)
+  keep-rows k c h ok okc e l =
       let hk : k < length Ks = omega (arith, f .lists) in
       let K′ : List (List Cell) = K⁺ Ks k hk c in
       let x : Extends Ks K′ = keep-extends Ks k hk c in
@@ -225,12 +231,12 @@ module _ (C N : ℕ) (S : List Cell) (Ks : List (List Cell)) (f : Fine C N S Ks)
       let at : listPosition C k + length rows * stride k ≡ cellPosition C k n = ap (λ (j : ℕ). listPosition C k + j) (ap (λ (j : ℕ). j * stride k) m ∙ mul-comm n (stride k)) in
       let okeach : (j q : ℕ) → q < length (cellsAt K′ j) → OkCell Ks j (cellAt K′ j q) =
       keep-each Ks k hk c (λ j q. OkCell Ks j (cellAt K′ j q)) (λ j q hq. subst (OkCell Ks j) (sym (ext-cell x j q hq)) (ok j q hq)) (subst (OkCell Ks k) (sym (keep-cell Ks k hk c)) okc) in
-      counted-own C N S K′ ∙ counted-same K′ Ks C N S K′ (λ j q hq. ext-solid x ok j (cellAt K′ j q) (okeach j q hq))
+      counted-same K′ Ks C N S K′ (λ j q hq. ext-solid x ok j (cellAt K′ j q) (okeach j q hq))
       ∙ list-by Ks C N S Ks f k (cs ++ (c ∷ [])) (length rows * stride k) row h
       (ap (padded (stride k * C)) (map-append (rowOf Ks k) cs (c ∷ []))
       ∙ padded-snoc (stride k) (stride k * C) rows row (rows-sized Ks k (cells-sized k h)) (row-length Ks k c e) (rw m fit))
       (rw m (omega (arith, row-length Ks k c e)))
-      ∙ (λ i. sets (set (sym (counted-own C N S Ks) i) (2 + k) (length-snoc cs c i)) (at i) row)
+      ∙ (λ i. sets (set (countedBy Ks C N S Ks) (2 + k) (length-snoc cs c i)) (at i) row)
 
   pub keep-fine : (k : ℕ) (c : Cell) → length c ≡ cellLength k → length (getD Ks k []) < C → Fine C N S (set Ks k (getD Ks k [] ++ (c ∷ [])))
   keep-fine k c e l = record {
@@ -241,13 +247,6 @@ module _ (C N : ℕ) (S : List Cell) (Ks : List (List Cell)) (f : Fine C N S Ks)
     of-cells = lists-snoc (f .of-cells) k c (e ∙ ap cellLength (sym (zero-add k))) l;
   }
 
-  -- a scene more, at place i: the count of scenes, and its two words
-  pub scene-words : (i : ℕ) (c : Cell) → length c ≡ sceneWords → i < mostScenes
-      → wordsOf (storeWith C (suc N) (set S i c) Ks) ≡ sets (set (wordsOf (storeWith C N S Ks)) 1 (suc N)) (scenePosition i) c
-  scene-words i c e l =
-      counted-own C (suc N) (set S i c) Ks ∙ scene-by Ks C N S Ks f i c e l
-      ∙ ap (λ (w : List ℕ). sets (set w 1 (suc N)) (scenePosition i) c) (sym (counted-own C N S Ks))
-
   pub scene-fine : (i : ℕ) (c : Cell) → length c ≡ sceneWords → N < mostScenes → Fine C (suc N) (set S i c) Ks
   scene-fine i c e l = record {
     lists = f .lists;
@@ -257,21 +256,22 @@ module _ (C N : ℕ) (S : List Cell) (Ks : List (List Cell)) (f : Fine C N S Ks)
     of-cells = f .of-cells;
   }
 
-  -- the same with other words x behind
-  pub keep-words-before : (k : ℕ) (c : Cell) (x : List ℕ) → k < heights → OkCells Ks → OkCell Ks k c → length c ≡ cellLength k → length (getD Ks k []) < C
-      → wordsOf (storeWith C N S (set Ks k (getD Ks k [] ++ (c ∷ [])))) ++ x
-      ≡ put (cellPosition C k (length (getD Ks k []))) (rowOf Ks k c) (set (wordsOf (storeWith C N S Ks) ++ x) (2 + k) (suc (length (getD Ks k []))))
-  keep-words-before k c x h ok okc e l =
+  -- the same with other words x behind, and its link
+  pub keep-rows-before : (k : ℕ) (c : Cell) (x : List ℕ) → k < heights → OkCells Ks → OkCell Ks k c → length c ≡ cellLength k → length (getD Ks k []) < C
+      → countedBy (set Ks k (getD Ks k [] ++ (c ∷ []))) C N S (set Ks k (getD Ks k [] ++ (c ∷ []))) ++ x
+      ≡ put (cellPosition C k (length (getD Ks k []))) (rowOf Ks k c) (set (countedBy Ks C N S Ks ++ x) (2 + k) (suc (length (getD Ks k []))))
+  keep-rows-before k c x h ok okc e l =
       let n : ℕ = length (getD Ks k []) in
-      ap (λ (r : List ℕ). r ++ x) (keep-words k c h ok okc e l)
-      ∙ stored-before (wordsOf (storeWith C N S Ks)) x (rowOf Ks k c) (cellPosition C k n) (2 + k) (suc n)
-      (omega (arith, wordsOf-length)) (omega (arith, wordsOf-length, list-in C k h, mul-le-mul-left (stride k) l, row-length Ks k c e))
+      ap (λ (r : List ℕ). r ++ x) (keep-rows k c h ok okc e l)
+      ∙ stored-before (countedBy Ks C N S Ks) x (rowOf Ks k c) (cellPosition C k n) (2 + k) (suc n)
+      (omega (arith, length-by Ks C N S Ks f)) (omega (arith, length-by Ks C N S Ks f, list-end C k h, mul-le-mul-left (stride k) l, row-length Ks k c e))
 
   pub scene-words-before : (i : ℕ) (c : Cell) (x : List ℕ) → length c ≡ sceneWords → i < mostScenes
       → wordsOf (storeWith C (suc N) (set S i c) Ks) ++ x ≡ put (scenePosition i) c (set (wordsOf (storeWith C N S Ks) ++ x) 1 (suc N))
   scene-words-before i c x e l =
-      ap (λ (r : List ℕ). r ++ x) (scene-words i c e l)
-      ∙ stored-before (wordsOf (storeWith C N S Ks)) x c (scenePosition i) 1 (suc N) (omega (arith, wordsOf-length)) (omega (arith, wordsOf-length))
+      stored-own C (suc N) (set S i c) Ks x ∙ ap (λ (r : List ℕ). r ++ (chainWords Ks C ++ x)) (scene-by Ks C N S Ks f i c e l)
+      ∙ stored-before (countedBy Ks C N S Ks) (chainWords Ks C ++ x) c (scenePosition i) 1 (suc N) (omega (arith, length-by Ks C N S Ks f)) (omega (arith, length-by Ks C N S Ks f))
+      ∙ ap (λ (w : List ℕ). put (scenePosition i) c (set w 1 (suc N))) (sym (stored-own C N S Ks x))
 
   -- ---- read again, l being the words that follow
 
@@ -279,24 +279,33 @@ module _ (C N : ℕ) (S : List Cell) (Ks : List (List Cell)) (f : Fine C N S Ks)
     abbrev words : List ℕ
     words = stored C N S Ks l
 
-    own : words ≡ countedBy Ks C N S Ks ++ l
-    own = ap (λ (w : List ℕ). w ++ l) (counted-own C N S Ks)
+    -- the chains' words, and those that follow
+    abbrev behind : List ℕ
+    behind = chainWords Ks C ++ l
+
+    own : words ≡ countedBy Ks C N S Ks ++ behind
+    own = stored-own C N S Ks l
+
+    -- the chains' words stand behind the lists
+    pub chains-from : drop (firstHead C) (wordsOf (storeWith C N S Ks) ++ l) ≡ chainWords Ks C ++ l
+    chains-from =
+        ap (drop (firstHead C)) own ∙ drop-at (countedBy Ks C N S Ks) behind (firstHead C) (length-by Ks C N S Ks f)
 
     pub zeros-from : blank (wordsOf (storeWith C N S Ks) ++ l) zerosPosition (firstScene - zerosPosition) ≡ true
-    zeros-from = ap (λ (w : List ℕ). blank w zerosPosition (firstScene - zerosPosition)) own ∙ zeros-by Ks C N S Ks f l
+    zeros-from = ap (λ (w : List ℕ). blank w zerosPosition (firstScene - zerosPosition)) own ∙ zeros-by Ks C N S Ks f behind
 
     pub cells-from : (k : ℕ) → k < heights
-        → drop (listPosition C k) (wordsOf (storeWith C N S Ks) ++ l) ≡ padded (stride k * C) (map (rowOf Ks k) (getD Ks k [])) ++ (inRow (drop (suc k) (listRegions Ks C 0 Ks)) ++ l)
-    cells-from k h = ap (drop (listPosition C k)) own ∙ rows-by Ks C N S Ks f l k h
+        → drop (listPosition C k) (wordsOf (storeWith C N S Ks) ++ l) ≡ padded (stride k * C) (map (rowOf Ks k) (getD Ks k [])) ++ (inRow (drop (suc k) (listRegions Ks C 0 Ks)) ++ (chainWords Ks C ++ l))
+    cells-from k h = ap (drop (listPosition C k)) own ∙ rows-by Ks C N S Ks f behind k h
 
     pub capacity-read : capacityOf (wordsOf (storeWith C N S Ks) ++ l) ≡ C
-    capacity-read = ap capacityOf own ∙ capacity-by Ks C N S Ks f l
+    capacity-read = ap capacityOf own ∙ capacity-by Ks C N S Ks f behind
 
     pub scenes-read : scenesHeld (wordsOf (storeWith C N S Ks) ++ l) ≡ N
-    scenes-read = ap scenesHeld own ∙ scenes-by Ks C N S Ks f l
+    scenes-read = ap scenesHeld own ∙ scenes-by Ks C N S Ks f behind
 
     pub count-read : (k : ℕ) → k < heights → keptCount (wordsOf (storeWith C N S Ks) ++ l) k ≡ length (getD Ks k [])
-    count-read k h = ap (λ (w : List ℕ). keptCount w k) own ∙ count-by Ks C N S Ks f l k h
+    count-read k h = ap (λ (w : List ℕ). keptCount w k) own ∙ count-by Ks C N S Ks f behind k h
 
     list-read : (k : ℕ) → k < heights → keptIn words k ≡ getD Ks k []
     unfolding keptIn
@@ -305,7 +314,7 @@ module _ (C N : ℕ) (S : List Cell) (Ks : List (List Cell)) (f : Fine C N S Ks)
         let rows : List (List ℕ) = map (rowOf Ks k) cs in
         ap₂ (λ (n c : ℕ). groups (stride k) (cellLength k) n (drop (listPosition c k) words)) (count-read k h ∙ sym (length-map cs (rowOf Ks k))) capacity-read
         ∙ ap (groups (stride k) (cellLength k) (length rows)) (cells-from k h)
-        ∙ groups-padded (cellLength k) (stride k * C) (inRow (drop (suc k) (listRegions Ks C 0 Ks)) ++ l) (cell-fits k) (rows-sized Ks k (cells-sized k h))
+        ∙ groups-padded (cellLength k) (stride k * C) (inRow (drop (suc k) (listRegions Ks C 0 Ks)) ++ behind) (cell-fits k) (rows-sized Ks k (cells-sized k h))
         ∙ rows-cells Ks k (cells-sized k h)
 
     pub kept-read : keptOf (wordsOf (storeWith C N S Ks) ++ l) ≡ Ks
@@ -317,8 +326,8 @@ module _ (C N : ℕ) (S : List Cell) (Ks : List (List Cell)) (f : Fine C N S Ks)
 
     places-read : groups sceneWords sceneWords mostScenes (drop firstScene words) ≡ S
     places-read =
-        ap₂ (groups sceneWords sceneWords) (sym (f .all-scenes)) (ap (drop firstScene) own ∙ scenes-from Ks C N S Ks f l)
-        ∙ groups-padded sceneWords (sceneWords * mostScenes) (inRow (listRegions Ks C 0 Ks) ++ l) (omega arith) (f .of-scenes) ∙ take-sized (f .of-scenes)
+        ap₂ (groups sceneWords sceneWords) (sym (f .all-scenes)) (ap (drop firstScene) own ∙ scenes-from Ks C N S Ks f behind)
+        ∙ groups-padded sceneWords (sceneWords * mostScenes) (inRow (listRegions Ks C 0 Ks) ++ behind) (omega arith) (f .of-scenes) ∙ take-sized (f .of-scenes)
 
     -- the words give the store back, whatever follows them
     pub storeOf-wordsOf : storeOf (wordsOf (storeWith C N S Ks) ++ l) ≡ storeWith C N S Ks
@@ -330,7 +339,7 @@ module _ (C N : ℕ) (S : List Cell) (Ks : List (List Cell)) (f : Fine C N S Ks)
     row-from k n h hn =
         let cs : List Cell = cellsAt Ks k in
         ap (take (stride k)) (sym (drop-drop (stride k * n) (listPosition C k) words) ∙ ap (drop (stride k * n)) (cells-from k h))
-        ∙ padded-row (stride k * C) (inRow (drop (suc k) (listRegions Ks C 0 Ks)) ++ l) n (rows-sized Ks k (cells-sized k h)) (rw (length-map cs (rowOf Ks k)) hn)
+        ∙ padded-row (stride k * C) (inRow (drop (suc k) (listRegions Ks C 0 Ks)) ++ behind) n (rows-sized Ks k (cells-sized k h)) (rw (length-map cs (rowOf Ks k)) hn)
         ∙ map-at (rowOf Ks k) cs n [] [] hn
 
     count-word : (k n i : ℕ) → suc k < heights → n < length (cellsAt Ks (suc k)) → i < 2 → length (cellAt Ks (suc k) n) ≡ 8

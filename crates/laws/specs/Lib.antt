@@ -1,3 +1,5 @@
 -- Definitions that several crates' contracts cite.
 pub mod Symmetries
 pub mod Lines
+pub mod Chains
+pub mod InOrder

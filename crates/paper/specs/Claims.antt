@@ -1,23 +1,25 @@
--- The claims C1 to C15, the demands of documents 01 and 02, as types. This file states all and proves none; docs/READING.md says where each is proved.
+-- The claims C1 to C16, the demands of documents 01 and 02, as types. This file states all and proves none; docs/READING.md says where each is proved.
 -- A claim that speaks of a call speaks of its outcome function (Calls, Detail); the promise of the call ties the code to that function.
-use mathlib.Core.Bool.{true, false, cond}
+use mathlib.Core.Bool.{Bool, true, false, cond}
 use mathlib.Core.List.{List, [], _∷_}
-use mathlib.Core.Option.{some}
+use mathlib.Core.Option.{Option, some}
+use mathlib.Core.Option as O
 use mathlib.Core.Logic.{_↔_}
 use mathlib.Core.Path.{_≡_}
-use Prim.Native.Nat.{ℕ, zero, suc, _-_, _*_, _<_, _≤_, _^_}
+use Prim.Native.Nat.{ℕ, zero, suc, _+_, _-_, _*_, _<_, _≤_, _^_}
 use lib.Bits.{bitXor}
-use lib.Dec.{T, ltb}
+use lib.Dec.{T, eqb, ltb}
 use lib.Ieee.{Float, binary64, fits, le}
 use lib.Ieee.Exact.{HasValue}
 use lib.Ieee.Positive.{num, den}
 use lib.ListN.{length, take, drop, getD}
-use Rattle.paper.specs.Numbers.{allIn, bitFor, isIn}
+use Rattle.paper.specs.Numbers.{allIn, bitFor, isIn, tabulate}
 use Rattle.paper.specs.Rooms.{Point, point, Room, deepest, depthOk, Inside, cellOf, OneCell, cellAround, childRoom, mirror, mirrored, Same, Image, NonEmpty, boxCount, origin, far, isWhole, nonEmpty, emptyAt}
 use Rattle.paper.specs.Outline.{edge, IsOutline, outlineOf, fileDepth, fileRoom}
-use Rattle.paper.specs.Store.{Cell, leafNo, tagOf, cellNo, anyBad, capacityOf, isHeld, keptOf, cellsAt, cellAt, countOf, sceneDepth, storeOk}
+use Rattle.paper.specs.Store.{Cell, leafNo, tagUnit, tagOf, lowOf, cellNo, anyBad, heights, capacityOf, isHeld, keptCount, headPosition, nextPosition, keptOf, cellsAt, cellAt, countOf, leafSolid, chains, keyOf, chainOf, sceneDepth, storeOk}
 use Rattle.paper.specs.Meaning.{cellVoxel, rootRoom}
-use Rattle.paper.specs.Match.{matches}
+use Rattle.paper.specs.Leaf.{mirrorLeaf}
+use Rattle.paper.specs.Match.{matches, lowest, orFound, find}
 use Rattle.paper.specs.Packed.{rootTag, isEmpty, topOf, graphOf, proper, packedRoom, packedPath, startsOf}
 use Rattle.paper.specs.Pack.{layout, emptyFile, packedMost}
 use Rattle.paper.specs.Answers.{Outcome, told, outcome}
@@ -356,3 +358,59 @@ pub record C15 : Type 0 where
   pub any : (ws : List ℕ) → T (storeOk ws) → ((i : ℕ) → getD ws i 0 < 2 ^ 32) → Searches ws
   -- so on every store that only the calls wrote
   pub ours : (s : State) → Reached s → Searches (s .words)
+
+-- ---- C16, chains (document 02, request 10)
+
+-- a chain followed from a link (a number plus 1, or 0 at its end), at most n cells of it: the numbers of its cells, in its order
+unfoldable pub followed : List ℕ → ℕ → ℕ → ℕ → List ℕ
+followed ws k zero link = []
+followed ws k (suc n) zero = []
+followed ws k (suc n) (suc m) = m ∷ followed ws k n (getD ws (nextPosition (capacityOf ws) k m) 0)
+
+-- chain j of list k as the words have it; one cell more is asked for than are kept, so that a ring shows as a list too long
+abbrev pub chainRead : List ℕ → ℕ → ℕ → List ℕ
+chainRead ws k j = followed ws k (suc (keptCount ws k)) (getD ws (headPosition (capacityOf ws) k j) 0)
+
+-- the numbers, rising, of those of some cells of list k, counted from n, that are in chain j
+unfoldable pub numbersIn : ℕ → ℕ → ℕ → List Cell → List ℕ
+numbersIn k j n [] = []
+numbersIn k j n (c ∷ cs) = let r = numbersIn k j (suc n) cs in cond (eqb (chainOf k c) j) (n ∷ r) r
+
+-- the first of these numbers whose cell passes under some mirror, with the lowest such mirror
+unfoldable pub findAlong : (Cell → ℕ → Bool) → List Cell → List ℕ → Option ℕ
+findAlong p cs [] = O.none
+findAlong p cs (n ∷ ns) = let r = findAlong p cs ns in orFound (lowest 8 0 (p (getD cs n []))) n r
+
+-- a cell of pointers mirrored by t ('A mirrored cell'): each pointer in the place mirrored by t, its own mirror so changed
+abbrev pub turned : ℕ → ℕ → ℕ
+turned t p = cond (eqb p 0) 0 (bitXor (tagOf p) t * tagUnit + lowOf p)
+
+abbrev pub turnedCell : ℕ → Cell → Cell
+turnedCell t c = tabulate 0 8 (λ i. turned t (getD c (bitXor i t) 0))
+
+-- a cell whose chain can be followed for it: any leaf, or a cell without a bad pointer
+abbrev pub Seekable : List (List Cell) → ℕ → Cell → Type 0
+Seekable K zero c = Unit {0}
+Seekable K (suc k) c = anyBad (length (cellsAt K k)) c ≡ false
+
+pub record ChainsTrue (ws : List ℕ) : Type 0 where
+  -- a chain has exactly the kept cells that are in it by their key or their ones, numbers rising
+  pub each : (k j : ℕ) → k < heights → j < chains → chainRead ws k j ≡ numbersIn k j 0 (cellsAt (keptOf ws) k)
+  -- a number that isn't kept has no next word
+  pub spare : (k n : ℕ) → k < heights → keptCount ws k ≤ n → n < capacityOf ws → getD ws (nextPosition (capacityOf ws) k n) 0 ≡ 0
+  -- along the chain of a cell the same cell is found, with the same mirror, as among all that are kept
+  pub found : (k : ℕ) (c : Cell) → k < heights → Seekable (keptOf ws) k c
+      → findAlong (matches (keptOf ws) k c) (cellsAt (keptOf ws) k) (chainRead ws k (chainOf k c)) ≡ find (matches (keptOf ws) k c) (cellsAt (keptOf ws) k) 0
+
+pub record C16 : Type 0 where
+  -- every cell has a chain
+  pub some : (k : ℕ) (c : Cell) → chainOf k c < chains
+  -- no mirror changes the key of a cell, or the number of a leaf's ones
+  pub key : (t : ℕ) (c : Cell) → t < 8 → keyOf (turnedCell t c) ≡ keyOf c
+  pub ones : (t n : ℕ) → t < 8 → leafSolid (mirrorLeaf t n) ≡ leafSolid n
+  -- cells that match under some mirror have one chain
+  pub same : (K : List (List Cell)) (k : ℕ) (a b : Cell) (t : ℕ) → t < 8 → Seekable K k a → Seekable K k b → matches K k a b t ≡ true → chainOf k a ≡ chainOf k b
+  -- on every store that passes the whole store's test, whoever wrote it
+  pub any : (ws : List ℕ) → T (storeOk ws) → ChainsTrue ws
+  -- so on every store that only the calls wrote
+  pub ours : (s : State) → Reached s → ChainsTrue (s .words)

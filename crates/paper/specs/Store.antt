@@ -1,5 +1,5 @@
--- Document 01, 'The store': the cells and scenes that a store holds, the words that hold them, and when a store is damaged; document 02, request 1: the
--- solid counts among its words. Definitions only.
+-- Document 01, 'The store': the cells and scenes that a store holds, the words that hold them, and when a store is damaged; document 02, requests 1
+-- and 10: the solid counts among its words, and the chains behind them, which follow from the cells. Definitions only.
 -- Heights are counted from 2: list k has the cells of height k + 2, so list 0 has the leaves. A cell is its words: a leaf two, high first,
 -- any other eight pointers; its count is no part of it.
 use mathlib.Core.Bool.{Bool, true, cond, not, _&&_}
@@ -7,7 +7,7 @@ use mathlib.Core.List.{List, [], _∷_, _++_, map}
 use Prim.Native.Nat.{ℕ, zero, suc, _+_, _-_, _*_, _/_, _%_, _^_}
 use lib.Dec.{eqb, leb, ltb}
 use lib.ListN.{length, take, drop, getD, replicate}
-use Rattle.paper.specs.Numbers.{allBelow, anyBelow, allIn, flatten, tabulate, sum, bit}
+use Rattle.paper.specs.Numbers.{allBelow, anyBelow, allIn, flatten, tabulate, sum, bit, sameList}
 use Rattle.paper.specs.Rooms.{depthOk}
 
 abbrev pub Cell : Type 0
@@ -131,9 +131,26 @@ cellPosition C k n = listPosition C k + stride k * n
 abbrev pub countPosition : ℕ → ℕ → ℕ → ℕ
 countPosition C k n = cellPosition C k n + cellLength k
 
--- how many words a store of capacity C has ('uses the first'): up to where a list after the last would start
+-- after the lists the chains (document 02, request 10, 'After the old words'): where the head of chain j of list k is, all heads of a height together; then
+-- where the next word of cell n of list k is, C for each height
+abbrev pub chains : ℕ
+chains = 256
+
+abbrev pub firstHead : ℕ → ℕ
+firstHead C = listPosition C heights
+
+abbrev pub headPosition : ℕ → ℕ → ℕ → ℕ
+headPosition C k j = firstHead C + chains * k + j
+
+abbrev pub firstNext : ℕ → ℕ
+firstNext C = headPosition C heights 0
+
+abbrev pub nextPosition : ℕ → ℕ → ℕ → ℕ
+nextPosition C k n = firstNext C + C * k + n
+
+-- how many words a store of capacity C has ('uses the first'): up to where the next words of a list after the last would start
 abbrev pub used : ℕ → ℕ
-used C = listPosition C heights
+used C = nextPosition C heights 0
 
 -- ---- from words to cells
 
@@ -176,6 +193,32 @@ unfoldable pub countOf : List ℕ → ℕ → ℕ → ℕ
 countOf ws zero n = leafSolid (leafNo (cellAt (keptOf ws) 0 n))
 countOf ws (suc k) n = pairNo (drop (countPosition (capacityOf ws) (suc k) n) ws)
 
+-- ---- chains (document 02, request 10, 'by a key')
+
+-- an inner cell's key ('all sums kept modulo'): the cell numbers plus 1, each times `keyFactor`; an absent pointer adds nothing, and no tag counts
+abbrev pub keyFactor : ℕ
+keyFactor = 2654435761
+
+unfoldable pub keyOf : Cell → ℕ
+keyOf c = sum 8 (λ i. lowOf (getD c i 0) * keyFactor) % 2 ^ 32
+
+-- the chain of a cell of list k ('its top byte', 'its number of ones')
+abbrev pub chainOf : ℕ → Cell → ℕ
+chainOf zero c = leafSolid (leafNo c)
+chainOf (suc k) c = keyOf c / 2 ^ 24
+
+-- the first of some cells of list k, counted from n, that is in chain j: its number plus 1, or 0
+unfoldable pub firstIn : ℕ → ℕ → ℕ → List Cell → ℕ
+firstIn k j n [] = 0
+firstIn k j n (c ∷ cs) = let r = firstIn k j (suc n) cs in cond (eqb (chainOf k c) j) (suc n) r
+
+-- what a chain's head is, and what follows cell n in its chain ('numbers rising'): a cell number plus 1, or 0; after a number that isn't kept, 0
+abbrev pub headOf : List (List Cell) → ℕ → ℕ → ℕ
+headOf K k j = firstIn k j 0 (cellsAt K k)
+
+abbrev pub nextOf : List (List Cell) → ℕ → ℕ → ℕ
+nextOf K k n = firstIn k (chainOf k (cellAt K k n)) (suc n) (drop (suc n) (cellsAt K k))
+
 -- a scene's two words
 abbrev pub sceneDepth : List ℕ → ℕ → ℕ
 sceneDepth ws n = getD ws (scenePosition n) 0
@@ -217,8 +260,18 @@ headerRow s = s .capacity ∷ s .held ∷ map length (s .kept)
 abbrev pub regions : Store → List Region
 regions s = region firstScene (headerRow s ∷ []) ∷ region (sceneWords * mostScenes) (s .scenes) ∷ listRegions (s .kept) (s .capacity) 0 (s .kept)
 
+-- the heads ('by height then chain'), and the next words ('by height then number') of C for each height, that the cells determine
+abbrev pub headWords : List (List Cell) → List ℕ
+headWords K = tabulate 0 (chains * heights) (λ i. headOf K (i / chains) (i % chains))
+
+abbrev pub nextWords : List (List Cell) → ℕ → List ℕ
+nextWords K C = tabulate 0 (C * heights) (λ i. nextOf K (i / C) (i % C))
+
+unfoldable pub chainWords : List (List Cell) → ℕ → List ℕ
+chainWords K C = headWords K ++ nextWords K C
+
 unfoldable pub wordsOf : Store → List ℕ
-wordsOf s = flatten (map regionWords (regions s))
+wordsOf s = flatten (map regionWords (regions s)) ++ chainWords (s .kept) (s .capacity)
 
 -- a place that holds no scene, and a store with nothing in it
 abbrev pub freePlace : Cell
@@ -271,14 +324,18 @@ countsOk ws zero = true
 countsOk ws (suc k) =
     allBelow (keptCount ws (suc k)) (λ n. eqb (countOf ws (suc k) n) (overChildren (countOf ws k) (cellAt (keptOf ws) (suc k) n)))
 
+-- the chains are right ('wrong chain'): the heads and next words are those that the cells determine
+unfoldable pub chainsOk : List ℕ → Bool
+chainsOk ws = sameList (take ((chains + capacityOf ws) * heights) (drop (firstHead (capacityOf ws)) ws)) (chainWords (keptOf ws) (capacityOf ws))
+
 -- nothing stands past the cells kept in list k
 abbrev pub listBlank : List ℕ → ℕ → Bool
 listBlank ws k =
     blank ws (cellPosition (capacityOf ws) k (keptCount ws k)) (stride k * (capacityOf ws - keptCount ws k))
 
--- the whole store is not damaged ('for the whole store'): its header, every place of a scene, every kept cell, nothing where nothing is kept, and every
--- count
+-- the whole store is not damaged ('for the whole store'): its header, every place of a scene, every kept cell, nothing where nothing is kept, every
+-- count, and every chain
 unfoldable pub storeOk : List ℕ → Bool
 storeOk ws =
     headerOk ws && allBelow mostScenes (placeOk ws) && allBelow heights (listUsable (keptOf ws))
-    && allBelow heights (listBlank ws) && allBelow heights (countsOk ws)
+    && allBelow heights (listBlank ws) && allBelow heights (countsOk ws) && chainsOk ws

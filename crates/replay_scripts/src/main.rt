@@ -34,6 +34,7 @@ fn main() {
     play(b"sight.script");
     play(b"counts.script");
     play(b"any.script");
+    play(b"chains.script");
     play(b"questions.script");
     play(b"adding.script");
     play(b"packing.script");

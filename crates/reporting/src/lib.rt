@@ -13,7 +13,7 @@ pub const MOST_INPUT: usize = 8192;
 // The store's capacity, and its words: 160 + 142 C. Scratch of packing: 60 C words. The output of packing.
 const CAPACITY: u32 = 32;
 
-const STORE_WORDS: usize = 4704;
+const STORE_WORDS: usize = 9024;
 
 const SCRATCH_WORDS: usize = 1920;
 

@@ -1,5 +1,5 @@
 -- Every claim of the paper, in order, each by the law that proves it. Assumes nothing.
-use Rattle.paper.specs.Claims.{C1, C2, C3, C4, C5, C6, C7, C8, C9, C10, C11, C12, C13, C14, C15}
+use Rattle.paper.specs.Claims.{C1, C2, C3, C4, C5, C6, C7, C8, C9, C10, C11, C12, C13, C14, C15, C16}
 use Rattle.paper.proofs.Samples as Samples
 use Rattle.laws.proofs.MirrorClaim as MirrorClaim
 use Rattle.laws.proofs.OutlineClaim as OutlineClaim
@@ -12,6 +12,7 @@ use Rattle.laws.proofs.WalkClaim as WalkClaim
 use Rattle.laws.proofs.SightClaim as SightClaim
 use Rattle.laws.proofs.CountClaim as CountClaim
 use Rattle.laws.proofs.AnyClaim as AnyClaim
+use Rattle.laws.proofs.ChainClaim as ChainClaim
 use Rattle.detail.proofs.Claims as DetailClaim
 
 -- mirror laws
@@ -73,3 +74,7 @@ claim14 = CountClaim.claim14
 -- anything in the way
 pub claim15 : C15
 claim15 = AnyClaim.claim15
+
+-- chains
+pub claim16 : C16
+claim16 = ChainClaim.claim16

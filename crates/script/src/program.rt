@@ -11,14 +11,14 @@ pub fn run(fd: i32) {
     start(&script[..size]);
 }
 
-// Plays a script from its start: 131,072 words each of store and of scratch, 65,536 bytes each for the current packed file and
+// Plays a script from its start: 262,144 words of store and 131,072 of scratch, 65,536 bytes each for the current packed file and
 // for output, which is also the scratch of a check.
 pub fn start(script: &[u8]) {
     if script.len() > LONGEST {
         io::write_all(1, b"stop\n");
         return;
     }
-    let mut store = [0u32; 131072];
+    let mut store = [0u32; 262144];
     let mut file = [0u8; 65536];
     let mut out = [0u8; 65536];
     let mut scratch = [0u32; 131072];

@@ -5,6 +5,7 @@ ghost use Prim.Native.Nat.{_+_, _≤_, _<_};
 ghost use lib.Dec.{T};
 ghost use lib.ListN.{length, take, drop};
 ghost use Rattle.paper.specs.Store.{mostCapacity, heights, keptCount, cellPosition, keptOf, cellAt, leafNo, pairNo, countOf, headerOk};
+ghost use Rattle.laws.specs.Chains.{exchanged};
 use crate::header::FIRST_LIST;
 use crate::header::capacity;
 use leaf::leaf_solid;
@@ -56,6 +57,18 @@ pub fn leaf_at(store: &[u32], n: u32) -> u64
     ensures { λ r. ⌜ r ≡ leafNo (cellAt (keptOf (now (store .entry))) 0 n) ⌝ }
 {
     pair(store, cell_position(capacity(store), 0, n))
+}
+
+// Leaf n as its two words stand, read with the first one low: one load where memory is so ordered. For comparing.
+pub fn leaf_exchanged_at(store: &[u32], n: u32) -> u64
+    requires { ⌜ T (headerOk (now store)) ⌝ }
+    requires { ⌜ n < keptCount (now store) 0 ⌝ }
+    ensures { λ r. ⌜ r ≡ exchanged (leafNo (cellAt (keptOf (now (store .entry))) 0 n)) ⌝ }
+{
+    let at = cell_position(capacity(store), 0, n);
+    let first = wider(store[at]);
+    let second = wider(store[at + 1]);
+    second * HIGH_WORD + first
 }
 
 // Eight words from `at` on, as one value.

@@ -21,8 +21,15 @@ pub const HEIGHTS: u32 = 15;
 // The first list's place: the words before it are there at any capacity.
 pub const FIRST_LIST: usize = 160;
 
-// The words of all lists for each unit of capacity: 2 and 14 times 10.
-const WORDS_PER_UNIT: usize = 142;
+// The words of all lists for each unit of capacity: 2 and 14 times 10; with the next words, 15 more.
+pub const LISTS_PER_UNIT: usize = 142;
+
+const WORDS_PER_UNIT: usize = 157;
+
+// The chains of each height, and the heads of all.
+pub const CHAINS: usize = 256;
+
+const HEADS: usize = 3840;
 
 // The place of list 0's count; the counts of the other lists follow.
 pub const FIRST_COUNT: u32 = 2;
@@ -37,7 +44,7 @@ pub fn used_words(capacity: u32) -> usize
     requires { ⌜ capacity ≤ mostCapacity ⌝ }
     ensures { λ r. ⌜ r ≡ used capacity ⌝ }
 {
-    FIRST_LIST + WORDS_PER_UNIT * (capacity as usize)
+    FIRST_LIST + HEADS + WORDS_PER_UNIT * (capacity as usize)
 }
 
 // Whether a capacity is out of range, or so many words are too few for it.

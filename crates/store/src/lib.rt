@@ -1,6 +1,7 @@
 // The lent words of a store, by named places: only this crate, `add_keep`, which writes them, and new store, which sets word 0, know a
 // word's position. Heights are counted from 2, as in `paper`: list k has the cells of height k + 2, so list 0 has the leaves.
 mod cells; // one kept cell, read
+mod chains; // heads and next words
 mod header; // words 0 to 31
 mod scenes; // the words of the scenes
 mod zeros; // words made zero
@@ -12,6 +13,13 @@ pub use cells::cell_at;
 pub use cells::cell_position;
 pub use cells::count_at;
 pub use cells::leaf_at;
+pub use cells::leaf_exchanged_at;
+pub use chains::chain_at;
+pub use chains::head_at;
+pub use chains::head_position;
+pub use chains::next_at;
+pub use chains::next_position;
+pub use header::CHAINS;
 pub use header::FIRST_COUNT;
 pub use header::HEIGHTS;
 pub use header::MOST_SCENES;

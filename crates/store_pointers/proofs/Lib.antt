@@ -1,3 +1,4 @@
--- Laws that belong to no one function: a cell's test, mirrored cells.
+-- Laws that belong to no one function: a cell's test, mirrored pointers, a key added up.
 pub mod Usable
-pub mod MirroredCells
+pub mod Turned
+pub mod KeySums

@@ -1,9 +1,11 @@
 // Pointers, and the eight of a cell, as values: nothing here reads a store's words.
-mod mirrors; // a pointer and a cell, mirrored
+mod keys; // a cell's key, and its chain
+mod mirrors; // a cell mirrored, pointer by pointer
 mod pointers; // one pointer, and the eight of a cell
 
-pub use mirrors::mirrored;
-pub use mirrors::mirrored_pointer;
+pub use keys::cell_chain;
+pub use keys::cell_key;
+pub use mirrors::mirrored_at;
 pub use pointers::all_absent;
 pub use pointers::any_bad;
 pub use pointers::bad_pointer;

@@ -1,47 +1,25 @@
-// Mirroring: a pointer's tag is changed by exclusive or; of a cell the pointers change places, too.
+// Mirroring a cell as one value: its pointers change places, and the tag of each is changed by exclusive or. A mirrored cell is read pointer by pointer, so that a
+// comparison makes no more of it than it looks at.
 ghost use mathlib.Core.Path.{_≡_};
 ghost use Prim.Native.Nat.{_<_};
 ghost use lib.Bits.{bitXor};
 ghost use lib.ListN.{getD};
-ghost use Rattle.store_pointers.specs.Mirrored.{mirroredPointer, mirroredCell};
-use crate::pointers::cell_number;
-use crate::pointers::pointer;
-use crate::pointers::tag;
+ghost use Rattle.paper.specs.Claims.{turned};
+use crate::pointers::TAG_STEP;
 
-// A pointer mirrored once more, by its mirror and its number: none stays none, and a tag with no number is read as number 0,
-// as the match rule reads it.
-pub fn mirrored_pointer(p: u32, mirror: u32) -> u32
+// A pointer mirrored once more: none stays none.
+fn mirrored_pointer(p: u32, mirror: u32) -> u32
     requires { ⌜ mirror < 8 ⌝ }
-    ensures { λ r. ⌜ r ≡ mirroredPointer mirror p ⌝ }
+    ensures { λ r. ⌜ r ≡ turned mirror p ⌝ }
 {
-    if p == 0 {
-        return 0;
-    }
-    pointer(tag(p) ^ mirror, cell_number(p))
+    if p == 0 { 0 } else { p ^ (mirror * TAG_STEP) }
 }
 
 // Pointer i of a cell so mirrored.
-fn mirrored_at(cell: [u32; 8], mirror: u32, i: u32) -> u32
+pub fn mirrored_at(cell: [u32; 8], mirror: u32, i: u32) -> u32
     requires { ⌜ (mirror < 8) × (i < 8) ⌝ }
-    ensures { λ r. ⌜ r ≡ mirroredPointer mirror (getD cell (bitXor i mirror) 0) ⌝ }
+    ensures { λ r. ⌜ r ≡ turned mirror (getD cell (bitXor i mirror) 0) ⌝ }
 {
     let from = (i ^ mirror) as usize;
     mirrored_pointer(cell[from], mirror)
-}
-
-// A cell so mirrored.
-pub fn mirrored(cell: [u32; 8], mirror: u32) -> [u32; 8]
-    requires { ⌜ mirror < 8 ⌝ }
-    ensures { λ r. ⌜ r ≡ mirroredCell mirror cell ⌝ }
-{
-    [
-        mirrored_at(cell, mirror, 0),
-        mirrored_at(cell, mirror, 1),
-        mirrored_at(cell, mirror, 2),
-        mirrored_at(cell, mirror, 3),
-        mirrored_at(cell, mirror, 4),
-        mirrored_at(cell, mirror, 5),
-        mirrored_at(cell, mirror, 6),
-        mirrored_at(cell, mirror, 7),
-    ]
 }

@@ -10,7 +10,7 @@ use lib.ListN.{length, drop, getD, drop-of-length-le}
 use lib.Seq.{drop-cons}
 use borrow.Author.Tests.{lt-ltb, le-ltb}
 use Rattle.paper.specs.Numbers.{allBelow, allIn}
-use Rattle.paper.specs.Store.{Cell, cellsAt, leafNo, mostScenes, heights, isHeld, keptOf, headerOk, sceneOk, isFree, placeOk, leafUsable, cellUsable, listUsable, countsOk, listBlank, storeOk}
+use Rattle.paper.specs.Store.{Cell, cellsAt, leafNo, mostScenes, heights, isHeld, keptOf, headerOk, sceneOk, isFree, placeOk, leafUsable, cellUsable, listUsable, countsOk, chainsOk, listBlank, storeOk}
 
 -- ---- a leaf
 
@@ -76,21 +76,35 @@ module _ (ws : List ℕ) where
   abbrev spare : Bool
   spare = allBelow heights (listBlank ws)
 
-  abbrev parts : Bool → Bool → Bool → Bool → Bool
-  parts h s u b = h && s && u && b && allBelow heights (countsOk ws)
+  abbrev counted : Bool
+  counted = allBelow heights (countsOk ws)
 
-  in-parts : storeOk ws ≡ parts (headerOk ws) scenes usable spare
+  abbrev parts : Bool → Bool → Bool → Bool → Bool → Bool
+  parts h s u b n = h && s && u && b && n && chainsOk ws
+
+  in-parts : storeOk ws ≡ parts (headerOk ws) scenes usable spare counted
   unfolding storeOk
   in-parts = refl
 
   pub store-scenes : headerOk ws ≡ true → scenes ≡ false → storeOk ws ≡ false
-  store-scenes e f = in-parts ∙ ap₂ (λ (h s : Bool). parts h s usable spare) e f
+  store-scenes e f = in-parts ∙ ap₂ (λ (h s : Bool). parts h s usable spare counted) e f
 
-  pub store-unusable : headerOk ws ≡ true → scenes ≡ true → usable ≡ false → storeOk ws ≡ false
-  store-unusable e f u = in-parts ∙ ap₂ (λ (h s : Bool). parts h s usable spare) e f ∙ ap (λ (v : Bool). parts true true v spare) u
+  module _ (e : headerOk ws ≡ true) (f : scenes ≡ true) where
+    in-order : storeOk ws ≡ parts true true usable spare counted
+    in-order = in-parts ∙ ap₂ (λ (h s : Bool). parts h s usable spare counted) e f
 
-  pub store-unblank : headerOk ws ≡ true → scenes ≡ true → usable ≡ true → spare ≡ false → storeOk ws ≡ false
-  store-unblank e f u b = in-parts ∙ ap₂ (λ (h s : Bool). parts h s usable spare) e f ∙ ap₂ (λ (v w : Bool). parts true true v w) u b
+    pub store-unusable : usable ≡ false → storeOk ws ≡ false
+    store-unusable u = in-order ∙ ap (λ (v : Bool). parts true true v spare counted) u
 
-  pub store-rest : headerOk ws ≡ true → scenes ≡ true → usable ≡ true → spare ≡ true → storeOk ws ≡ allBelow heights (countsOk ws)
-  store-rest e f u b = in-parts ∙ ap₂ (λ (h s : Bool). parts h s usable spare) e f ∙ ap₂ (λ (v w : Bool). parts true true v w) u b
+    pub store-unblank : usable ≡ true → spare ≡ false → storeOk ws ≡ false
+    store-unblank u b = in-order ∙ ap₂ (λ (v w : Bool). parts true true v w counted) u b
+
+    module _ (u : usable ≡ true) (b : spare ≡ true) where
+      in-lists : storeOk ws ≡ parts true true true true counted
+      in-lists = in-order ∙ ap₂ (λ (v w : Bool). parts true true v w counted) u b
+
+      pub store-miscounted : counted ≡ false → storeOk ws ≡ false
+      store-miscounted n = in-lists ∙ ap (λ (v : Bool). parts true true true true v) n
+
+      pub store-rest : counted ≡ true → storeOk ws ≡ chainsOk ws
+      store-rest n = in-lists ∙ ap (λ (v : Bool). parts true true true true v) n

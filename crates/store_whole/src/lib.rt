@@ -1,22 +1,29 @@
-// The whole store's tests: every place of a scene, every cell kept, the unused words, and every count.
+// The whole store's tests: every place of a scene, every cell kept, the unused words, every count, and every chain.
 ghost use mathlib.Core.Path.{_≡_};
 ghost use mathlib.Core.Bool.{false, not};
 ghost use Prim.Native.Nat.{_≤_, _<_};
 ghost use lib.Dec.{T};
 ghost use Rattle.paper.specs.Numbers.{allBelow};
-ghost use Rattle.paper.specs.Store.{mostScenes, heights, keptCount, keptOf, badPointer, anyBad, overChildren, countOf, headerOk, placeOk, listUsable, countsOk, listBlank, storeOk};
+ghost use Rattle.paper.specs.Store.{mostScenes, heights, keptCount, keptOf, badPointer, anyBad, overChildren, countOf, headerOk, placeOk, listUsable, chains, chainsOk, countsOk, listBlank, storeOk};
+ghost use Rattle.laws.specs.Chains.{ListRight};
 ghost use Rattle.store_whole.specs.Counts.{shareOf, Bounded, Countable};
+ghost use Rattle.store_whole.specs.Following.{Followed};
 use store::CELL_STRIDE;
+use store::CHAINS;
 use store::HEIGHTS;
 use store::LEAF_STRIDE;
 use store::MOST_SCENES;
 use store::capacity;
 use store::cell_at;
 use store::cell_position;
+use store::chain_at;
 use store::count_at;
+use store::head_at;
 use store::header_bad;
 use store::kept_count;
 use store::leaf_at;
+use store::next_at;
+use store::next_position;
 use store::not_blank;
 use store::not_held;
 use store::scene_bad;
@@ -192,7 +199,74 @@ fn miscounted(store: &[u32]) -> bool
     false
 }
 
-// Whether the store is damaged anywhere: header, scenes, cells, unused words, counts.
+// How many cells chain j of list k has, followed from its head, each of them in it and the numbers rising; or more than are kept, where it is wrong.
+fn chain_length(store: &[u32], k: u32, j: u32) -> u32
+    requires { ⌜ T (headerOk (now store)) ⌝ }
+    requires { ⌜ (k < heights) × (j < chains) ⌝ }
+    ensures { λ r. ⌜ Followed (now (store .entry)) k j r ⌝ }
+{
+    let count = kept_count(store, k);
+    let mut last = 0u32;
+    let mut length = 0u32;
+    let mut n = head_at(store, k, j);
+    while n != 0 {
+        if n <= last {
+            return count + 1;
+        }
+        if count < n {
+            return count + 1;
+        }
+        if chain_at(store, k, n - 1) != j {
+            return count + 1;
+        }
+        length += 1;
+        last = n;
+        n = next_at(store, k, n - 1);
+    }
+    length
+}
+
+// Whether the chains of list k are wrong: one is, or together they don't have all cells kept, or a number that isn't kept has a next word. A chain that is
+// followed rightly has no more cells than its key has, so all are right where together they have all cells.
+fn list_unchained(store: &[u32], k: u32) -> bool
+    requires { ⌜ T (headerOk (now store)) ⌝ }
+    requires { ⌜ k < heights ⌝ }
+    ensures { λ r. ⌜ (r ≡ false → ListRight (now (store .entry)) k) × (ListRight (now (store .entry)) k → r ≡ false) ⌝ }
+{
+    let count = kept_count(store, k);
+    let mut all = 0u32;
+    let mut j = 0u32;
+    while j < CHAINS as u32 {
+        let length = chain_length(store, k, j);
+        if count < length {
+            return true;
+        }
+        all += length;
+        j += 1;
+    }
+    if all != count {
+        return true;
+    }
+    let c = capacity(store);
+    not_blank(store, next_position(c, k, count), (c - count) as usize)
+}
+
+// Whether a chain is wrong.
+fn unchained(store: &[u32]) -> bool
+    requires { ⌜ T (headerOk (now store)) ⌝ }
+    ensures { λ r. ⌜ r ≡ not (chainsOk (now (store .entry))) ⌝ }
+{
+    let mut k = 0u32;
+    while k < HEIGHTS {
+        if list_unchained(store, k) {
+            return true;
+        }
+        k += 1;
+    }
+    false
+}
+
+// Whether the store is damaged anywhere: header, scenes, cells, unused words, counts, chains.
 pub fn store_bad(store: &[u32]) -> bool
     ensures { λ r. ⌜ r ≡ not (storeOk (now (store .entry))) ⌝ }
 {
@@ -208,5 +282,8 @@ pub fn store_bad(store: &[u32]) -> bool
     if lists_not_blank(store) {
         return true;
     }
-    miscounted(store)
+    if miscounted(store) {
+        return true;
+    }
+    unchained(store)
 }

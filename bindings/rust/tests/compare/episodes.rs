@@ -124,8 +124,12 @@ impl Compare {
             for _ in 0..self.random.pick(&[0, 1, 1, 1, 2, 3]) {
                 stores::damage(&mut self.random, &mut words);
             }
+            // damage that chains tell of, or that they don't
+            if self.random.once_in(2) {
+                stores::chain_up(&mut words);
+            }
             if self.random.once_in(10) {
-                let length = self.random.pick(&[0, 1, 31, 32, 159, 160, stores::used(capacity) - 1]);
+                let length = self.random.pick(&[0, 1, 31, 32, 159, 160, stores::lists(capacity), stores::used(capacity) - 1]);
                 words.truncate(length);
             }
             let mut one = self.lend_words(&words);
@@ -329,6 +333,40 @@ impl Compare {
         }
     }
 
+    /// Stores with long chains, written by the calls and by hand: rooms added along them, then a chain or two made wrong. Add, outline and
+    /// pack refuse, questions answer as before.
+    fn chains(&mut self) {
+        let capacity = self.random.pick(&[4, 9, 20, 60]);
+        let mut store = self.fresh(capacity);
+        if self.random.once_in(2) {
+            let made = stores::long_chains(&mut self.random, capacity);
+            store = self.lend_words(&made);
+        }
+        let leaves = self.random.pick(&[3, 10, 25]);
+        for _ in 0..4 {
+            let file = room(&mut self.random, leaves).outline();
+            self.add(&mut store, &file);
+            let scene = self.some_scene(&store);
+            if let Some(file) = self.outline(&store, scene, 3_000) {
+                self.add(&mut store, &file);
+            }
+        }
+        self.ask_pack(&store);
+        let file = room(&mut self.random, 2).outline();
+        for _ in 0..12 {
+            let mut words = store.slice().to_vec();
+            for _ in 0..self.random.pick(&[1, 1, 1, 2]) {
+                stores::wrong_chain(&mut self.random, &mut words);
+            }
+            let mut one = self.lend_words(&words);
+            self.ask_store(&one, 1);
+            self.ask_kept(&one);
+            self.ask_outline(&one);
+            self.ask_pack(&one);
+            self.add(&mut one, &file);
+        }
+    }
+
     /// Boxes asked for anything in rooms in which a pointer or two are bad and counts are wrong: before the answer, behind it, beside the box.
     fn ways(&mut self) {
         let mut store = self.fresh(70);
@@ -432,12 +470,13 @@ impl Compare {
         for _ in 0..40 {
             let capacity = self.random.from_to(1, 12);
             let length = match self.random.below(4) {
-                0 => stores::used(capacity) - 1,
-                1 => self.random.below(400),
+                0 => self.random.pick(&[stores::lists(capacity), stores::used(capacity) - 1, stores::used(capacity) - 1]),
+                1 => self.random.below(4_400),
                 _ => stores::used(capacity) + self.random.below(3),
             };
             let asked = match self.random.below(6) {
-                0 => self.random.pick(&[0, 65_536, 65_537, 1 << 31, u32::MAX, 30_246_249, 1 << 26]),
+                // for the last but one the words are 4,221 modulo 2^32
+                0 => self.random.pick(&[0, 65_536, 65_537, 1 << 31, u32::MAX, 27_356_481, 1 << 26]),
                 _ => capacity as u32,
             };
             let mut store = self.noise_words(length);
@@ -481,7 +520,8 @@ impl Compare {
             _ if episode % 300 == 1 => self.far(),
             _ if episode % 300 == 2 => self.long_lines(),
             _ => match self.random.below(40) {
-                0..=8 => self.rooms(),
+                0..=7 => self.rooms(),
+                8 => self.chains(),
                 9 => self.ways(),
                 10..=11 => self.many(),
                 12..=14 => self.outlines(),

@@ -4,7 +4,8 @@ use crate::calls::Calls;
 use std::fmt::Write;
 
 const MOST_SCRIPT: usize = 262_144;
-const MOST_WORDS: u32 = 131_072;
+const MOST_STORE: u32 = 262_144;
+const MOST_SCRATCH: u32 = 131_072;
 const MOST_BYTES: u32 = 65_536;
 
 /// What lent memory holds before a call.
@@ -73,7 +74,7 @@ fn commands(script: &mut Script, calls: &mut impl Calls, out: &mut String) -> Op
         let (mut value, mut records, mut height, mut count) = (u32::MAX, u32::MAX, u32::MAX, u64::MAX);
         match script.byte()? {
             b'N' => {
-                let (capacity, words) = (script.word()?, script.up_to(MOST_WORDS)?);
+                let (capacity, words) = (script.word()?, script.up_to(MOST_STORE)?);
                 store = filled_words(words);
                 let number = calls.new_store(&mut store, capacity);
                 writeln!(out, "new {number} store {}", sum_words(&store)).unwrap();
@@ -117,7 +118,7 @@ fn commands(script: &mut Script, calls: &mut impl Calls, out: &mut String) -> Op
             }
             b'P' => {
                 let scene = script.word()?;
-                let mut scratch = filled_words(script.up_to(MOST_WORDS)?);
+                let mut scratch = filled_words(script.up_to(MOST_SCRATCH)?);
                 let mut room = filled_bytes(script.up_to(MOST_BYTES)?);
                 let number = calls.pack(&store, scene, &mut scratch, &mut room, &mut value);
                 if number == 0 {

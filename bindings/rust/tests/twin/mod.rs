@@ -1,6 +1,7 @@
 //! Document 01 written once more, in plain Rust, slow and clear: its thirteen calls on slices, with what document 02 adds to them
 //! (its request 2: the height of the empty cell; its request 3: sight lines; its request 1: the solid count kept with each inner
-//! cell; its request 5: is anything in the way). It shares no code with the proved store; the tests compare the two.
+//! cell; its request 5: is anything in the way; its request 10: chains, by which equal cells are found). It shares no code with the
+//! proved store; the tests compare the two.
 //!
 //! A call answers its values, or a refusal: its number and which clause of document 01 it was. Lent memory is changed as the
 //! page says. Where the page's words would take for ever (does a cell match itself; has a cell anything in a box), what was found once is
@@ -91,8 +92,14 @@ fn corner(half: u64, i: usize) -> Point {
 
 // ---- the store
 
-fn used(c: u64) -> u64 {
+/// The words of header, scenes, leaves and cells.
+fn lists(c: u64) -> u64 {
     160 + 142 * c
+}
+
+/// All words: behind the lists the heads of 256 chains for each height, and a next word for each cell.
+fn used(c: u64) -> u64 {
+    lists(c) + 3_840 + 15 * c
 }
 
 fn tag(p: u32) -> u32 {
@@ -160,6 +167,79 @@ fn shares(w: &Words, h: usize, cell: [u32; 8]) -> u128 {
     cell.iter().map(|&p| share(w, h - 1, p) as u128).sum()
 }
 
+// ---- chains: a head and a next word are a cell's number plus 1, or 0
+
+/// Where the head of chain k of height h stands.
+fn head_place(w: &Words, h: usize, k: usize) -> usize {
+    lists(w[0] as u64) as usize + 256 * (h - 2) + k
+}
+
+/// Where the next word of cell n of height h stands.
+fn next_place(w: &Words, h: usize, n: usize) -> usize {
+    lists(w[0] as u64) as usize + 3_840 + (h - 2) * w[0] as usize + n
+}
+
+/// A leaf's chain: its number of ones.
+fn leaf_chain(leaf: u64) -> usize {
+    leaf.count_ones() as usize
+}
+
+/// An inner cell's chain: the top byte of its key, the sum of (number plus 1) times 2,654,435,761 over its pointers, modulo 2^32. Mirroring
+/// changes the pointers' places and tags, so not the key.
+fn cell_chain(cell: [u32; 8]) -> usize {
+    let key = cell.iter().map(|&p| low29(p) as u64 * 2_654_435_761 % (1 << 32)).sum::<u64>() % (1 << 32);
+    (key >> 24) as usize
+}
+
+/// The chain of kept cell n of height h.
+fn chain(w: &Words, h: usize, n: usize) -> usize {
+    if h == 2 {
+        leaf_chain(leaf_at(w, n))
+    } else {
+        cell_chain(cell_at(w, h, n))
+    }
+}
+
+/// The numbers of the cells of chain k of height h, rising, in a store whose chains are right.
+fn along(w: &Words, h: usize, k: usize) -> Vec<usize> {
+    let mut numbers = Vec::new();
+    let mut next = w[head_place(w, h, k)];
+    while next != 0 {
+        let n = next as usize - 1;
+        numbers.push(n);
+        next = w[next_place(w, h, n)];
+    }
+    numbers
+}
+
+/// Puts kept cell n of height h, the greatest number there, at the end of its chain.
+fn link(w: &mut Words, h: usize, n: usize) {
+    let k = chain(w, h, n);
+    let at = match along(w, h, k).last() {
+        None => head_place(w, h, k),
+        Some(&last) => next_place(w, h, last),
+    };
+    w[at] = n as u32 + 1;
+}
+
+/// The heads and next words of height h are those of its kept cells: each chain has the cells of its key, numbers rising; unused numbers
+/// have next words of 0.
+fn chains(w: &Words, h: usize) -> Answer<()> {
+    let (count, c) = (w[h] as usize, w[0] as usize);
+    let mut heads = [0; 256];
+    let mut nexts = vec![0; c];
+    for n in (0..count).rev() {
+        // all greater numbers are in their chains: this one goes before them
+        let k = chain(w, h, n);
+        nexts[n] = heads[k];
+        heads[k] = n as u32 + 1;
+    }
+    let (head, next) = (head_place(w, h, 0), next_place(w, h, 0));
+    need(w[head..head + 256] == heads, 2, "chain head")?;
+    need(w[next..next + count] == nexts[..count], 2, "next word")?;
+    need(w[next + count..next + c] == nexts[count..], 2, "unused next word")
+}
+
 /// A pointer that claims to name a cell of the height pointed to and does not.
 fn bad(w: &Words, h: usize, p: u32) -> bool {
     p != 0 && !(low29(p) >= 1 && low29(p) <= w[h])
@@ -178,7 +258,8 @@ fn scene_ok(w: &Words, n: usize) -> bool {
     depth_ok(d) && !bad(w, d as usize, p)
 }
 
-/// The whole store's test of add, outline and pack: header, scenes, every used cell with its count, and nothing in unused words.
+/// The whole store's test of add, outline and pack: header, scenes, every used cell with its count, nothing in unused words, and the
+/// chains.
 fn whole_store(w: &Words) -> Answer<()> {
     need(header_ok(w), 2, "header")?;
     let c = w[0] as usize;
@@ -198,6 +279,9 @@ fn whole_store(w: &Words) -> Answer<()> {
             }
         }
         need(zero(&w[place(w, h, count)..place(w, h, c)]), 2, "unused words")?;
+    }
+    for h in 2..=16 {
+        chains(w, h)?;
     }
     Ok(())
 }
@@ -534,11 +618,11 @@ fn cells_match(w: &Words, h: usize, a: [u32; 8], b: [u32; 8], t: u32, known: &mu
     })
 }
 
-/// A tree of height h added: its pointer, or 8.
+/// A tree of height h added: its pointer, or 8. Each cell is sought along its chain: whatever matches it under some mirror is there.
 fn add_tree(w: &mut Words, h: usize, tree: &Tree, known: &mut Selves) -> Answer<u32> {
     match tree {
         Tree::Leaf(leaf) => {
-            for n in 0..w[2] as usize {
+            for n in along(w, 2, leaf_chain(*leaf)) {
                 for t in 0..8 {
                     if *leaf == mirror_leaf(t, leaf_at(w, n)) {
                         return Ok(pointer(t, n));
@@ -550,6 +634,7 @@ fn add_tree(w: &mut Words, h: usize, tree: &Tree, known: &mut Selves) -> Answer<
             w[at] = (leaf >> 32) as u32;
             w[at + 1] = *leaf as u32;
             w[2] += 1;
+            link(w, 2, n);
             Ok(pointer(0, n))
         }
         Tree::Node(children) => {
@@ -559,7 +644,7 @@ fn add_tree(w: &mut Words, h: usize, tree: &Tree, known: &mut Selves) -> Answer<
                     cell[i] = add_tree(w, h - 1, child, known)?;
                 }
             }
-            for n in 0..w[h] as usize {
+            for n in along(w, h, cell_chain(cell)) {
                 for t in 0..8 {
                     if cells_match(w, h, cell, cell_at(w, h, n), t, known) {
                         return Ok(pointer(t, n));
@@ -574,6 +659,7 @@ fn add_tree(w: &mut Words, h: usize, tree: &Tree, known: &mut Selves) -> Answer<
             w[at + 8] = (count >> 32) as u32;
             w[at + 9] = count as u32;
             w[h] += 1;
+            link(w, h, n);
             Ok(pointer(0, n))
         }
     }

@@ -30,7 +30,7 @@ add-record-requires c κs =
       low = omega (arith, deep, c .depth .ensures);
       high = omega (arith, deep, c .depth .ensures);
       whole = root-whole file (s .pre .0) (e .if1 .left) D (c .depth .ensures);
-      header = s .pre .1;
+      store = s .pre .1;
     }
 
 returns-2 : tie.Need-returns-2

@@ -9,6 +9,7 @@ use Rattle.paper.specs.declared.Added.the-variants.{Scene, Refused}
 use Rattle.paper.specs.declared.Refusal.the-variants.{CellsFull}
 use Rattle.paper.specs.Store.{heights, keptCount, headerOk}
 use Rattle.laws.proofs.Undamaged.{store-header}
+use Rattle.laws.proofs.InOrder.{in-order}
 use Rattle.add_keep.specs.Keeping.{holdIn, cutBack}
 use Rattle.add_records.specs.declared.RecordAdded.{RecordAdded}
 use Rattle.add_records.specs.declared.RecordAdded.the-variants.{Full}
@@ -73,7 +74,10 @@ header : (s : tie.Start) → T (headerOk (s .args .store .now))
 header s = store-header (s .args .store .now) (s .pre .whole)
 
 add-root-requires : tie.Need-add-root-requires
-add-root-requires c κs = let s = start (lending (holding (c .before))) in (s .pre .fair, header s)
+add-root-requires c κs =
+    let l = lending (holding (c .before)) in
+    let s = start l in
+    (s .pre .fair, in-order (s .args .store .now) (s .pre .whole) (λ i. l .slice-known .given i .fits))
 
 -- ---- a height was full
 

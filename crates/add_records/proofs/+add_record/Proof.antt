@@ -5,12 +5,14 @@ use mathlib.Core.Path.{_≡_, refl, sym, ap, ap₂, subst, _∙_}
 use mathlib.Core.List.{List}
 use Prim.Native.Nat.{ℕ, _+_, _-_, _*_, _/_, _^_, _<_, _≤_}
 use native.Mathlib.Omega.{arith}
-use lib.Dec.{T}
-use lib.ListN.{length, getD}
+use lib.ListN.{length, getD, length-set, getD-replicate}
 use borrow.Author.Needs.{needs}
 use borrow.Fn.Kinds.{In, Out}
 use borrow.Fn.PlainCycle.{Measures, is, falls, and}
-use Rattle.paper.specs.Store.{leafSolid, headerOk}
+use Rattle.paper.specs.Store.{leafSolid}
+use Rattle.paper.specs.Runs.{Bytes}
+use Rattle.laws.specs.Chains.{NamesCells}
+use Rattle.laws.specs.InOrder.{InOrder}
 use Rattle.outline.specs.Positions.{childrenAt, recordAt}
 use Rattle.add_cells.specs.CellAdding.{CellAdding, addLeafIn}
 use Rattle.add_records.specs.declared.RecordAdded.{RecordAdded}
@@ -18,7 +20,7 @@ use Rattle.add_records.specs.declared.RecordAdded.the-variants.{At}
 use Rattle.add_records.specs.RecordAdding.{recordAdding, endingAt, addChildren, addRecord, Whole}
 use Rattle.add_records.proofs.Ways.{children-none, children-skip, children-full, children-next, record-leaf, record-inner}
 use Rattle.add_records.proofs.Wholes.{whole-leaf, whole-inner, whole-skip, whole-here, whole-next, record-ended}
-use Rattle.add_records.proofs.Lasting.{RecordAdded-header, record-header}
+use Rattle.add_records.proofs.Lasting.{Lasts, record-lasts, whole-within, names-set}
 use Rattle.add_records.proofs.CubeBound.{child-most}
 use Rattle.add_records.proofs.add_record.Reads as add-record
 use Rattle.add_records.proofs.add_record.Kinds as kinds
@@ -40,11 +42,13 @@ record-at t = and 2 kinds.ps (is 2 kinds.ps μ-record t) add-record.Pre
 abbrev record-below : ℕ → In 2 kinds.ps
 record-below t = and 2 kinds.ps (falls 2 kinds.ps _<_ μ-record t) add-record.Pre
 
--- before child i: the children left are whole, the header is in order, those before it have at most a cube of solid voxels each, and taking the rest comes
--- to the record
+-- before child i: the children left are whole, the store is in order, the pointers of those before it name cells, they have at most a cube of solid voxels
+-- each, and taking the rest comes to the record
 record Turn (file ws₀ : List ℕ) (at height : ℕ) (ws cell symmetries : List ℕ) (mask next solid i : ℕ) : Type 0 where
   whole : Whole (childrenAt (recordAt file (height - 1 - 2)) (8 - i) mask next)
-  header : T (headerOk ws)
+  order : InOrder ws
+  names : NamesCells cell
+  eight : length cell ≡ 8
   same-length : length ws ≡ length ws₀
   few : solid ≤ i * 8 ^ 15
   rest : addChildren (addRecord file (height - 1 - 2)) (height - 2) (8 - i) mask next cell symmetries solid ws ≡ addRecord file (height - 2) at ws₀
@@ -105,6 +109,10 @@ module _ (t : ℕ) where
   abbrev sought : Of lts.After-ending-at2 → Of lts.After-add-cell-in
   sought c = c .before .before .before
 
+  -- the file is of bytes
+  file-bytes : (l : Of lts.At-loop) → Bytes (start l .args .file .now)
+  file-bytes l = λ i. l .before .before .before .before .shared-slice-known .given i .fits
+
   -- ---- a leaf's record
 
   leaf-there : (c : Of lts.Then1) → (let a = begun (c .before) .args in a .at + 8 ≤ length (a .file .now))
@@ -131,7 +139,7 @@ module _ (t : ℕ) where
   loop-holds : Of lts.Need-loop-holds
   loop-holds c =
       let e = c .before in
-      record { whole = mask-there e .1; header = begun (e .before) .pre .1 .header; same-length = refl; few = omega arith; rest = sym (record-inner _ _ _ _ (omega arith)) }
+      record { whole = mask-there e .1; order = begun (e .before) .pre .1 .store; names = λ j h ne. absurd (ne (getD-replicate 8 j 0 0 h)); eight = refl; same-length = refl; few = omega arith; rest = sym (record-inner _ _ _ _ (omega arith)) }
 
   -- ---- a child that is not called for
 
@@ -141,7 +149,9 @@ module _ (t : ℕ) where
       let l = r .before .loop in
       record {
         whole = whole-skip _ _ _ _ (r .loop-test .taken) (l .inv .whole) (c .if2 .taken);
-        header = l .inv .header;
+        order = l .inv .order;
+        names = l .inv .names;
+        eight = l .inv .eight;
         same-length = l .inv .same-length;
         few = omega (arith, l .inv .few);
         rest = sym (children-skip _ _ _ _ _ _ _ _ _ (r .loop-test .taken) (c .if2 .taken)) ∙ l .inv .rest;
@@ -155,7 +165,7 @@ module _ (t : ℕ) where
   child-requires : Of lts.Need-add-record-requires
   child-requires c κs =
       let e = c .before in
-      (omega arith, record { low = omega arith; high = omega arith; whole = here e; header = e .before .before .loop .inv .header })
+      (omega arith, record { low = omega arith; high = omega arith; whole = here e; store = e .before .before .loop .inv .order })
 
   full : Of lts.Need-returns-2
   full c =
@@ -173,11 +183,14 @@ module _ (t : ℕ) where
       addRecord (a .file .now) (a .height - 1 - 2) (l .loop .next) (l .loop .store) ≡ recordAdding (At (g .0) (g .1 .0) (g .1 .1 .0) (g .1 .1 .1 .0)) (words (taken c)))
   told c = sym (taken c .add-record .ensures) ∙ ap (λ (r : RecordAdded). recordAdding r (words (taken c))) (c .before .end .given .1)
 
-  next-header : (c : Of lts.After-known-told) → T (headerOk (words (taken c)))
-  next-header c =
+  lasts : (c : Of lts.After-known-told) → (let l = turn (taken c) in let a = start l .args in
+      Lasts (l .loop .store) (a .file .now) (l .loop .inv .order) (file-bytes l) (words (taken c)) (c .before .end .given .0 .1 .0))
+  lasts c =
+      let e = called (taken c) in
       let l = turn (taken c) in
       let a = start l .args in
-      subst RecordAdded-header (told c) (record-header (a .file .now) (a .height - 1 - 2) (l .loop .next) (l .loop .store) (omega (arith, start l .pre .1 .high)) (l .loop .inv .header))
+      record-lasts (l .loop .store) (a .file .now) (l .loop .inv .order) (file-bytes l) (a .height - 1 - 2) _ _ _ _ (words (taken c)) (l .loop .next) (omega (arith, start l .pre .1 .high))
+      (whole-within (a .file .now) (a .height - 1) (l .loop .next) (omega arith) (here e)) (here e) (told c)
 
   next-whole : (c : Of lts.After-known-told) → (let l = turn (taken c) in let a = start l .args in
       Whole (childrenAt (recordAt (a .file .now) (a .height - 1 - 2)) (8 - (l .loop .i + 1)) (l .loop .mask / 2) (c .before .end .given .0 .0)))
@@ -204,7 +217,9 @@ module _ (t : ℕ) where
       let l = turn (taken c) .loop in
       record {
         whole = next-whole c;
-        header = next-header c;
+        order = lasts c .order;
+        names = names-set (l .cell) (l .i) _ (omega (arith, l .inv .eight, e .before .loop-test .taken)) (l .inv .names) (lasts c .number);
+        eight = length-set (l .cell) (l .i) _ ∙ l .inv .eight;
         same-length = taken c .add-record .kept .1 .0 ∙ l .inv .same-length;
         few = omega (arith, next-few c, l .inv .few);
         rest = sym (children-next _ _ _ _ _ _ _ _ _ (e .before .loop-test .taken) (e .if2 .left) _ _ _ _ _ (told c)) ∙ l .inv .rest;
@@ -213,7 +228,7 @@ module _ (t : ℕ) where
   -- ---- all children are taken
 
   cell-requires : Of lts.Need-add-cell-in-requires
-  cell-requires c κs = (c .before .before .loop .inv .header, (omega arith, omega arith))
+  cell-requires c κs = let i = c .before .before .loop .inv in (i .order, ((omega arith, omega arith), i .names))
 
   cell-taken : Of lts.Need-returns-3
   cell-taken c =

@@ -2,8 +2,14 @@
 
 use super::Random;
 
-pub fn used(capacity: usize) -> usize {
+/// The words of header, scenes, leaves and cells.
+pub fn lists(capacity: usize) -> usize {
     160 + 142 * capacity
+}
+
+/// All words of a store: chain heads and next words stand behind the lists.
+pub fn used(capacity: usize) -> usize {
+    lists(capacity) + 3_840 + 15 * capacity
 }
 
 fn place(capacity: usize, height: usize, n: usize) -> usize {
@@ -50,6 +56,134 @@ pub fn sum_counts(w: &mut [u32], from: usize) {
             put_count(w, at, sum);
         }
     }
+}
+
+/// Where the head of a height's chain 0 is, and the next word of its cell 0.
+fn heads(capacity: usize, height: usize) -> usize {
+    lists(capacity) + 256 * (height - 2)
+}
+
+fn nexts(capacity: usize, height: usize) -> usize {
+    lists(capacity) + 3_840 + capacity * (height - 2)
+}
+
+/// The chain of a cell by its words: a leaf's ones, or the top byte of the key that its pointers' numbers make.
+fn chain(w: &[u32], height: usize, n: usize) -> usize {
+    let at = place(w[0] as usize, height, n);
+    if height == 2 {
+        return (w[at].count_ones() + w[at + 1].count_ones()) as usize;
+    }
+    let key = w[at..at + 8].iter().fold(0u32, |key, p| key.wrapping_add((p & 0x1fff_ffff).wrapping_mul(2_654_435_761)));
+    (key >> 24) as usize
+}
+
+/// All heads and next words made those of the cells that the header says are kept. A store cut short, or with a header out of range, stays.
+pub fn chain_up(w: &mut [u32]) {
+    let capacity = w.first().map_or(0, |&c| c as usize);
+    if !(1..=65_536).contains(&capacity) || w.len() < used(capacity) {
+        return;
+    }
+    w[lists(capacity)..used(capacity)].fill(0);
+    for h in 2..=16 {
+        // where the number of the next cell of each chain goes
+        let mut ends: [usize; 256] = std::array::from_fn(|k| heads(capacity, h) + k);
+        for n in 0..(w[h] as usize).min(capacity) {
+            let k = chain(w, h, n);
+            w[ends[k]] = n as u32 + 1;
+            ends[k] = nexts(capacity, h) + n;
+        }
+    }
+}
+
+/// A head or a next word made wrong, or two of them together: a chain cut, without its first cell, with one too many, round in a ring, in
+/// another order, under another key; a next word of a cell that isn't kept.
+pub fn wrong_chain(random: &mut Random, w: &mut [u32]) {
+    let capacity = w[0] as usize;
+    let heights: Vec<usize> = (2..=16).filter(|&h| w[h] > 0).collect();
+    let h = match heights.len() {
+        0 => random.from_to(2, 16),
+        n if random.once_in(12) => 16.min(heights[n - 1] + 1),
+        n => heights[random.below(n).min(random.below(n))],
+    };
+    let (head, next, count) = (heads(capacity, h), nexts(capacity, h), w[h] as usize);
+    let n = random.below(count.max(1));
+    let (own, other) = (head + if count > 0 { chain(w, h, n) } else { 0 }, head + random.below(256));
+    // a cell that another of its chain follows
+    let followed: Vec<usize> = (0..count).filter(|&n| w[next + n] != 0).collect();
+    match random.below(15) {
+        0 => w[own] = random.pick(&[0, w[own].wrapping_add(1), count as u32 + 1, 1 << 29 | w[own], u32::MAX]),
+        1 => w[own] = w[next + w[own].saturating_sub(1) as usize],
+        2 => w[other] = random.below(count + 2) as u32 + 1,
+        3 => w.swap(own, other),
+        4 => w[next + n] = n as u32 + 1,
+        5 => w[next + n] = random.pick(&[0, w[own], w[next + n].wrapping_add(1), count as u32 + 1, u32::MAX, 1 << 29]),
+        6 => w[next + n] = random.below(count + 2) as u32,
+        7 if count < capacity => w[next + random.from_to(count, capacity - 1)] = random.pick(&[1, count as u32 + 1, u32::MAX]),
+        8 if count < capacity => w[next + count] = 1,
+        9..=10 if !followed.is_empty() => w[next + random.pick(&followed)] = 0,
+        11..=12 if !followed.is_empty() => {
+            // two neighbours change places
+            let a = random.pick(&followed);
+            let b = w[next + a] as usize - 1;
+            let before = (head..head + 256).chain(next..next + count).find(|&at| w[at] == a as u32 + 1);
+            let after = w[next + b];
+            if let Some(before) = before {
+                w[before] = b as u32 + 1;
+                w[next + b] = a as u32 + 1;
+                w[next + a] = after;
+            }
+        }
+        13 => {
+            // a whole chain under another key
+            w[other] = w[own];
+            w[own] = 0;
+        }
+        _ => {
+            let at = random.from_to(lists(capacity), used(capacity) - 1);
+            let any = random.word();
+            w[at] = random.pick(&[1, w[at].wrapping_add(1), any]);
+        }
+    }
+}
+
+/// Leaves that all have so many ones, as far as chance has them, and cells that share children in other places: long chains.
+pub fn long_chains(random: &mut Random, capacity: usize) -> Vec<u32> {
+    let mut w = vec![0; used(capacity)];
+    w[0] = capacity as u32;
+    let ones = random.from_to(1, 5);
+    let top = random.from_to(3, 6);
+    for h in 2..=top {
+        let count = random.from_to(1.max(capacity / 2), capacity);
+        w[h] = count as u32;
+        // the same numbers in each cell of this height, most of the time
+        let numbers: Vec<usize> = (0..random.from_to(1, 4)).map(|_| random.below(w[h - 1].max(1) as usize)).collect();
+        for n in 0..count {
+            let at = place(capacity, h, n);
+            if h == 2 {
+                for _ in 0..ones {
+                    w[at + random.below(2)] |= 1 << random.below(32);
+                }
+                continue;
+            }
+            let mut places = [0, 1, 2, 3, 4, 5, 6, 7];
+            for &number in &numbers {
+                let free: Vec<usize> = places.iter().copied().filter(|&i| i < 8).collect();
+                let i = random.pick(&free);
+                places[i] = 8;
+                let number = if random.once_in(8) { random.below(w[h - 1] as usize) } else { number };
+                w[at + i] = random.mirror() << 29 | (number as u32 + 1);
+            }
+        }
+    }
+    sum_counts(&mut w, 3);
+    chain_up(&mut w);
+    w[1] = 3;
+    for n in 0..3 {
+        let depth = random.from_to(2, top);
+        w[32 + 2 * n] = depth as u32;
+        w[33 + 2 * n] = pointer(random, w[depth]);
+    }
+    w
 }
 
 /// The words of a kept inner cell, most often of a low one: its height, and where they are.
@@ -103,7 +237,8 @@ pub fn wrapping_counts(random: &mut Random, w: &mut [u32]) {
     sum_counts(w, height);
 }
 
-/// A store with cells, tags and scenes as they come: undamaged, but for what chance leaves empty, and with true counts most of the time.
+/// A store with cells, tags and scenes as they come: undamaged, but for what chance leaves empty, and with true counts and right chains
+/// most of the time.
 pub fn by_hand(random: &mut Random, capacity: usize, spare: usize) -> Vec<u32> {
     let mut w = vec![0; used(capacity)];
     w[0] = capacity as u32;
@@ -134,11 +269,15 @@ pub fn by_hand(random: &mut Random, capacity: usize, spare: usize) -> Vec<u32> {
         }
     }
     sum_counts(&mut w, 3);
+    chain_up(&mut w);
     if random.once_in(5) {
         wrong_count(random, &mut w);
     }
     if random.once_in(40) {
         wrapping_counts(random, &mut w);
+    }
+    if random.once_in(6) {
+        wrong_chain(random, &mut w);
     }
     let held = if random.once_in(10) { random.from_to(0, 64) } else { random.from_to(1, 6) };
     w[1] = held as u32;
@@ -170,6 +309,7 @@ pub fn full_by_hand(random: &mut Random) -> Vec<u32> {
         }
     }
     sum_counts(&mut w, 3);
+    chain_up(&mut w);
     w
 }
 
@@ -221,8 +361,8 @@ pub fn header_end(random: &mut Random, w: &mut [u32]) {
 
 /// One word of a store changed.
 pub fn damage(random: &mut Random, w: &mut [u32]) {
-    let capacity = (w[0] as usize).clamp(1, w.len() / 142);
-    let at = match random.below(24) {
+    let capacity = (w[0] as usize).clamp(1, (w.len().saturating_sub(4_000) / 157).max(1));
+    let at = match random.below(26) {
         0 => random.below(32),
         1 => random.from_to(1, 16),
         2..=4 => random.from_to(32, 43),
@@ -234,6 +374,9 @@ pub fn damage(random: &mut Random, w: &mut [u32]) {
             let count = (w[h] as usize).min(capacity);
             place(capacity, h, random.below(count.max(1))) + random.below(10)
         }
+        21 | 22 => random.from_to(160, lists(capacity) - 1),
+        23 => random.from_to(nexts(capacity, 2), used(capacity) - 1),
+        24 => heads(capacity, random.from_to(2, 9)) + random.below(256),
         _ => random.below(w.len()),
     };
     let at = at.min(w.len() - 1);
@@ -304,6 +447,7 @@ pub fn noise(random: &mut Random) -> Vec<u32> {
             }
             if length >= used(capacity) && random.once_in(2) {
                 sum_counts(&mut w, 3);
+                chain_up(&mut w);
             }
         }
     }

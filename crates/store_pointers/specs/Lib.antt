@@ -1,2 +1,0 @@
--- Definitions that the contracts cite: a pointer and a cell mirrored.
-pub mod Mirrored
