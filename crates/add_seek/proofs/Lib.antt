@@ -5,6 +5,7 @@ pub mod SymmetryWays
 -- seeking
 pub mod FindFirst
 pub mod FindChain
+pub mod ChangingBits
 pub mod FindLeaves
 pub mod FindCells
 pub mod FindSymmetries

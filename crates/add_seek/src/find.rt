@@ -10,7 +10,7 @@ ghost use Rattle.paper.specs.Match.{matches, find, leafCell};
 ghost use Rattle.laws.specs.Symmetries.{symmetryMatch};
 ghost use Rattle.laws.specs.Chains.{lastOf, exchanged, NamesCells};
 ghost use Rattle.laws.specs.InOrder.{InOrder};
-ghost use Rattle.add_seek.specs.Sought.{sought, EndsAt, leafImages, firstBelow};
+ghost use Rattle.add_seek.specs.Sought.{sought, EndsAt, leafImages, firstBelow, Changing};
 use crate::symmetries::same_cell;
 use leaf::leaf_solid;
 use leaf::mirror_leaf;
@@ -22,6 +22,7 @@ use store::leaf_exchanged_at;
 use store::next_at;
 use store_pointers::cell_chain;
 use store_pointers::cell_key;
+use store_pointers::numbers_differ;
 use store_pointers::pointer;
 
 // The pointer found; or none, with the last cell of the chain, its number plus 1, or 0 where the chain is empty.
@@ -43,10 +44,27 @@ pub fn leaf_images(leaf: u64) -> [u64; 8]
     all
 }
 
-// The lowest mirror whose image this leaf is, or 8.
-fn image_of(images: [u64; 8], leaf: u64) -> u32
+// The bits in which the images of a leaf are not all alike.
+fn changing_bits(images: [u64; 8]) -> u64
+    ensures { λ r. ⌜ Changing images 8 r ⌝ }
+{
+    let mut bits = 0u64;
+    let mut t = 0u32;
+    while t < MIRRORS {
+        bits = bits | (images[0] ^ images[t as usize]);
+        t += 1;
+    }
+    bits
+}
+
+// The lowest mirror whose image this leaf is, or 8; `bits` are those in which the images are not all alike: a leaf that differs from the first in another bit is none of them.
+fn image_of(images: [u64; 8], bits: u64, leaf: u64) -> u32
+    requires { ⌜ Changing images 8 bits ⌝ }
     ensures { λ r. ⌜ r ≡ firstBelow 8 (λ t. eqb (getD images t 0) leaf) ⌝ }
 {
+    if (images[0] ^ leaf) | bits != bits {
+        return MIRRORS;
+    }
     let mut t = 0u32;
     while t < MIRRORS {
         if images[t as usize] == leaf {
@@ -88,10 +106,11 @@ pub fn find_leaf(store: &[u32], leaf: u64, images: [u64; 8]) -> Sought
     ensures { λ r. ⌜ EndsAt r (lastOf (keptOf (now (store .entry))) 0 (chainOf 0 (leafCell leaf))) ⌝ }
 {
     let all = exchange_all(images);
+    let bits = changing_bits(all);
     let mut last = 0u32;
     let mut n = head_at(store, 0, leaf_solid(leaf) as u32);
     while n != 0 {
-        let t = image_of(all, leaf_exchanged_at(store, n - 1));
+        let t = image_of(all, bits, leaf_exchanged_at(store, n - 1));
         if t < MIRRORS {
             return Sought::At(pointer(t, n - 1));
         }
@@ -102,7 +121,7 @@ pub fn find_leaf(store: &[u32], leaf: u64, images: [u64; 8]) -> Sought
 }
 
 // The lowest mirror under which a cell matches another, or 8; `symmetries` are those of the cell's children, and `key` is its key: a cell of another key
-// doesn't match, whatever the mirror.
+// doesn't match, whatever the mirror. Under each the first pointer is looked at before the arrays are handed on.
 fn match_of(cell: [u32; 8], key: u32, symmetries: [u8; 8], other: [u32; 8]) -> u32
     requires { ⌜ NamesCells cell ⌝ }
     requires { ⌜ NamesCells other ⌝ }
@@ -112,12 +131,16 @@ fn match_of(cell: [u32; 8], key: u32, symmetries: [u8; 8], other: [u32; 8]) -> u
     if cell_key(other) != key {
         return MIRRORS;
     }
-    let mut mirror = 0u32;
-    while mirror < MIRRORS {
+    let mut next = 0u32;
+    while next < MIRRORS {
+        let mirror = next;
+        next += 1;
+        if numbers_differ(cell[0], other[mirror as usize]) {
+            continue;
+        }
         if same_cell(cell, symmetries, mirror, other) {
             return mirror;
         }
-        mirror += 1;
     }
     MIRRORS
 }

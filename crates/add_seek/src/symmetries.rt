@@ -14,7 +14,8 @@ ghost use Rattle.add_seek.specs.Sought.{leafImages};
 use limits::CHILDREN;
 use limits::MIRRORS;
 use store_pointers::cell_number;
-use store_pointers::mirrored_at;
+use store_pointers::mirrored_pointer;
+use store_pointers::numbers_differ;
 use store_pointers::tag;
 
 // 1 where a leaf is its image, 0 elsewhere.
@@ -64,19 +65,24 @@ pub fn same_cell(cell: [u32; 8], symmetries: [u8; 8], mirror: u32, other: [u32; 
     while i != 0 {
         i -= 1;
         let at = i as usize;
-        if pointers_differ(cell[at], mirrored_at(other, mirror, i), symmetries[at]) {
+        let from = (i ^ mirror) as usize;
+        let q = mirrored_pointer(other[from], mirror);
+        if pointers_differ(cell[at], q, symmetries[at]) {
             return false;
         }
     }
     true
 }
 
-// 1 where a cell matches itself under a mirror, 0 elsewhere.
+// 1 where a cell matches itself under a mirror, 0 elsewhere. Most cells that don't, differ in the first pointer: it is looked at before the arrays are handed on.
 fn cell_bit(cell: [u32; 8], symmetries: [u8; 8], mirror: u32) -> u8
     requires { ⌜ mirror < 8 ⌝ }
     requires { ⌜ NamesCells cell ⌝ }
     ensures { λ r. ⌜ r ≡ bitFor (symmetryMatch symmetries cell cell mirror) ⌝ }
 {
+    if numbers_differ(cell[0], cell[mirror as usize]) {
+        return 0;
+    }
     if same_cell(cell, symmetries, mirror, cell) {
         return 1;
     }

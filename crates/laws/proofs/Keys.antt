@@ -71,17 +71,19 @@ match-low self t p q np nq (inr j) =
     let c : cellNo p ≡ cellNo q = j .cell in
     omega arith
 
--- by the symmetries of the children
-pub match-key : (k : ℕ) (ms : List ℕ) (a b : Cell) (t : ℕ) → t < 8 → Numbered (suc k) a → Numbered (suc k) b → symmetryMatch ms a b t ≡ true → keyOf a ≡ keyOf b
-unfolding symmetryMatch
-match-key k ms a b t ht na nb m =
-    key-images a b t ht
-    (λ i h.
-    let self : ℕ → ℕ → Bool = λ q u. marked (getD ms i 0) u in
-    let p : ℕ = getD a i 0 in
-    let q : ℕ = getD b (bitXor i t) 0 in
-    match-low self t p q (na i h) (nb (bitXor i t) (xor8-lt i t h ht))
-    (pointer-rule self t p q (all-at 8 (λ j. pointerMatch (λ q u. marked (getD ms j 0) u) t (getD a j 0) (getD b (bitXor j t) 0)) (true-T m) i h)))
+-- by the symmetries of the children: the low parts of the pointers, and so the keys
+module _ (k : ℕ) (ms : List ℕ) (a b : Cell) (t : ℕ) (ht : t < 8) (na : Numbered (suc k) a) (nb : Numbered (suc k) b) (m : symmetryMatch ms a b t ≡ true) where
+  pub match-lows : (i : ℕ) → i < 8 → lowOf (getD a i 0) ≡ lowOf (getD b (bitXor i t) 0)
+  unfolding symmetryMatch
+  match-lows i h =
+      let self : ℕ → ℕ → Bool = λ q u. marked (getD ms i 0) u in
+      let p : ℕ = getD a i 0 in
+      let q : ℕ = getD b (bitXor i t) 0 in
+      match-low self t p q (na i h) (nb (bitXor i t) (xor8-lt i t h ht))
+      (pointer-rule self t p q (all-at 8 (λ j. pointerMatch (λ q u. marked (getD ms j 0) u) t (getD a j 0) (getD b (bitXor j t) 0)) (true-T m) i h))
+
+  pub match-key : keyOf a ≡ keyOf b
+  match-key = key-images a b t ht match-lows
 
 -- by the match rule
 pub match-chain : (K : List (List Cell)) (k : ℕ) (a b : Cell) (t : ℕ) → t < 8 → Numbered k a → Numbered k b → matches K k a b t ≡ true → chainOf k a ≡ chainOf k b

@@ -5,7 +5,7 @@ ghost use Prim.Native.Nat.{_+_, _^_, _<_};
 ghost use lib.Dec.{eqb};
 ghost use lib.ListN.{getD};
 ghost use Rattle.paper.specs.Numbers.{allBelow};
-ghost use Rattle.paper.specs.Store.{tagOf, cellNo, pointer as pointer-to, badPointer, anyBad, cellUsable};
+ghost use Rattle.paper.specs.Store.{tagOf, lowOf, cellNo, pointer as pointer-to, badPointer, anyBad, cellUsable};
 
 // The lowest bit of the mirror: 2^29.
 pub const TAG_STEP: u32 = 536870912;
@@ -26,6 +26,13 @@ pub fn cell_number(p: u32) -> u32
 {
     let low = p % TAG_STEP;
     if low == 0 { 0 } else { low - 1 }
+}
+
+// Whether two pointers name cells of different numbers, or just one of them names none: then they don't match, whatever the mirror.
+pub fn numbers_differ(p: u32, q: u32) -> bool
+    ensures { λ r. ⌜ r ≡ not (eqb (lowOf p) (lowOf q)) ⌝ }
+{
+    p % TAG_STEP != q % TAG_STEP
 }
 
 // The pointer to a kept cell, so mirrored.

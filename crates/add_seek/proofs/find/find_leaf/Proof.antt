@@ -22,10 +22,10 @@ use Rattle.add_seek.proofs.find.find_leaf.Statement.{statement}
 use Rattle.add_seek.proofs.find.find_leaf.Tie as tie
 
 abbrev Inv-loop : tie.InvT-loop
-Inv-loop store leaf all last₀ n₀ last n = Along 0 (chainOf 0 (leafCell leaf)) (λ b t. matches (keptOf store) 0 (leafCell leaf) b t) (cellsAt (keptOf store) 0) last n
+Inv-loop store leaf all bits last₀ n₀ last n = Along 0 (chainOf 0 (leafCell leaf)) (λ b t. matches (keptOf store) 0 (leafCell leaf) b t) (cellsAt (keptOf store) 0) last n
 
 abbrev μ-loop : tie.MeasureT-loop
-μ-loop store leaf all last₀ n₀ last n = keptCount store 0 - last
+μ-loop store leaf all bits last₀ n₀ last n = keptCount store 0 - last
 
 abbrev Start : Type 0
 Start = tie.Start Inv-loop μ-loop
@@ -33,7 +33,7 @@ Start = tie.Start Inv-loop μ-loop
 -- ---- from a place back to the turn of the loop, and to the start
 
 abbrev start : tie.At-loop Inv-loop μ-loop → Start
-start l = l .before .before .before .before .before
+start l = l .before .before .before .before .before .before
 
 abbrev turn : tie.After-image-of Inv-loop μ-loop → tie.In-loop Inv-loop μ-loop
 turn c = c .before .before
@@ -69,25 +69,25 @@ mirror c =
     let l = turn c .before in
     let s = start l in
     c .image-of .ensures
-    ∙ exchanged-first (keptOf (words s)) (l .before .before .before .exchange-all .result) (s .args .images) (s .args .leaf) (c .before .leaf-exchanged-at .result)
+    ∙ exchanged-first (keptOf (words s)) (l .before .before .before .before .exchange-all .result) (s .args .images) (s .args .leaf) (c .before .leaf-exchanged-at .result)
     (cellAt (keptOf (words s)) 0 (l .loop .n - 1)) (omega arith) (s .pre .0 .leaves (l .loop .n - 1) (rw (kept-length (words s) 0 (lit< tt)) (at (turn c) .kept))) (s .pre .1)
-    (l .before .before .before .exchange-all .ensures) (c .before .leaf-exchanged-at .ensures)
+    (l .before .before .before .before .exchange-all .ensures) (c .before .leaf-exchanged-at .ensures)
 
 -- ---- the needs
 
 -- a leaf has at most 64 voxels
 ones : (c : tie.After-leaf-solid Inv-loop μ-loop) → c .leaf-solid .result ≤ 64
-ones c = omega (arith, c .leaf-solid .ensures, leaf-most (c .before .before .before .args .leaf))
+ones c = omega (arith, c .leaf-solid .ensures, leaf-most (c .before .before .before .before .args .leaf))
 
 cast-head-at : tie.Need-cast-head-at Inv-loop μ-loop
 cast-head-at c = omega (arith, ones c)
 
 head-at-requires : tie.Need-head-at-requires Inv-loop μ-loop
-head-at-requires c κs = (c .before .before .before .pre .0 .header, (lit< tt, omega (arith, ones c)))
+head-at-requires c κs = (c .before .before .before .before .pre .0 .header, (lit< tt, omega (arith, ones c)))
 
 loop-holds : tie.Need-loop-holds Inv-loop μ-loop
 loop-holds c =
-    let s = c .before .before .before .before in
+    let s = c .before .before .before .before .before in
     search-head (words s) (s .pre .0) 0 (lit< tt) (chain s) (passes s) (chain-few 0 (leafCell (s .args .leaf)))
     (c .head-at .ensures
     ∙ ap (λ (j : ℕ). getD (words s) (headPosition (capacityOf (words s)) 0 j) 0) (c .before .leaf-solid .ensures ∙ leaf-chain (s .args .leaf)))
@@ -139,12 +139,13 @@ find-leaf-spec =
     μ-loop
     (λ c κs. search needs)
     (λ c κs. search needs)
+    (λ c κs. search needs)
     cast-head-at
     head-at-requires
     loop-holds
     (λ c. search needs)
     leaf-exchanged-at-requires
-    (λ c κs. search needs)
+    (λ c κs. c .before .before .before .before .before .changing-bits .ensures)
     (λ c. search needs)
     pointer-requires
     returns
