@@ -5,7 +5,7 @@
  * and so do the return address and what memset takes. Bytes that are reserved and never written count where one below them changed.
  *
  * A further call takes a name and a line in `calls`, and questions beside those of its kind. The program fails where a call of the
- * table is never made, and where one is refused though nothing was changed.
+ * table is never made, where one is refused though nothing was changed, and where one takes more than the header says.
  */
 #include "rooms.h"
 
@@ -56,6 +56,7 @@ static void fail(const char *name, const char *what)
 
 /* ---- one call ---- */
 
+#define HEADER_SAYS 8192 /* bytes that hold every call */
 #define STACK_WORDS 32768
 #define GUARD_WORDS 512
 #define PATTERN UINT64_C(0xa7c3e9b5d16f8b93)
@@ -555,5 +556,10 @@ int main(void)
     print_made(DEEPEST, "rooms of depth 16");
     print_made(CHANGED, "files and stores of these rooms, a byte or a word changed in each");
     print_changed();
+    for (unsigned call = 0; call < CALLS; call++) {
+        if (greatest[DEEPEST][call] > HEADER_SAYS || greatest[CHANGED][call] > HEADER_SAYS) {
+            fail(calls[call].name, "takes more than the header says");
+        }
+    }
     return 0;
 }

@@ -3,6 +3,7 @@ pub mod Ways
 pub mod Lasting
 pub mod CubeBound
 pub mod Wholes
+pub mod Turns
 -- taking stands as adding: what that means, then a cell, its children in turn, a record
 pub mod Settings
 pub mod SettingWords

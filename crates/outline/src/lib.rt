@@ -62,17 +62,22 @@ fn children(file: &[u8], at: usize, height: u32, left: u32, mask: u8) -> Reading
     requires { ⌜ ChildrenLeft height left ⌝ }
     ensures { λ r. ⌜ r ≡ childrenAt (recordAt (now (file .entry)) (height - 2)) left mask at ⌝ }
 {
-    if left == 0 {
-        return Reading::EndsAt(at);
+    let mut end = at;
+    let mut rest = left;
+    let mut bits = mask;
+    while rest != 0 {
+        let called = bits % 2;
+        bits = bits / 2;
+        rest -= 1;
+        if called == 0 {
+            continue;
+        }
+        let Reading::EndsAt(next) = record(file, end, height) else {
+            return Reading::Broken;
+        };
+        end = next;
     }
-    let others = mask / 2;
-    if mask % 2 == 0 {
-        return children(file, at, height, left - 1, others);
-    }
-    match record(file, at, height) {
-        Reading::Broken => Reading::Broken,
-        Reading::EndsAt(next) => children(file, next, height, left - 1, others),
-    }
+    Reading::EndsAt(end)
 }
 
 // Whether what follows the head is neither nothing nor the root's record alone.

@@ -38,13 +38,6 @@ use store_whole::store_bad;
 // Byte 6 of an empty scene.
 const EMPTY: u32 = EMPTY_MARK as u32;
 
-// What is prepared of a scene: how many cells each list has, the lists' sizes, and the file's length.
-struct Prepared {
-    counts: [u32; 15],
-    sizes: [u32; 15],
-    length: u64,
-}
-
 // The words of scratch that this store takes.
 fn words_needed(store: &[u32]) -> usize
     requires { ⌜ T (headerOk (now store)) ⌝ }
@@ -77,48 +70,29 @@ fn pack_empty(depth: u32, out: &mut [u8]) -> Written
     Written::Length(HEAD as u32)
 }
 
-// Prepares the file of the scene with this root in list `top`: ordered, placed, measured. Scratch has the order and the
-// places of each list, and nothing is written.
-fn prepare(store: &[u32], top: u32, root: u32, scratch: &mut [u32]) -> Prepared
-    requires { ⌜ T (storeOk (now store)) ⌝ }
-    requires { ⌜ SceneRoot (now store) top root ⌝ }
-    requires { ⌜ packScratch (capacityOf (now store)) ≤ length (now scratch) ⌝ }
-    requires { ⌜ take (packScratch (capacityOf (now store))) (now scratch) ≡ replicate (packScratch (capacityOf (now store))) 0 ⌝ }
-    ensures { λ r. ⌜ Ready (now (store .entry)) top root (r .counts) (r .sizes) (r .length) (now (scratch .exit)) ⌝ }
-    ensures { λ r. ⌜ (length (now (scratch .exit)) ≡ length (now (scratch .entry))) × (drop (packScratch (capacityOf (now (store .entry)))) (now (scratch .exit)) ≡ drop (packScratch (capacityOf (now (store .entry)))) (now (scratch .entry))) ⌝ }
-{
-    let counts = order_lists(store, top, root, scratch);
-    let sizes = place_lists(store, top, counts, scratch);
-    let length = file_length(sizes, top);
-    Prepared {
-        counts: counts,
-        sizes: sizes,
-        length: length,
-    }
-}
-
-// Writes the file of what is prepared.
+// Writes the file of a scene that is prepared: how many cells each list has, the lists' sizes, the file's length, and in scratch the order and the places
+// of each list.
 fn write_prepared(
     store: &[u32],
     top: u32,
     root: u32,
-    prepared: Prepared,
+    counts: [u32; 15],
+    sizes: [u32; 15],
+    total: u64,
     scratch: &[u32],
     out: &mut [u8],
 )
     requires { ⌜ T (storeOk (now store)) ⌝ }
-    requires { ⌜ Ready (now store) top root (prepared .counts) (prepared .sizes) (prepared .length) (now scratch) ⌝ }
-    requires { ⌜ prepared .length ≤ length (now out) ⌝ }
+    requires { ⌜ Ready (now store) top root counts sizes total (now scratch) ⌝ }
+    requires { ⌜ total ≤ length (now out) ⌝ }
     ensures { λ _. ⌜ now (out .exit) ≡ over (packedFile (keptOf (now (store .entry))) (top + 2) root) (now (out .entry)) ⌝ }
 {
-    let counts = prepared.counts;
-    let sizes = prepared.sizes;
-    let after_head = write_packed_head(out, prepared.length, top + LEAF_HEIGHT, tag(root));
+    let after_head = write_packed_head(out, total, top + LEAF_HEIGHT, tag(root));
     let after_sizes = write_sizes(sizes, top, out, after_head);
     write_lists(store, top, counts, scratch, out, after_sizes);
 }
 
-// Writes the file of the scene with this root in list `top`: prepared, and written where the output has room.
+// Writes the file of the scene with this root in list `top`: prepared (ordered, placed, measured), and written where the output has room.
 fn pack_root(store: &[u32], top: u32, root: u32, scratch: &mut [u32], out: &mut [u8]) -> Written
     requires { ⌜ T (storeOk (now store)) ⌝ }
     requires { ⌜ SceneRoot (now store) top root ⌝ }
@@ -127,12 +101,13 @@ fn pack_root(store: &[u32], top: u32, root: u32, scratch: &mut [u32], out: &mut 
     ensures { λ r. ⌜ outcome (written r) (now (out .exit) ∷ []) ≡ fitted (packedFile (keptOf (now (store .entry))) (top + 2) root) (now (out .entry)) ⌝ }
     ensures { λ r. ⌜ (length (now (scratch .exit)) ≡ length (now (scratch .entry))) × (drop (packScratch (capacityOf (now (store .entry)))) (now (scratch .exit)) ≡ drop (packScratch (capacityOf (now (store .entry)))) (now (scratch .entry))) ⌝ }
 {
-    let prepared = prepare(store, top, root, scratch);
-    let total = prepared.length;
+    let counts = order_lists(store, top, root, scratch);
+    let sizes = place_lists(store, top, counts, scratch);
+    let total = file_length(sizes, top);
     if (out.len() as u64) < total {
         return Written::Refused(Refusal::OutputShort);
     }
-    write_prepared(store, top, root, prepared, scratch, out);
+    write_prepared(store, top, root, counts, sizes, total, scratch, out);
     Written::Length(total as u32)
 }
 

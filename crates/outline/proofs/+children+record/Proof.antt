@@ -1,13 +1,12 @@
--- `outline::children` and `outline::record`, which call each other, meet their contracts: each way is a clause of the readers by position.
--- Height times ten, and for the children how many are left, falls at every call. Assumes nothing.
-use mathlib.Core.Path.{sym, _∙_}
-use mathlib.Core.List.{List}
-use Prim.Native.Nat.{ℕ, _+_, _-_, _*_, _/_, _<_}
+-- `outline::children` and `outline::record`, which call each other, meet their contracts: each way is a clause of the readers by position. The invariant
+-- of the children's loop: reading those that are left, from here, comes to what reading all does. A height falls at every second call, the children
+-- left at every turn. Assumes nothing.
+use mathlib.Core.Path.{_≡_, refl, sym, _∙_}
+use Prim.Native.Nat.{ℕ, _+_, _-_, _*_, _<_}
 use native.Mathlib.Omega.{arith}
 use borrow.Author.Needs.{needs}
-use borrow.Fn.Kinds.{In}
+use borrow.Fn.Kinds.{In, Out}
 use borrow.Fn.PlainCycle.{Measures, is, falls, and}
-use Rattle.outline.specs.declared.Reading.{Reading}
 use Rattle.outline.specs.Positions.{childrenAt, recordAt}
 use Rattle.outline.proofs.Records.{record-leaf, record-short, record-empty, record-children, children-none, children-skip, children-broken, children-next}
 use Rattle.outline.proofs.children.Reads as children
@@ -21,10 +20,10 @@ use Rattle.outline.proofs.+children+record.{statement}
 use Rattle.outline.proofs.+children+record.Tie.{close}
 
 abbrev μ-children : Measures 1 children-kinds.ps ℕ
-μ-children κs a = 10 * a .1 .1 .0 + a .1 .1 .1 .0 + 1
+μ-children κs a = 2 * a .1 .1 .0 + 1
 
 abbrev μ-record : Measures 1 record-kinds.ps ℕ
-μ-record κs a = 10 * a .1 .1 .0
+μ-record κs a = 2 * a .1 .1 .0
 
 abbrev children-at : ℕ → In 1 children-kinds.ps
 children-at t = and 1 children-kinds.ps (is 1 children-kinds.ps μ-children t) children.Pre
@@ -39,55 +38,65 @@ record-at t = and 1 record-kinds.ps (is 1 record-kinds.ps μ-record t) record.Pr
 abbrev record-below : ℕ → In 1 record-kinds.ps
 record-below t = and 1 record-kinds.ps (falls 1 record-kinds.ps _<_ μ-record t) record.Pre
 
--- what the calls of each ask and give
-abbrev in-children : ℕ → children-lts.Claims
-in-children t = (children-below t, children.Post, record-below t, record.Post)
+abbrev Inv-loop : children-lts.InvT-loop
+Inv-loop file at height left mask end₀ rest₀ bits₀ end rest bits =
+    childrenAt (recordAt file (height - 2)) rest bits end ≡ childrenAt (recordAt file (height - 2)) left mask at
 
-abbrev in-record : ℕ → record-lts.Claims
-in-record t = (leaf-reads.Asked, leaf-reads.Learnt, children-below t, children.Post)
+abbrev μ-loop : children-lts.MeasureT-loop
+μ-loop file at height left mask end₀ rest₀ bits₀ end rest bits = rest
 
--- ---- the children that are left
+module _ (t : ℕ) where
+  -- what the calls of each ask and give
+  abbrev in-children : children-lts.Claims
+  in-children = (record-below t, record.Post)
 
--- those after the first, read from a position on
-abbrev rest : List ℕ → ℕ → ℕ → ℕ → ℕ → Reading
-rest file height left mask p = childrenAt (recordAt file (height - 2)) (left - 1) (mask / 2) p
+  abbrev in-record : record-lts.Claims
+  in-record = (leaf-reads.Asked, leaf-reads.Learnt, children-below t, children.Post)
 
-none-left : (t : ℕ) → children-lts.Need-returns (in-children t) (children-at t) children.Post
-none-left t c = sym (children-none _ _ _ _ (c .if1 .taken))
+  -- a place of the code of each, or a need there
+  abbrev OfChildren : ((q : children-lts.Claims) → In 1 children-kinds.ps → Out 1 children-kinds.ps children-kinds.r → children-lts.InvT-loop → children-lts.MeasureT-loop → Type 0) → Type 0
+  OfChildren N = N in-children (children-at t) children.Post Inv-loop μ-loop
 
-skipped : (t : ℕ) → children-lts.Need-returns-2 (in-children t) (children-at t) children.Post
-skipped t c =
-    let a = c .before .before .before .before .args in
-    _∙_ {b = rest (a .file .now) (a .height) (a .left) (a .mask) (a .at)} (c .children .ensures)
-    (sym (children-skip _ _ _ _ (c .before .before .if1 .left) (c .before .if2 .taken)))
+  abbrev OfRecord : ((q : record-lts.Claims) → In 1 record-kinds.ps → Out 1 record-kinds.ps record-kinds.r → Type 0) → Type 0
+  OfRecord N = N in-record (record-at t) record.Post
 
-broken : (t : ℕ) → children-lts.Need-returns-3 (in-children t) (children-at t) children.Post
-broken t c =
-    let r = c .before .before in
-    sym (children-broken _ _ _ _ (r .before .before .if1 .left) (r .before .if2 .left) (sym (r .record .ensures) ∙ c .enum-told .given .1))
+  -- ---- the children that are left
 
-next : (t : ℕ) → children-lts.Need-returns-4 (in-children t) (children-at t) children.Post
-next t c =
-    let e = c .before .before in
-    let r = e .before .before in
-    let a = r .before .before .before .before .args in
-    _∙_ {b = rest (a .file .now) (a .height) (a .left) (a .mask) (e .next .given .0 .0)} (c .children2 .ensures)
-    (sym (children-next _ _ _ _ _ (r .before .before .if1 .left) (r .before .if2 .left) (sym (r .record .ensures) ∙ e .next .given .1)))
+  skipped : OfChildren children-lts.Need-loop-again
+  skipped c =
+      let l = c .before in
+      sym (children-skip _ _ _ _ (l .loop-test .taken) (c .if1 .taken)) ∙ l .before .loop .inv
 
--- ---- a cell's record
+  broken : OfChildren children-lts.Need-returns
+  broken c =
+      let r = c .before .before in
+      let l = r .before .before in
+      sym (children-broken _ _ _ _ (l .loop-test .taken) (r .before .if1 .left) (sym (r .record .ensures) ∙ c .enum-told .given .1)) ∙ l .before .loop .inv
 
-leaf-read : (t : ℕ) → record-lts.Need-returns (in-record t) (record-at t) record.Post
-leaf-read t c = c .leaf .ensures ∙ sym (record-leaf _ _ _ (c .before .if1 .taken))
+  next : OfChildren children-lts.Need-loop-again-2
+  next c =
+      let e = c .before in
+      let r = e .before .before in
+      let l = r .before .before in
+      sym (children-next _ _ _ _ _ (l .loop-test .taken) (r .before .if1 .left) (sym (r .record .ensures) ∙ e .next .given .1)) ∙ l .before .loop .inv
 
-no-mask : (t : ℕ) → record-lts.Need-returns-2 (in-record t) (record-at t) record.Post
-no-mask t c = sym (record-short _ _ _ (omega arith) (c .if2 .taken))
+  none-left : OfChildren children-lts.Need-returns-2
+  none-left c = sym (children-none _ _ _ _ (c .loop-test .left)) ∙ c .before .loop .inv
 
-empty-mask : (t : ℕ) → record-lts.Need-returns-3 (in-record t) (record-at t) record.Post
-empty-mask t c = sym (record-empty _ _ _ (omega arith) (c .before .before .if2 .left) (omega arith))
+  -- ---- a cell's record
 
-children-read : (t : ℕ) → record-lts.Need-returns-4 (in-record t) (record-at t) record.Post
-children-read t c =
-    c .children .ensures ∙ sym (record-children _ _ _ (omega arith) (c .before .before .before .if2 .left) (λ e. omega arith))
+  leaf-read : OfRecord record-lts.Need-returns
+  leaf-read c = c .leaf .ensures ∙ sym (record-leaf _ _ _ (c .before .if1 .taken))
+
+  no-mask : OfRecord record-lts.Need-returns-2
+  no-mask c = sym (record-short _ _ _ (omega arith) (c .if2 .taken))
+
+  empty-mask : OfRecord record-lts.Need-returns-3
+  empty-mask c = sym (record-empty _ _ _ (omega arith) (c .before .before .if2 .left) (omega arith))
+
+  children-read : OfRecord record-lts.Need-returns-4
+  children-read c =
+      c .children .ensures ∙ sym (record-children _ _ _ (omega arith) (c .before .before .before .if2 .left) (λ e. omega arith))
 
 pub +children+record-spec : {M : Type 1} → statement M
 +children+record-spec =
@@ -98,17 +107,19 @@ pub +children+record-spec : {M : Type 1} → statement M
     (in-children t)
     (children-at t)
     children.Post
-    (none-left t)
+    Inv-loop
+    μ-loop
+    (λ c. refl)
     (λ c. search needs)
-    (λ c κs. search needs)
+    (λ c. search needs)
     (skipped t)
     (λ c κs. search needs)
     (λ c. search needs)
     (λ c. search needs)
-    (λ c. search needs)
-    (λ c κs. search needs)
     (broken t)
-    (next t))
+    (λ c. search needs)
+    (next t)
+    (none-left t))
     (λ t. record-lts.spec
     (in-record t)
     (record-at t)

@@ -1,20 +1,36 @@
--- `pack::call::pack_root` meets its contract: the output is too short for what is prepared, or that is written. Assumes nothing.
+-- `pack::call::pack_root` meets its contract: the lists are ordered, then placed and measured, and what is found so is the packed file; the output is too
+-- short for it, or it is written. Assumes nothing.
+use mathlib.Core.Path.{_≡_, _∙_}
 use mathlib.Core.List.{List}
 use Prim.Native.Nat.{ℕ, _+_}
 use native.Mathlib.Omega.{arith}
+use lib.ListN.{length, drop}
 use borrow.Author.Needs.{needs}
-use Rattle.paper.specs.Store.{keptOf}
+use Rattle.paper.specs.Store.{capacityOf, keptOf}
 use Rattle.paper.specs.Pack.{packedFile}
+use Rattle.paper.specs.Calls.{packScratch}
+use Rattle.pack_scratch.specs.Parts.{Lent, Only}
+use Rattle.pack_places.proofs.Runs.{Places}
+use Rattle.pack.specs.Ready.{Ready}
+use Rattle.pack.proofs.Scenes.{capacity-most}
+use Rattle.pack.proofs.Packings.{all-kept, placed-only, ready}
 use Rattle.pack.proofs.Ways.{fitted-short, fitted-whole}
 use Rattle.pack.proofs.call.pack_root.Statement.{statement}
 use Rattle.pack.proofs.call.pack_root.Tie as tie
 
--- the start, what is prepared, and that the output has room
-abbrev start : tie.After-prepare → tie.Start
+-- ---- places: the start, the lists ordered, placed, measured, and that the output has room
+
+abbrev start : tie.After-order-lists → tie.Start
 start c = c .before .before .before .before .before
 
-abbrev prepared : tie.After-slice-known3 → tie.After-prepare
-prepared c = c .before .before
+abbrev ordered : tie.After-place-lists → tie.After-order-lists
+ordered c = c .before .before .before .before
+
+abbrev placed : tie.After-file-length → tie.After-place-lists
+placed c = c .before .before .before
+
+abbrev first : tie.After-file-length → tie.Start
+first c = start (ordered (placed c))
 
 abbrev fits : tie.After-write-prepared → tie.Else1
 fits c = c .before .before .before
@@ -23,30 +39,99 @@ fits c = c .before .before .before
 abbrev file : tie.Start → List ℕ
 file c = packedFile (keptOf (c .args .store .now)) (c .args .top + 2) (c .args .root)
 
+-- ---- ordered
+
+-- scratch so far
+abbrev by-order : tie.After-order-lists → List ℕ
+by-order c = c .order-lists .last .1 .1 .1 .0
+
+lent : (c : tie.After-order-lists) → Lent (capacityOf (start c .args .store .now)) (by-order c)
+lent c =
+    let s = start c in
+    let p = s .pre in
+    record { most = capacity-most (s .args .store .now) (p .0) (s .args .top) (s .args .root) (p .1 .0 .listed) (p .1 .0 .some) (p .1 .0 .sound); long = omega (arith, c .order-lists .ensures .1, p .1 .1 .0) }
+
+place-lists-requires : tie.Need-place-lists-requires
+place-lists-requires c κs =
+    let o = c .before .before .before in
+    let s = start o in
+    let a = s .args in
+    let p = s .pre in (
+      p .0,
+      (
+        record { lent = lent o; list = p .1 .0 .listed },
+        all-kept (a .store .now) (p .0) (a .top) (a .root) (p .1 .0 .listed) (p .1 .0 .some) (p .1 .0 .sound) (o .order-lists .result) (by-order o) (o .order-lists .ensures .0) (lent o),
+      ),
+    )
+
+-- ---- placed
+
+abbrev by-place : tie.After-place-lists → List ℕ
+by-place c = c .place-lists .last .1 .1 .1 .0
+
+only : (c : tie.After-place-lists) → Only (capacityOf (start (ordered c) .args .store .now)) Places (by-order (ordered c)) (by-place c)
+only c =
+    let o = ordered c in
+    let s = start o in
+    let a = s .args in
+    let p = s .pre in
+    placed-only (a .store .now) (p .0) (a .top) (a .root) (p .1 .0 .listed) (p .1 .0 .some) (p .1 .0 .sound) (o .order-lists .result) (by-order o) (o .order-lists .ensures .0) (lent o)
+    (c .place-lists .result) (by-place c) (c .place-lists .ensures)
+
+-- what is behind the words that are used stays
+behind : (c : tie.After-place-lists) → (let s = start (ordered c) .args in
+    (length (by-place c) ≡ length (s .scratch .now)) × (drop (packScratch (capacityOf (s .store .now))) (by-place c) ≡ drop (packScratch (capacityOf (s .store .now))) (s .scratch .now)))
+behind c = let o = ordered c in (only c .long ∙ o .order-lists .ensures .1, only c .rest ∙ o .order-lists .ensures .2)
+
+-- ---- measured
+
+prepared : (c : tie.After-file-length) → (let a = first c .args in
+    Ready (a .store .now) (a .top) (a .root) (ordered (placed c) .order-lists .result) (placed c .place-lists .result) (c .file-length .result) (by-place (placed c)))
+prepared c =
+    let q = placed c in
+    let o = ordered q in
+    let s = start o in
+    let a = s .args in
+    let p = s .pre in
+    ready (a .store .now) (p .0) (a .top) (a .root) (p .1 .0 .listed) (p .1 .0 .some) (p .1 .0 .sound) (o .order-lists .result) (by-order o) (o .order-lists .ensures .0) (lent o)
+    (q .place-lists .result) (by-place q) (q .place-lists .ensures) (c .file-length .result) (c .file-length .ensures)
+
 returns : tie.Need-returns
 returns c =
-    let p = prepared (c .before) in
-    let s = start p in
-    (fitted-short (file s) (s .args .out .now) (omega (arith, p .prepare .ensures .0 .measured, c .if1 .taken)), p .prepare .ensures .1)
+    let m = c .before in
+    let s = first m in
+    (fitted-short (file s) (s .args .out .now) (omega (arith, prepared m .measured, c .if1 .taken)), behind (placed m))
+
+-- ---- written
+
+write-prepared-requires : tie.Need-write-prepared-requires
+write-prepared-requires c κs =
+    let t = c .before .before in
+    let m = t .before in
+    (first m .pre .0, (prepared m, omega (arith, t .if1 .left)))
+
+cast-length : tie.Need-cast-t22
+cast-length c = let m = fits (c .before .before) .before in omega (arith, prepared m .small)
 
 returns-2 : tie.Need-returns-2
 returns-2 c =
     let w = c .before .before in
     let t = fits w in
-    let p = prepared (t .before) in
-    let s = start p in
-    let m = p .prepare .ensures .0 .measured in
-    (fitted-whole (file s) (s .args .out .now) (p .prepare .result .length) (w .write-prepared .last .1 .1 .1 .1 .1 .0) m (w .write-prepared .ensures) (omega (arith, m, t .if1 .left)), p .prepare .ensures .1)
+    let m = t .before in
+    let s = first m in
+    (fitted-whole (file s) (s .args .out .now) (m .file-length .result) (w .write-prepared .last .1 .1 .1 .1 .1 .1 .1 .0) (prepared m .measured) (w .write-prepared .ensures) (omega (arith, prepared m .measured, t .if1 .left)), behind (placed m))
 
 pub pack-root-spec : {M : Type 1} → statement M
 pack-root-spec =
     tie.close
     (tie.spec
     (λ c κs. search needs)
-    (λ c. search needs)
-    returns
+    place-lists-requires
     (λ c κs. search needs)
     (λ c. search needs)
+    returns
+    write-prepared-requires
+    cast-length
     (λ c. search needs)
     (λ c. search needs)
     returns-2)

@@ -18,7 +18,7 @@ use Rattle.pack.proofs.call.write_prepared.Tie as tie
 -- ---- places: the start, the header written, the sizes written
 
 abbrev start : tie.After-tag → tie.Start
-start c = c .before .before .before .before .before .before .before
+start c = c .before .before .before .before .before
 
 abbrev headed : tie.After-write-sizes-arg → tie.After-write-packed-head
 headed c = c .before .before .before
@@ -32,20 +32,20 @@ abbrev file : tie.Start → List ℕ
 file c = packedFile (keptOf (c .args .store .now)) (c .args .top + 2) (c .args .root)
 
 abbrev head : tie.After-tag → List ℕ
-head c = let a = start c .args in headOf (a .prepared .length) (a .top + 2) (c .tag .result)
+head c = let a = start c .args in headOf (a .total) (a .top + 2) (c .tag .result)
 
 abbrev sizes : tie.After-tag → List ℕ
-sizes c = let a = start c .args in sizesIn (a .prepared .sizes) (suc (a .top))
+sizes c = let a = start c .args in sizesIn (a .sizes) (suc (a .top))
 
 abbrev lists : tie.After-tag → List ℕ
 lists c =
     let a = start c .args in
-    bodyIn (keptOf (a .store .now)) (capacityOf (a .store .now)) (a .prepared .counts) (suc (a .top)) (a .scratch .now)
+    bodyIn (keptOf (a .store .now)) (capacityOf (a .store .now)) (a .counts) (suc (a .top)) (a .scratch .now)
 
 whole : (c : tie.After-tag) → file (start c) ≡ head c ++ (sizes c ++ lists c)
 whole c =
     let a = start c .args in
-    sym (ap (λ (t : ℕ). headOf (a .prepared .length) (a .top + 2) t ++ (sizes c ++ lists c)) (c .tag .ensures) ∙ start c .pre .1 .0 .whole)
+    sym (ap (λ (t : ℕ). headOf (a .total) (a .top + 2) t ++ (sizes c ++ lists c)) (c .tag .ensures) ∙ start c .pre .1 .0 .whole)
 
 fits : (c : tie.After-tag) → 0 + length (file (start c)) ≤ length (start c .args .out .now)
 fits c = omega (arith, start c .pre .1 .0 .measured, start c .pre .1 .1)
@@ -58,7 +58,7 @@ write-packed-head-requires c κs =
     let s = start c in
     let a = s .args in
     let room = going-room (begin c) (head c) (sizes c ++ lists c) (whole c) in
-    (omega (arith, room, head-length (a .prepared .length) (a .top + 2) (c .tag .result)), (omega (arith, s .pre .1 .0 .room .list), omega (arith, c .tag .ensures, tag-lt (a .root))))
+    (omega (arith, room, head-length (a .total) (a .top + 2) (c .tag .result)), (omega (arith, s .pre .1 .0 .room .list), omega (arith, c .tag .ensures, tag-lt (a .root))))
 
 -- left to write after the header, and after the sizes
 after-head : (c : tie.After-write-packed-head) → (let t = c .before in let s = start t in Going (sizes t ++ lists t) (c .write-packed-head .result) (c .write-packed-head .last .0) (file s) 0 (s .args .out .now))
