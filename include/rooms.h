@@ -69,7 +69,7 @@ extern "C" {
 #define ROOMS_OK 0u
 #define ROOMS_BAD_SIZE 1u       /* the capacity is not 1 to 65,536, or the words are too few for it */
 #define ROOMS_DAMAGED_STORE 2u  /* the store is damaged where the call looks */
-#define ROOMS_BAD_VERSION 3u    /* the file has no byte, or its first is not 0x11 (outline) or 0x21 (packed) */
+#define ROOMS_BAD_VERSION 3u    /* the file has no byte, or its first is not 0x11 (outline) or 0x22 (packed) */
 #define ROOMS_BAD_LENGTH 4u     /* the file is shorter than its head, or its bytes 1 to 4 don't say its length */
 #define ROOMS_BAD_DEPTH 5u      /* the depth is not 2 to 16 */
 #define ROOMS_BROKEN_RULES 6u   /* the file breaks a rule of its kind that the call tests */

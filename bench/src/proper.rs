@@ -130,7 +130,7 @@ fn inner_list(records: &[Vec<(u32, u32)>]) -> List {
 /// The file of these lists, leaves first, under mirror 0.
 fn packed(lists: &[List]) -> Vec<u8> {
     let length = 7 + lists.iter().map(|list| 4 + list.bytes.len()).sum::<usize>();
-    let mut file = vec![0x21];
+    let mut file = vec![0x22];
     file.extend_from_slice(&(length as u32).to_be_bytes());
     file.extend_from_slice(&[lists.len() as u8 + 1, 0]);
     for (k, list) in lists.iter().enumerate().rev() {

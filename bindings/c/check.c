@@ -430,7 +430,7 @@ static const uint8_t sample[] = {
 
 /* S1: what that room packs to. */
 static const uint8_t sample_packed[] = {
-    0x21, 0, 0, 0, 29, 3, 0,            /* version, length, depth, the root's mirror */
+    0x22, 0, 0, 0, 29, 3, 0,            /* version, length, depth, the root's mirror */
     0, 0, 0, 3, 0, 0, 0, 1,             /* three half-words at height 3, one leaf */
     0x00, 0x05, 0x00, 0x00, 0x20, 0x00, /* children 0 and 1 short; leaf 0, and leaf 0 mirrored in x */
     0, 0, 0, 0, 0, 0, 0, 1,
@@ -444,7 +444,7 @@ static const uint8_t single[] = {
 
 /* The same room packed. A record of one child is a header, code 1 in bits 2i and 2i+1 for child i, and a pointer to place 0. */
 static const uint8_t single_packed[] = {
-    0x21, 0, 0, 0, 43, 5, 0,                        /* version, length, depth, the root's mirror */
+    0x22, 0, 0, 0, 43, 5, 0,                        /* version, length, depth, the root's mirror */
     0, 0, 0, 2, 0, 0, 0, 2, 0, 0, 0, 2, 0, 0, 0, 1, /* two half-words at heights 5, 4 and 3, one leaf */
     0x10, 0x00, 0, 0,                               /* byte 23, height 5: child 6 */
     0x00, 0x04, 0, 0,                               /* byte 27, height 4: child 1 */
@@ -472,7 +472,7 @@ static const uint8_t two_leaves[] = {
 /* S12: an empty scene. */
 static const uint8_t nothing[] = {0x11, 0, 0, 0, 6, 2};
 
-static const uint8_t nothing_packed[] = {0x21, 0, 0, 0, 7, 2, 8};
+static const uint8_t nothing_packed[] = {0x22, 0, 0, 0, 7, 2, 8};
 
 static void put_file(const uint8_t *file, size_t length)
 {
@@ -682,7 +682,7 @@ static void try_add(void)
     refused(whole("store_words", LISTS), ROOMS_DAMAGED_STORE); /* all but the chains */
     refused_word(17, 1, ROOMS_DAMAGED_STORE);
     refused(whole("file_bytes", 0), ROOMS_BAD_VERSION);
-    refused_byte(0, 0x21, ROOMS_BAD_VERSION, 0);
+    refused_byte(0, 0x22, ROOMS_BAD_VERSION, 0);
     refused(whole("file_bytes", sizeof sample - 1), ROOMS_BAD_LENGTH);
     refused_byte(5, 17, ROOMS_BAD_DEPTH, 0);
     refused_byte(6, 0, ROOMS_BROKEN_RULES, 0);
@@ -1064,6 +1064,7 @@ static void try_check(void)
     refused(whole("scratch_bytes", ROOMS_CHECK_SCRATCH_BYTES(length) - 1), ROOMS_SCRATCH_SHORT);
     refused(whole("file_bytes", 0), ROOMS_BAD_VERSION);
     refused_byte(0, 0x11, ROOMS_BAD_VERSION, 0);
+    refused_byte(0, 0x21, ROOMS_BAD_VERSION, 0); /* an older file */
     refused(whole("file_bytes", length - 1), ROOMS_BAD_LENGTH);
     refused_byte(5, 1, ROOMS_BAD_DEPTH, 0);
     refused_byte(35, 0, ROOMS_BROKEN_RULES, length); /* a zero leaf */
@@ -1079,6 +1080,7 @@ static void refused_front(void)
 {
     refused(whole("file_bytes", 0), ROOMS_BAD_VERSION);
     refused_byte(0, 0x11, ROOMS_BAD_VERSION, 0);
+    refused_byte(0, 0x21, ROOMS_BAD_VERSION, 0); /* an older file */
     refused(whole("file_bytes", sizeof single_packed - 1), ROOMS_BAD_LENGTH);
     refused_byte(5, 17, ROOMS_BAD_DEPTH, 0);
     refused_byte(6, 8, ROOMS_BROKEN_RULES, 0);

@@ -9,7 +9,7 @@ fn null_pointers_of_length_0() {
     let words = store.len();
     rooms::new_store(&mut store, 1).unwrap();
     rooms::add(&mut store, &[0x11, 0, 0, 0, 6, 2]).unwrap();
-    let empty_scene = [0x21, 0, 0, 0, 7, 2, 8];
+    let empty_scene = [0x22, 0, 0, 0, 7, 2, 8];
     let (mut a, mut b, mut c, mut d) = (9, 9, 9, 9);
     let store = store.as_mut_ptr();
     let file = empty_scene.as_ptr();

@@ -157,11 +157,11 @@ def packed_file(depth, root, lists):
     heights = range(depth, 1, -1)
     sizes = b"".join(u32(lists[h][0]) for h in heights)
     body = b"".join(lists[h][1] for h in heights)
-    return with_length(b"\x21\0\0\0\0" + bytes([depth, root]) + sizes + body)
+    return with_length(b"\x22\0\0\0\0" + bytes([depth, root]) + sizes + body)
 
 
 S1 = raw(3, b"\x03" + leaf(1) + leaf(8))
-S1_PACKED = bytes.fromhex("210000001D0300" + "00000003" + "00000001" + "0005" + "0000" + "2000" + "0000000000000001")
+S1_PACKED = bytes.fromhex("220000001D0300" + "00000003" + "00000001" + "0005" + "0000" + "2000" + "0000000000000001")
 ROOM_P = raw(3, b"\x03" + leaf(0x8001) + leaf(1))
 ROOM_Q = raw(3, b"\x0c" + leaf(0x1008) + leaf(0x1000))
 
@@ -381,7 +381,7 @@ def adding():
     # broken outlines
     good = outline(4, [(0, 0, 0), (15, 15, 15), (5, 6, 7), (8, 0, 3)])
     script += fresh(9)
-    files = [b"", b"\x11", b"\x12" + good[1:], b"\x21", b"\x11\0\0\0\x05", b"\x11\0\0\0\x06"]
+    files = [b"", b"\x11", b"\x12" + good[1:], b"\x22", b"\x11\0\0\0\x05", b"\x11\0\0\0\x06"]
     files += [raw(1, b""), raw(17, b""), raw(0, b"\x01"), raw(255, b"")]
     files += [good[:-1], with_length(good[:-1]), with_length(good + b"\0"), good + b"\0"]
     files += [raw(2, leaf(0)), raw(2, leaf(1)[:7]), raw(2, leaf(1) + b"\x01")]
@@ -531,7 +531,7 @@ def opening():
     script += load(S1_PACKED) + packed(7, 0, 0) + opened(7, 0, 0) + check(29)
     # byte 6 from 0 to 10 at 7 bytes and at more
     for byte in range(0, 11):
-        file = with_length(b"\x21\0\0\0\0\x05" + bytes([byte]))
+        file = with_length(b"\x22\0\0\0\0\x05" + bytes([byte]))
         script += load(file) + packed(0, 0, 0) + packed(32, 0, 0) + opened(0, 0, 0) + opened(32, 0, 0) + check(7)
         file = with_length(file + b"\0")
         script += load(file) + packed(0, 0, 0) + packed(32, 0, 0) + opened(0, 0, 0) + check(8)
@@ -547,7 +547,7 @@ def opening():
     for a, b in sizes:
         script += load(S1_PACKED[:7] + u32(a, b) + S1_PACKED[15:]) + packed(7, 0, 0) + opened(7, 0, 0) + packed(9, 0, 0) + check(29)
     # short files, lengths, versions, depths; a point outside on a broken file (10 before 6)
-    files = [b"", b"\x21", b"\x11" + S1_PACKED[1:], b"\x22" + S1_PACKED[1:], S1_PACKED[:6], with_length(S1_PACKED[:6])]
+    files = [b"", b"\x22", b"\x11" + S1_PACKED[1:], b"\x21" + S1_PACKED[1:], S1_PACKED[:6], with_length(S1_PACKED[:6])]
     files += [S1_PACKED[:-1], with_length(S1_PACKED[:-1]), S1_PACKED + b"\0", with_length(S1_PACKED + b"\0")]
     files += [with_length(S1_PACKED[:n]) for n in (10, 14, 15)]
     files += [S1_PACKED[:5] + bytes([d]) + S1_PACKED[6:] for d in (0, 1, 2, 4, 16, 17, 255)]
@@ -603,6 +603,13 @@ def rules():
             2: leaves(1, 3),
         },
     )
+    def named(often, twice, all_leaves):
+        """Leaf `often` named eight times by one record, `twice` once by each of two, leaf 2 once."""
+        top = inner(links((0, 1, 0, 0), (1, 1, 0, 9), (2, 1, 0, 11)))
+        eight = links(*[(i, 1, 0, often) for i in range(8)])
+        below = inner(eight, links((0, 1, 0, twice)), links((0, 1, 0, twice), (1, 1, 0, 2)))
+        return packed_file(4, 0, {4: top, 3: below, 2: all_leaves})
+
     files = [
         good,
         four,
@@ -624,16 +631,8 @@ def rules():
         packed_file(3, 2, {3: inner(links((0, 1, 0, 0), (1, 1, 1, 0))), 2: leaves(1)}),
         packed_file(4, 0, {4: over, 3: inner(links((0, 1, 0, 1)), two), 2: leaves(3, 1)}),  # order rises
         packed_file(4, 0, {4: over, 3: inner(one, two), 2: leaves(3, 1)}),
-        # named eight times by one: counts once
-        packed_file(
-            4,
-            0,
-            {
-                4: inner(links((0, 1, 0, 0), (1, 1, 0, 9))),
-                3: inner(links(*[(i, 1, 0, 0) for i in range(8)]), links((0, 1, 0, 1))),
-                2: leaves(3, 1),
-            },
-        ),
+        named(0, 1, leaves(7, 1, 3)),  # eight times by one record, once by each of two
+        named(1, 0, leaves(1, 7, 3)),  # order rises
         packed_file(2, 1, {2: leaves(0x8001)}),
         packed_file(2, 3, {2: leaves(0x8001)}),
         packed_file(2, 0, {2: leaves(0x8001)}),

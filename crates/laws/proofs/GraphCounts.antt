@@ -1,23 +1,23 @@
 -- A graph under one root whose records below the top are all named: each occurs in the root's room, mirrored as the way to it says. So where lists
 -- are as they should be, the records of a height are the differing cells of that room. By going down from the root. Assumes nothing.
 use mathlib.Core.Path.{_≡_, refl, sym, subst, ap}
-use mathlib.Core.Bool.{Bool, true, false, false≢true, cond}
+use mathlib.Core.Bool.{false}
 use mathlib.Core.List.{List, [], _∷_}
 use mathlib.Core.Logic.{inr}
 use Prim.Native.Nat.{ℕ, zero, suc, _+_, _-_, _^_, _<_, _≤_}
 use native.Mathlib.Nat.{not-suc-le-zero}
 use native.Mathlib.Decide.{decLt}
 use native.Mathlib.Omega.{arith}
-use borrow.Author.Tests.{eqb-true, eqb-false, ne-eqb}
+use borrow.Author.Tests.{ne-eqb}
 use lib.Bits.{bitXor}
 use lib.Dec.{T, eqb, ltb, ltb→lt, lit<}
-use lib.ListN.{length, getD, List·getD-eq-default}
+use lib.ListN.{length, getD}
 use Rattle.paper.specs.Rooms.{Room, Inside, cellOf, childRoom, Same, Image, NonEmpty}
 use Rattle.paper.specs.Outline.{edge}
 use Rattle.paper.specs.Store.{Cell, tagOf, cellNo, cellsAt, cellAt}
 use Rattle.paper.specs.Meaning.{cellVoxel}
-use Rattle.paper.specs.Packed.{names, weight, popularity, namedOk}
-use Rattle.laws.proofs.Weights.{weight-named}
+use Rattle.paper.specs.Packed.{weight, popularity, namedOk}
+use Rattle.laws.proofs.Weights.{Naming, weight-named}
 use Rattle.paper.specs.Runs.{alone, Occurs, Number}
 use Rattle.laws.proofs.Tests.{all-at}
 use Rattle.laws.proofs.Eight.{xor8-lt, xor8-back}
@@ -40,22 +40,9 @@ record NamedBy (cs : List Cell) (q : ℕ) : Type 0 where
   cell : ℕ
   is-cell : cell < length cs
   child : ℕ
+  eight : child < 8
   some : getD (getD cs cell []) child 0 ≡ 0 → ⊥
   is : cellNo (getD (getD cs cell []) child 0) ≡ q
-
-abbrev Names : ℕ → Cell → Type 0
-Names q c = (i : ℕ) × (getD c i 0 ≡ 0 → ⊥) × (cellNo (getD c i 0) ≡ q)
-
-names-some : (q : ℕ) (c : Cell) → names q c ≡ true → Names q c
-unfolding names
-names-some q [] e = absurd (false≢true e)
-names-some q (p ∷ c) e = go (eqb p 0) refl (eqb (cellNo p) q) refl e (names-some q c)
-  where
-    go : (a : Bool) → eqb p 0 ≡ a → (b : Bool) → eqb (cellNo p) q ≡ b → cond a (names q c) (cond b true (names q c)) ≡ true
-        → (names q c ≡ true → Names q c) → Names q (p ∷ c)
-    go true ea b eb h ih = let w : Names q c = ih h in (suc (w .0), w .1, w .2)
-    go false ea true eb h ih = (0, eqb-false p 0 ea, eqb-true (cellNo p) q eb)
-    go false ea false eb h ih = let w : Names q c = ih h in (suc (w .0), w .1, w .2)
 
 named-by : (cs : List Cell) (q : ℕ) → 0 < popularity cs q → NamedBy cs q
 unfolding popularity
@@ -63,10 +50,12 @@ named-by [] q h = absurd (not-suc-le-zero h)
 named-by (c ∷ cs) q h = go (decLt 0 (weight q c)) (named-by cs q)
   where
     go : Dec (0 < weight q c) → (0 < popularity cs q → NamedBy cs q) → NamedBy (c ∷ cs) q
-    go (yes l) ih = let w : Names q c = names-some q c (weight-named q c l) in record { cell = 0; is-cell = omega arith; child = w .0; some = w .1; is = w .2 }
+    go (yes l) ih =
+        let w : Naming q c = weight-named q c l in
+        record { cell = 0; is-cell = omega arith; child = w .child; eight = w .eight; some = w .some; is = w .is }
     go (no n) ih =
         let w : NamedBy cs q = ih (omega (arith, h)) in
-        record { cell = suc (w .cell); is-cell = omega (arith, w .is-cell); child = w .child; some = w .some; is = w .is }
+        record { cell = suc (w .cell); is-cell = omega (arith, w .is-cell); child = w .child; eight = w .eight; some = w .some; is = w .is }
 
 -- ---- the graph K under its record 0 of list k, seen under m
 
@@ -109,11 +98,7 @@ module _ (K : List (List Cell)) (k m : ℕ) (room : Room) (hm : m < 8) (one : le
       ht = up n .is-mirror
 
       hi : i < 8
-      hi = go (decLt i 8)
-        where
-          go : Dec (i < 8) → i < 8
-          go (yes h) = h
-          go (no h) = absurd (by .some (List·getD-eq-default c 0 {n = i} (omega (arith, invs (suc j) .shape n (by .is-cell) .0))))
+      hi = by .eight
 
       back : bitXor (bitXor i t) t ≡ i
       back = xor8-back i t hi ht

@@ -118,7 +118,7 @@ module _ (K : List (List Cell)) (s : Packable K) (k p : ℕ) (hp : Names (length
 
   -- ---- the rules of the order
 
-  -- as many records name it as cells named the kept cell
+  -- as many pointers name it as named the kept cell
   graph-popularity : (j : ℕ) → j < k → (q : ℕ) → q < length (N j) → popularity (cellsAt G (suc j)) q ≡ used j (getD (N j) q 0)
   graph-popularity = renumbered-popularity graph-renumbered
 

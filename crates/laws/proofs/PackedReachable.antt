@@ -1,19 +1,18 @@
 -- Which cells packing lays out: those that a reached cell names are reached, each once, by popularity. By induction from the root down, with the
 -- laws of the order. Assumes nothing.
 use mathlib.Core.Path.{_≡_, refl, sym, _∙_, subst, ap}
-use mathlib.Core.Bool.{Bool, true, false, cond}
 use mathlib.Core.List.{List, [], _∷_, map}
 use mathlib.Core.Logic.{_⊎_, inl, inr}
-use Prim.Native.Nat.{ℕ, zero, suc, _+_, _*_, _<_, _≤_}
+use Prim.Native.Nat.{ℕ, zero, suc, _*_, _<_, _≤_}
 use native.Mathlib.Nat.{le-of-suc-le-suc, not-suc-le-zero, eq-or-lt-of-le}
 use native.Mathlib.Decide.{decLt}
 use native.Mathlib.Omega.{arith}
 use borrow.Author.Tests.{eq-eqb, ne-eqb}
-use lib.Dec.{T, eqb}
+use lib.Dec.{T}
 use lib.ListN.{length, getD, length-map, List·getD-eq-default}
 use Rattle.paper.specs.Numbers.{isIn}
 use Rattle.paper.specs.Store.{Cell, mostCapacity, cellNo, cellsAt, cellAt}
-use Rattle.paper.specs.Packed.{names, mostWeight, popularity}
+use Rattle.paper.specs.Packed.{weight, mostWeight, popularity}
 use Rattle.paper.specs.Pack.{ordered, next, reachable}
 use Rattle.laws.proofs.Lists.{map-at, isIn-at, Once}
 use Rattle.laws.proofs.Weights.{weight-pos, weight-le}
@@ -23,24 +22,10 @@ use Rattle.laws.proofs.PackedOrder.{Every, Pairs, every-at, Before, Cou
 
 -- ---- which cells are named
 
-pub names-at : (c : Cell) (i : ℕ) → (getD c i 0 ≡ 0 → ⊥) → names (cellNo (getD c i 0)) c ≡ true
-unfolding names
-names-at [] i n = absurd (n refl)
-names-at (p ∷ c) zero n = rw (ne-eqb p 0 n, eq-eqb (cellNo p) (cellNo p) refl)
-names-at (p ∷ c) (suc i) n = go (eqb p 0) (eqb (cellNo p) (cellNo (getD c i 0))) (names-at c i n)
-  where
-    q : ℕ
-    q = cellNo (getD c i 0)
-
-    go : (a b : Bool) → names q c ≡ true → cond a (names q c) (cond b true (names q c)) ≡ true
-    go true b e = e
-    go false true e = refl
-    go false false e = e
-
-pub popularity-pos : (cs : List Cell) (i q : ℕ) → i < length cs → names q (getD cs i []) ≡ true → 1 ≤ popularity cs q
+pub popularity-pos : (cs : List Cell) (i q : ℕ) → i < length cs → 0 < weight q (getD cs i []) → 1 ≤ popularity cs q
 unfolding popularity
 popularity-pos [] i q h e = absurd (not-suc-le-zero h)
-popularity-pos (c ∷ cs) zero q h e = omega (arith, weight-pos q c e)
+popularity-pos (c ∷ cs) zero q h e = omega arith
 popularity-pos (c ∷ cs) (suc i) q h e = omega (arith, popularity-pos cs i q (le-of-suc-le-suc h) e)
 
 pub popularity-le : (cs : List Cell) (q : ℕ) → popularity cs q ≤ mostWeight * length cs
@@ -108,17 +93,19 @@ numbers K k p = reachable K k (cellNo p ∷ [])
 abbrev pub keptAt : List (List Cell) → ℕ → ℕ → ℕ → ℕ → Cell
 keptAt K k p j n = cellAt K j (getD (numbers K k p j) n 0)
 
--- how many of the graph's cells one height up name a number
+-- how many pointers of the graph's cells one height up name a number
 abbrev pub uses : List (List Cell) → ℕ → ℕ → ℕ → ℕ → ℕ
 uses K k p j = popularity (map (cellAt K (suc j)) (numbers K k p (suc j)))
 
 pub N-top : (K : List (List Cell)) (k p : ℕ) → numbers K k p k ≡ cellNo p ∷ []
 N-top K k p = reachable-top K k (cellNo p ∷ [])
 
--- where every pointer of a kept cell names one of the list below, or none, each list's numbers are kept ones, none twice, and every cell that a
--- reached one names is reached
+-- where a kept cell has eight pointers and each names one of the list below, or none, each list's numbers are kept ones, none twice, and every
+-- cell that a reached one names is reached
 abbrev pub Pointing : List (List Cell) → ℕ → Type 0
-Pointing K k = (j : ℕ) → j < k → (q : ℕ) → q < length (cellsAt K (suc j)) → (i : ℕ) → OkPointer (length (cellsAt K j)) (getD (cellAt K (suc j) q) i 0)
+Pointing K k =
+    (j : ℕ) → j < k → (q : ℕ) → q < length (cellsAt K (suc j))
+    → (length (cellAt K (suc j) q) ≡ 8) × ((i : ℕ) → i < 8 → OkPointer (length (cellsAt K j)) (getD (cellAt K (suc j) q) i 0))
 
 module _ (K : List (List Cell)) (k p : ℕ) where
   abbrev N : ℕ → List ℕ
@@ -150,21 +137,27 @@ module _ (K : List (List Cell)) (k p : ℕ) where
         go (inr l) = subst (Chosen (length (cellsAt K j))) (sym (N-next j l)) (chosen-ordered (used j) (mostWeight * length (N (suc j))) (length (cellsAt K j)))
 
     pub listed : Pointing K k → (j : ℕ) → j < k → (n : ℕ) → n < length (N (suc j)) → (i : ℕ) → InList (N j) (getD (keptAt K k p (suc j) n) i 0)
-    listed ok j h n m i = go (ok j h (getD (N (suc j)) n 0) (chosen (suc j) h .below n m) i)
+    listed ok j h n m i = elim (decLt i 8) [ yes l ↦ go l (points .1 i l) | no l ↦ inl (List·getD-eq-default c 0 (omega (arith, points .0))) ]
       where
-        r : ℕ
-        r = getD (keptAt K k p (suc j) n) i 0
+        c : Cell
+        c = keptAt K k p (suc j) n
 
-        go : OkPointer (length (cellsAt K j)) r → InList (N j) r
-        go (inl e) = inl e
-        go (inr w) =
+        r : ℕ
+        r = getD c i 0
+
+        points : (length c ≡ 8) × ((i : ℕ) → i < 8 → OkPointer (length (cellsAt K j)) (getD c i 0))
+        points = ok j h (getD (N (suc j)) n 0) (chosen (suc j) h .below n m)
+
+        go : i < 8 → OkPointer (length (cellsAt K j)) r → InList (N j) r
+        go l (inl e) = inl e
+        go l (inr w) =
             let some : r ≡ 0 → ⊥ = λ e. omega arith in
             let cs : List Cell = map (cellAt K (suc j)) (N (suc j)) in
-            let is : getD cs n [] ≡ keptAt K k p (suc j) n = map-at (cellAt K (suc j)) (N (suc j)) n 0 [] m in
+            let is : getD cs n [] ≡ c = map-at (cellAt K (suc j)) (N (suc j)) n 0 [] m in
             let count : Counted (used j) (mostWeight * length (N (suc j))) (length (cellsAt K j)) (cellNo r) =
             record {
               below = omega arith;
-              some = popularity-pos cs n (cellNo r) (omega (arith, length-map (N (suc j)) (cellAt K (suc j)))) (ap (names (cellNo r)) is ∙ names-at (keptAt K k p (suc j) n) i some);
+              some = popularity-pos cs n (cellNo r) (omega (arith, length-map (N (suc j)) (cellAt K (suc j)))) (rw is (weight-pos c i l some));
               most = omega (arith, popularity-le cs (cellNo r), length-map (N (suc j)) (cellAt K (suc j)));
             } in
             inr (record {
@@ -181,11 +174,7 @@ module _ (K : List (List Cell)) (s : Packable K) (k p : ℕ) (hp : Names (length
   N-few j h = omega (arith, N-chosen j h .len, s .few j)
 
   pointing : Pointing K k
-  pointing j h q l i = go (decLt i 8)
-    where
-      go : Dec (i < 8) → OkPointer (length (cellsAt K j)) (getD (cellAt K (suc j) q) i 0)
-      go (yes m) = s .invs (suc j) .ok q l i m
-      go (no n) = inl (List·getD-eq-default (cellAt K (suc j) q) 0 (omega (arith, s .invs (suc j) .shape q l .0)))
+  pointing j h q l = (s .invs (suc j) .shape q l .0, s .invs (suc j) .ok q l)
 
   pub all-listed : (j : ℕ) → j < k → (n : ℕ) → n < length (numbers K k p (suc j)) → (i : ℕ) → InList (numbers K k p j) (getD (keptAt K k p (suc j) n) i 0)
   all-listed = listed K k p (omega arith) pointing

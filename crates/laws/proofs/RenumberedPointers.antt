@@ -1,7 +1,7 @@
 -- A pointer renumbered: it follows its cell to the number that the cell has among some cells in some order. It names the same cell under the same
 -- tag, matches as before, and counts as before for popularity. From the number at which a cell stands. Assumes nothing.
 use mathlib.Core.Path.{_≡_, refl, sym, _∙_, ap, ap₂}
-use mathlib.Core.Bool.{Bool, true, cond}
+use mathlib.Core.Bool.{Bool}
 use mathlib.Core.List.{List, [], _∷_, map}
 use mathlib.Core.Logic.{_⊎_, inl, inr}
 use Prim.Native.Nat.{ℕ, suc, _+_, _^_, _<_, _≤_}
@@ -10,13 +10,14 @@ use native.Mathlib.Omega.{arith}
 use borrow.Author.Tests.{eq-eqb, ne-eqb}
 use lib.Bits.{bitXor}
 use lib.Dec.{eqb}
-use lib.ListN.{length, getD}
-use Rattle.paper.specs.Numbers.{indexIn}
+use lib.ListN.{length, getD, List·getD-map}
+use Rattle.paper.specs.Numbers.{bitFor, indexIn}
 use Rattle.paper.specs.Store.{Cell, mostCapacity, cellNo, tagOf, pointer}
 use Rattle.paper.specs.Match.{pointerMatch}
 use Rattle.paper.specs.Packed.{names, weight, popularity}
 use Rattle.paper.specs.Pack.{renumber}
 use Rattle.laws.proofs.Lists.{At, isIn-at, isIn-getD, Once, index-getD}
+use Rattle.laws.proofs.Sums.{sum-same}
 use Rattle.laws.proofs.Matching.{tag-lt}
 use Rattle.laws.proofs.Invariant.{OkPointer}
 use Rattle.laws.proofs.Adding.{pointer-cell, pointer-tag, pointer-names}
@@ -92,27 +93,22 @@ module _ (ns : List ℕ) (few : length ns ≤ mostCapacity) where
         same-number ns (cellNo p) (cellNo q) (hp .at) (hq .at),
       )
 
-  -- as many cells name number q as named the cell that has it
+  -- as many pointers name number q as named the cell that has it
   module _ (once : Once ns) (q : ℕ) (hq : q < length ns) where
     same-name : (r : ℕ) → Listed ns r → eqb (indexIn (cellNo r) ns) q ≡ eqb (cellNo r) (getD ns q 0)
     same-name r h =
         ap (eqb (indexIn (cellNo r) ns)) (sym (index-getD ns once q hq))
         ∙ same-number ns (cellNo r) (getD ns q 0) (h .at) (isIn-at (getD ns q 0) ns (isIn-getD ns q hq))
 
-    names-same : (c : Cell) → ((i : ℕ) → InList ns (getD c i 0)) → names q (map (renumber ns) c) ≡ names (getD ns q 0) c
-    unfolding names
-    names-same [] h = refl
-    names-same (r ∷ c) h = go (h 0) (names-same c (λ i. h (suc i)))
-      where
-        go : InList ns r → names q (map (renumber ns) c) ≡ names (getD ns q 0) c
-            → cond (eqb (renumber ns r) 0) (names q (map (renumber ns) c)) (cond (eqb (cellNo (renumber ns r)) q) true (names q (map (renumber ns) c)))
-            ≡ cond (eqb r 0) (names (getD ns q 0) c) (cond (eqb (cellNo r) (getD ns q 0)) true (names (getD ns q 0) c))
-        go (inl e) ih = rw (none-renumbered ns r e, eq-eqb r 0 e) ih
-        go (inr w) ih = rw (ne-eqb (renumber ns r) 0 (listed-some ns r w), ne-eqb r 0 (w .some), listed-cell r w, same-name r w, ih)
+    names-same : (r : ℕ) → InList ns r → names q (renumber ns r) ≡ names (getD ns q 0) r
+    names-same r (inl e) = rw (none-renumbered ns r e, eq-eqb r 0 e)
+    names-same r (inr w) = rw (ne-eqb (renumber ns r) 0 (listed-some ns r w), ne-eqb r 0 (w .some), listed-cell r w) (same-name r w)
 
     weight-same : (c : Cell) → ((i : ℕ) → InList ns (getD c i 0)) → weight q (map (renumber ns) c) ≡ weight (getD ns q 0) c
-    unfolding weight
-    weight-same c h = ap (λ (b : Bool). cond b 1 0) (names-same c h)
+    unfolding weight renumber
+    weight-same c h =
+        sum-same 8 (λ i. bitFor (names q (getD (map (renumber ns) c) i 0))) (λ i. bitFor (names (getD ns q 0) (getD c i 0)))
+        (λ i m. ap (λ (r : ℕ). bitFor (names q r)) (List·getD-map (renumber ns) c i 0) ∙ ap bitFor (names-same (getD c i 0) (h i)))
 
     pub popularity-same : (g : ℕ → Cell) (ms : List ℕ) → ((n : ℕ) → n < length ms → (i : ℕ) → InList ns (getD (g (getD ms n 0)) i 0))
         → popularity (map (λ m. map (renumber ns) (g m)) ms) q ≡ popularity (map g ms) (getD ns q 0)

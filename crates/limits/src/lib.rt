@@ -19,7 +19,7 @@ pub const OUTLINE_VERSION: u8 = 0x11;
 
 pub const OUTLINE_HEAD: usize = 6;
 
-pub const PACKED_VERSION: u8 = 0x21;
+pub const PACKED_VERSION: u8 = 0x22;
 
 pub const PACKED_HEAD: usize = 7;
 

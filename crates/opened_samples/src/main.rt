@@ -34,7 +34,7 @@ fn sample(file: &[u8], x: u32, y: u32, z: u32) {
 
 // S1's packed room.
 const ROOM: [u8; 29] = [
-    0x21,
+    0x22,
     0,
     0,
     0,
@@ -98,13 +98,14 @@ fn beside(depth: u32, top: u32, leaves: u32, other: u32) {
 fn main() {
     room();
     // an empty scene, whole and one byte too long
-    sample(&[0x21, 0, 0, 0, 7, 2, 8], 3, 3, 3);
-    sample(&[0x21, 0, 0, 0, 8, 2, 8, 0], 3, 3, 3);
+    sample(&[0x22, 0, 0, 0, 7, 2, 8], 3, 3, 3);
+    sample(&[0x22, 0, 0, 0, 8, 2, 8, 0], 3, 3, 3);
     // nothing, and less than a head
     sample(&[], 0, 0, 0);
-    sample(&[0x21, 0, 0, 0, 6, 2], 0, 0, 0);
-    // version byte, length, depth, byte 6, a size, a header with code 3, a leaf that is zero
+    sample(&[0x22, 0, 0, 0, 6, 2], 0, 0, 0);
+    // version byte, that of older files too, length, depth, byte 6, a size, a header with code 3, a leaf that is zero
     changed(0, 0x11);
+    changed(0, 0x21);
     changed(4, 0x1C);
     changed(5, 17);
     changed(6, 9);

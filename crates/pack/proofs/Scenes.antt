@@ -3,14 +3,12 @@
 use mathlib.Core.Path.{_≡_, refl, sym, ap, ap₂, subst, _∙_}
 use mathlib.Core.Bool.{false}
 use mathlib.Core.List.{List, [], _∷_, _++_, map}
-use mathlib.Core.Logic.{inl}
 use Prim.Native.Nat.{ℕ, zero, suc, _+_, _*_, _<_, _≤_}
 use native.Mathlib.Nat.{zero-add}
-use native.Mathlib.Decide.{decLt}
 use native.Mathlib.Omega.{arith}
 use borrow.Author.Tests.{ne-eqb}
 use lib.Dec.{T}
-use lib.ListN.{length, getD, take, length-append, length-map, List·getD-eq-default}
+use lib.ListN.{length, getD, take, length-append, length-map}
 use lib.Seq.{length-take-le}
 use Rattle.paper.specs.Numbers.{bytes, flatten}
 use Rattle.paper.specs.Store.{Cell, heights, mostCapacity, capacityOf, keptCount, keptOf, cellsAt, cellAt, cellNo, badPointer, storeOk}
@@ -101,19 +99,14 @@ module _ (ws : List ℕ) (ok : T (storeOk ws)) (top p : ℕ) (hk : top < heights
   kept-few j h = header ws (store-header ws ok) .counts j h
 
   pointing : Pointing K top
-  pointing j h q l i = go (decLt i 8)
-    where
-      c : Cell
-      c = cellAt K (suc j) q
-
-      hq : q < keptCount ws (suc j)
-      hq = subst (λ (n : ℕ). q < n) (kept-length ws (suc j) (omega arith)) l
-
-      go : Dec (i < 8) → OkPointer (length (cellsAt K j)) (getD c i 0)
-      go (yes m) =
-          subst (λ (n : ℕ). OkPointer n (getD c i 0)) (sym (kept-length ws j (omega arith)))
-          (not-bad-ok (keptCount ws j) (getD c i 0) (none-at 8 (λ i. badPointer (keptCount ws j) (getD c i 0)) (cell-sound ws ok j q (omega arith) hq) i m))
-      go (no n) = inl (List·getD-eq-default c 0 (omega (arith, cell-eight ws (store-header ws ok) j q (omega arith) hq)))
+  pointing j h q l =
+      let c : Cell = cellAt K (suc j) q in
+      let hq : q < keptCount ws (suc j) = subst (λ (n : ℕ). q < n) (kept-length ws (suc j) (omega arith)) l in (
+        cell-eight ws (store-header ws ok) j q (omega arith) hq,
+        λ i m.
+            subst (λ (n : ℕ). OkPointer n (getD c i 0)) (sym (kept-length ws j (omega arith)))
+            (not-bad-ok (keptCount ws j) (getD c i 0) (none-at 8 (λ i. badPointer (keptCount ws j) (getD c i 0)) (cell-sound ws ok j q (omega arith) hq) i m)),
+      )
 
   root : cellNo p < length (cellsAt K top)
   root = rw (kept-length ws top hk) (names-kept (keptCount ws top) p fine (ne-eqb p 0 some))

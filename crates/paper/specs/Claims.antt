@@ -225,7 +225,7 @@ pub record C9 : Type 0 where
   pub compared : (h : ℕ) (f d : Float) → h ≤ deepest → T (fits binary64 f) → T (factorOk f) → T (distanceOk d)
       → le (doubled h f) d ≡ reaches (num f) (den f) d h
 
--- ---- C10, samples: S1 to S12, one list
+-- ---- C10, samples: S1 to S12 and that of document 02, request 4, one list
 
 abbrev pub C10 : Type 0
 C10 = allIn holds samples ≡ true

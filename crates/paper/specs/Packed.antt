@@ -9,7 +9,7 @@ use Prim.Native.Nat.{ℕ, zero, suc, _+_, _-_, _*_, _/_, _%_, _^_}
 use lib.Dec.{eqb, leb, ltb}
 use lib.Bits.{bitXor}
 use lib.ListN.{length, take, drop, getD, replicate}
-use Rattle.paper.specs.Numbers.{allBelow, num, count, tabulate, allIn, isIn, indexIn}
+use Rattle.paper.specs.Numbers.{allBelow, sum, bitFor, num, count, tabulate, allIn, isIn, indexIn}
 use Rattle.paper.specs.Rooms.{Point, Room, mirror, depthOk}
 use Rattle.paper.specs.Outline.{fileDepth, versionOk, lengthOk}
 use Rattle.paper.specs.Store.{Cell, heights, cellsAt, cellAt, leafNo, tagOf, cellNo, pointer}
@@ -20,9 +20,9 @@ use Rattle.paper.specs.Questions.{graphReading}
 
 -- ---- the head
 
--- the version byte ('Byte 0')
+-- the version byte ('Byte 0'; document 02, request 4: 'at the front')
 abbrev pub packedVersion : ℕ
-packedVersion = 0x21
+packedVersion = 0x22
 
 -- the bytes before the sizes: version byte, length, depth, the root's mirror
 abbrev pub packedHead : ℕ
@@ -164,19 +164,19 @@ packedPointerOk ps l = cond (eqb (l .code) 0) true (isIn (l .place) ps && eqb (l
 unfoldable pub packedPointersOk : List ℕ → ℕ → Bool
 packedPointersOk bs k = allIn (λ p. allIn (packedPointerOk (placesAt bs k)) (pointersAt (listAt bs (suc k)) p)) (placesAt bs (suc k))
 
--- does the cell name number q
-unfoldable pub names : ℕ → Cell → Bool
-names q [] = false
-names q (p ∷ ps) = let r = names q ps in cond (eqb p 0) r (cond (eqb (cellNo p) q) true r)
+-- does a pointer name number q
+abbrev pub names : ℕ → ℕ → Bool
+names q p = not (eqb p 0) && eqb (cellNo p) q
 
--- what one record counts towards the popularity of number q: 1 where it names q, however often, and the most that it can count
+-- what one record counts towards the popularity of number q (document 02, request 4, 'every pointer'): how many of its eight pointers name q, and
+-- the most that it can count
 unfoldable pub weight : ℕ → Cell → ℕ
-weight q c = cond (names q c) 1 0
+weight q c = sum 8 (λ i. bitFor (names q (getD c i 0)))
 
 abbrev pub mostWeight : ℕ
-mostWeight = 1
+mostWeight = 8
 
--- how popular number q is ('one height up'): how many of these records name it, each counted once, however many pointers to it it has
+-- how popular number q is ('one height up'): how many pointers of these records name it
 unfoldable pub popularity : List Cell → ℕ → ℕ
 popularity [] q = 0
 popularity (c ∷ cs) q = weight q c + popularity cs q

@@ -1,12 +1,13 @@
--- Document 01, 'Samples': S1 to S12 as one list, each computed by the outcome functions on words and bytes. A sample is what is got beside what
--- document 01 says, the heights of emptiness by document 02, request 2. Definitions only: the claim that all hold is C10.
+-- Document 01, 'Samples': S1 to S12 as one list, and the order of document 02, request 4, each computed by the outcome functions on words and
+-- bytes. A sample is what is got beside what document 01 says, the heights of emptiness by document 02, request 2, the version byte by request 4.
+-- Definitions only: the claim that all hold is C10.
 use mathlib.Core.Bool.{Bool, false, cond, not}
 use mathlib.Core.List.{List, [], _∷_, _++_}
 use Prim.Native.Nat.{ℕ, _+_, _*_, _%_}
 use lib.IntN.{pos, negsuc}
 use lib.Ieee.{Float, fin}
-use lib.ListN.{take, getD}
-use Rattle.paper.specs.Numbers.{tabulate, bitFor, sameList}
+use lib.ListN.{take, drop, getD, replicate}
+use Rattle.paper.specs.Numbers.{flatten, tabulate, bitFor, sameList}
 use Rattle.paper.specs.Rooms.{point, Room, mirrored, boxCount}
 use Rattle.paper.specs.Outline.{fileRoom}
 use Rattle.paper.specs.Store.{used, tagOf, sceneDepth, sceneRoot}
@@ -58,6 +59,15 @@ roomQ = 0x11 ∷ 0 ∷ 0 ∷ 0 ∷ 0x17 ∷ 3 ∷ 0x0C ∷ 0 ∷ 0 ∷ 0 ∷ 0 �
 abbrev pub emptyRoom : List ℕ
 emptyRoom = 0x11 ∷ 0 ∷ 0 ∷ 0 ∷ 6 ∷ 2 ∷ []
 
+-- a leaf's record with one byte that isn't zero
+abbrev pub smallLeaf : ℕ → List ℕ
+smallLeaf b = 0 ∷ 0 ∷ 0 ∷ 0 ∷ 0 ∷ 0 ∷ 0 ∷ b ∷ []
+
+-- a room of depth 4: a cell with leaf 1, one with leaves 1 and 3, one with leaf 7 eight times
+abbrev pub boltRoom : List ℕ
+boltRoom =
+    0x11 ∷ 0 ∷ 0 ∷ 0 ∷ 0x62 ∷ 4 ∷ 0x07 ∷ 0x01 ∷ smallLeaf 1 ++ (0x03 ∷ smallLeaf 1 ++ (smallLeaf 3 ++ (0xFF ∷ flatten (replicate 8 (smallLeaf 7)))))
+
 -- the voxels at which two rooms of edge 8 differ
 unfoldable pub differing : Room → Room → ℕ
 differing a b = boxCount 8 (λ v. cond (a v) (not (b v)) (b v)) (point 0 0 0) (point 8 8 8)
@@ -86,7 +96,7 @@ ownMirror t = bitFor (matches [] 0 (leafCell 0x8001) (leafCell 0x8001) t)
 abbrev pub s1 : Outcome → List ℕ → List Sample
 s1 roomPacked packed =
     answer roomPacked is (0 ∷ 29 ∷ [])
-    ∷ packed is (0x21 ∷ 0 ∷ 0 ∷ 0 ∷ 0x1D ∷ 3 ∷ 0 ∷ 0 ∷ 0 ∷ 0 ∷ 3 ∷ 0 ∷ 0 ∷ 0 ∷ 1 ∷ 0 ∷ 5 ∷ 0 ∷ 0 ∷ 0x20 ∷ 0 ∷ 0 ∷ 0 ∷ 0 ∷ 0 ∷ 0 ∷ 0 ∷ 0 ∷ 1 ∷ [])
+    ∷ packed is (0x22 ∷ 0 ∷ 0 ∷ 0 ∷ 0x1D ∷ 3 ∷ 0 ∷ 0 ∷ 0 ∷ 0 ∷ 3 ∷ 0 ∷ 0 ∷ 0 ∷ 1 ∷ 0 ∷ 5 ∷ 0 ∷ 0 ∷ 0x20 ∷ 0 ∷ 0 ∷ 0 ∷ 0 ∷ 0 ∷ 0 ∷ 0 ∷ 0 ∷ 1 ∷ [])
     ∷ []
 
 -- of those bytes
@@ -142,6 +152,13 @@ s12 first ws =
     ∷ answer (voxelOutcome ws 0 (point 3 3 3)) is (0 ∷ 0 ∷ 2 ∷ [])
     ∷ []
 
+-- document 02, request 4: of the leaves, the one that one record names eight times comes before the one that two records name once each
+abbrev pub bolts : Outcome → List Sample
+bolts packed =
+    answer packed is (0 ∷ 79 ∷ [])
+    ∷ drop 55 (slice packed 1) is (smallLeaf 7 ++ (smallLeaf 1 ++ smallLeaf 3))
+    ∷ []
+
 unfoldable pub samples : List Sample
 samples =
     let one : List ℕ = newStore 1 in
@@ -154,4 +171,6 @@ samples =
     let first : Outcome = addOutcome four roomP in
     let second : Outcome = addOutcome (slice first 0) roomQ in
     let third : Outcome = addOutcome one emptyRoom in
-    s1 roomPacked packed ++ (s2-s5 packed ++ (s6 roomStore ++ (s7 ++ (s8 first second (slice second 0) ++ (s9 one two ++ (s10-s11 ++ s12 third (slice third 0)))))))
+    let boltsPacked : Outcome = packOutcome (slice (addOutcome four boltRoom) 0) 0 (noise (packScratch 4)) (noise 79) in
+    s1 roomPacked packed
+    ++ (s2-s5 packed ++ (s6 roomStore ++ (s7 ++ (s8 first second (slice second 0) ++ (s9 one two ++ (s10-s11 ++ (s12 third (slice third 0) ++ bolts boltsPacked)))))))

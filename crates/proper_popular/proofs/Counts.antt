@@ -1,28 +1,27 @@
--- The counters of a list once the records one list up are counted: at each start, how many of those name it. A counter has four bytes and starts lie
--- four bytes apart or more, so counting at one leaves the others; there are fewer records than a counter can hold, so none wraps. By induction along
--- the pointers of a record and along the records. Assumes nothing.
-use mathlib.Core.Path.{_≡_, refl, sym, _∙_, ap, subst}
+-- The counters of a list once the pointers one list up are counted: at each start, how many of those name it. A counter has four bytes and starts
+-- lie four bytes apart or more, so counting at one leaves the others; a pointer takes two bytes, so there are fewer than a counter can hold, and none
+-- wraps. By induction along the pointers of a record and along the records. Assumes nothing.
+use mathlib.Core.Path.{_≡_, refl, sym, _∙_, ap}
 use mathlib.Core.Bool.{Bool, true, false, cond, not, _&&_}
 use mathlib.Core.List.{List, [], _∷_, _++_, append-assoc}
 use mathlib.Core.Logic.{_⊎_, inl, inr}
-use Prim.Native.Nat.{ℕ, zero, suc, _+_, _-_, _*_, _^_, _<_, _≤_, suc-le-suc}
+use Prim.Native.Nat.{ℕ, zero, suc, _+_, _-_, _*_, _/_, _%_, _^_, _<_, _≤_, suc-le-suc}
 use native.Mathlib.Decide.{ℕ-discrete}
 use native.Mathlib.Omega.{arith}
 use borrow.Author.Tests.{eq-eqb, ne-eqb, eqb-false}
 use lib.Dec.{T, eqb}
 use lib.ListN.{length, getD, take, drop, replicate, length-append, length-replicate}
 use lib.Seq.{length-take-le, take-append-le, drop-append-add, take-take, take-add, drop-drop, drop-at}
-use Rattle.paper.specs.Numbers.{anyBelow, allIn, isIn, bitFor, bytes, be, num}
-use Rattle.paper.specs.Packed.{PackedPointer, noPointer, pointersAt, mostWeight}
-use Rattle.laws.proofs.Tests.{not-not, any-same}
+use Rattle.paper.specs.Numbers.{isIn, sum, bitFor, bytes, be, num}
+use Rattle.paper.specs.Packed.{headerAt, halves, PackedPointer, pointerOf, noPointer, readPointers, pointersAt}
+use Rattle.laws.proofs.Bits.{bitFor-lt}
+use Rattle.laws.proofs.Sums.{sum-head}
 use Rattle.laws.proofs.Bytes.{bytes-length}
 use Rattle.laws.proofs.RecordReading.{num-bytes}
 use Rattle.numbers.specs.Laid.{laid}
 use Rattle.numbers.proofs.Laying.{length-laid}
-use Rattle.proper_popular.specs.Places.{namesPlace, weightAt, timesNamed}
-use Rattle.proper_popular.specs.Counting.{pointsTo, countOf, oneMore, countPointer, countPointers, countRecords}
-use Rattle.proper_marks.proofs.Searches.{not-allIn}
-use Rattle.proper_marks.proofs.Along.{packedPointers-length}
+use Rattle.proper_popular.specs.Places.{pointsTo, weightAt, timesNamed}
+use Rattle.proper_popular.specs.Counting.{countOf, oneMore, countPointer, countPointers, countRecords}
 
 -- ---- four bytes laid over others
 
@@ -73,35 +72,32 @@ zeros-num j zero n = zeros-be j n
 zeros-num j (suc k) zero = zeros-be j 0
 zeros-num j (suc k) (suc n) = zeros-num j k n
 
--- ---- a record names a place by one of its eight pointers
+-- ---- what one record counts
 
-weight-most : (x : ℕ) (rs : List PackedPointer) → weightAt x rs ≤ mostWeight
-unfolding weightAt
-weight-most x rs = go (namesPlace x rs)
+-- pointer i goes to place x: 1, else 0
+abbrev goesTo : ℕ → List PackedPointer → ℕ → ℕ
+goesTo x rs i = bitFor (pointsTo x (getD rs i noPointer))
+
+-- a pointer that goes somewhere has a code above 0
+goes-code : (x : ℕ) (r : PackedPointer) → bitFor (pointsTo x r) ≤ r .code
+goes-code x r = go (eqb (r .code) 0) refl (bitFor-lt (eqb (r .place) x))
   where
-    go : (b : Bool) → cond b 1 0 ≤ mostWeight
-    go true = omega arith
-    go false = omega arith
+    go : (b : Bool) → eqb (r .code) 0 ≡ b → bitFor (eqb (r .place) x) < 2 → bitFor (not b && eqb (r .place) x) ≤ r .code
+    go true e l = omega arith
+    go false e l = omega (arith, eqb-false (r .code) 0 e)
 
-names-some : (x : ℕ) (rs : List PackedPointer) → namesPlace x rs ≡ not (allIn (λ r. not (pointsTo x r)) rs)
-unfolding namesPlace allIn
-names-some x [] = refl
-names-some x (r ∷ rs) = go (eqb (r .code) 0) (eqb (r .place) x) (names-some x rs)
-  where
-    go : (a b : Bool) → namesPlace x rs ≡ not (allIn (λ r. not (pointsTo x r)) rs)
-        → cond a (namesPlace x rs) (cond b true (namesPlace x rs)) ≡ not (cond (not (not a && b)) (allIn (λ r. not (pointsTo x r)) rs) false)
-    go true b ih = ih
-    go false true ih = refl
-    go false false ih = ih
+-- fewer pointers than half-words
+weight-halves : (x n h : ℕ) (bs : List ℕ) → sum n (goesTo x (readPointers n h bs)) < halves n h
+unfolding sum halves readPointers
+weight-halves x zero h bs = omega arith
+weight-halves x (suc n) h bs =
+    let r : PackedPointer = pointerOf (h % 4) (num (2 * (h % 4)) bs) in
+    let rs : List PackedPointer = readPointers n (h / 4) (drop (2 * (h % 4)) bs) in
+    omega (arith, sum-head n (goesTo x (r ∷ rs)), goes-code x r, weight-halves x n (h / 4) (drop (2 * (h % 4)) bs))
 
--- pointer i goes to place x
-abbrev pub goesTo : ℕ → List PackedPointer → ℕ → Bool
-goesTo x rs i = pointsTo x (getD rs i noPointer)
-
-names-any : (x : ℕ) (rs : List PackedPointer) → namesPlace x rs ≡ anyBelow (length rs) (goesTo x rs)
-names-any x rs =
-    names-some x rs ∙ not-allIn (λ r. not (pointsTo x r)) noPointer rs
-    ∙ any-same (length rs) (λ i. not (not (pointsTo x (getD rs i noPointer)))) (goesTo x rs) (λ i h. not-not (goesTo x rs i))
+pub record-few : (x : ℕ) (l : List ℕ) (p : ℕ) → weightAt x (pointersAt l p) < halves 8 (headerAt l p)
+unfolding weightAt pointersAt
+record-few x l p = weight-halves x 8 (headerAt l p) (drop (2 * p + 2) l)
 
 -- ---- counting, where each place has four bytes of its own
 
@@ -147,8 +143,7 @@ module _ (u n : ℕ) (ps : List ℕ) (roomy : Roomy u n ps) where
     pub pointers-length-kept : (m : List ℕ) → length m ≡ n → (j : ℕ) → length (countPointers u rs j m) ≡ n
     unfolding countPointer countPointers
     pointers-length-kept m e zero = e
-    pointers-length-kept m e (suc j) =
-        go (eqb (getD rs j noPointer .code) 0) refl (anyBelow j (goesTo (getD rs j noPointer .place) rs)) (pointers-length-kept m e j)
+    pointers-length-kept m e (suc j) = go (eqb (getD rs j noPointer .code) 0) refl (pointers-length-kept m e j)
       where
         old : List ℕ
         old = countPointers u rs j m
@@ -156,18 +151,17 @@ module _ (u n : ℕ) (ps : List ℕ) (roomy : Roomy u n ps) where
         x : ℕ
         x = getD rs j noPointer .place
 
-        go : (a : Bool) → eqb (getD rs j noPointer .code) 0 ≡ a → (b : Bool) → length old ≡ n → length (cond a old (cond b old (oneMore u x old))) ≡ n
-        go true ea b ih = ih
-        go false ea true ih = ih
-        go false ea false ih = more-length x old ih (start-of j (eqb-false (getD rs j noPointer .code) 0 ea))
+        go : (a : Bool) → eqb (getD rs j noPointer .code) 0 ≡ a → length old ≡ n → length (cond a old (oneMore u x old)) ≡ n
+        go true ea ih = ih
+        go false ea ih = more-length x old ih (start-of j (eqb-false (getD rs j noPointer .code) 0 ea))
 
-    -- a place's counter has one more exactly where a pointer goes there
-    pub pointers-count : (m : List ℕ) → length m ≡ n → (x : ℕ) → T (isIn x ps) → countOf u m x + 1 < 2 ^ 32 → (j : ℕ)
-        → countOf u (countPointers u rs j m) x ≡ countOf u m x + bitFor (anyBelow j (goesTo x rs))
-    unfolding countPointer countPointers
-    pointers-count m e x ix lt zero = omega arith
-    pointers-count m e x ix lt (suc j) =
-        go (eqb (getD rs j noPointer .code) 0) refl (ℕ-discrete (getD rs j noPointer .place) x) (pointers-length-kept m e j) (pointers-count m e x ix lt j)
+    -- a place's counter has one more for each pointer that goes there
+    pub pointers-count : (m : List ℕ) → length m ≡ n → (x : ℕ) → T (isIn x ps) → (j : ℕ) → countOf u m x + sum j (goesTo x rs) < 2 ^ 32
+        → countOf u (countPointers u rs j m) x ≡ countOf u m x + sum j (goesTo x rs)
+    unfolding countPointer countPointers sum
+    pointers-count m e x ix zero lt = omega arith
+    pointers-count m e x ix (suc j) lt =
+        go (eqb (getD rs j noPointer .code) 0) refl (ℕ-discrete (getD rs j noPointer .place) x) (pointers-length-kept m e j) (pointers-count m e x ix j (omega arith)) lt
       where
         old : List ℕ
         old = countPointers u rs j m
@@ -175,27 +169,19 @@ module _ (u n : ℕ) (ps : List ℕ) (roomy : Roomy u n ps) where
         y : ℕ
         y = getD rs j noPointer .place
 
-        After : Bool → Bool → Bool → Bool → Type 0
-        After a before same found =
-            countOf u (cond a old (cond before old (oneMore u y old))) x ≡ countOf u m x + bitFor (cond (not a && same) true found)
+        before : ℕ
+        before = countOf u m x + sum j (goesTo x rs)
 
-        here : y ≡ x → T (isIn y ps) → length old ≡ n → (b : Bool) → countOf u old x ≡ countOf u m x + bitFor b → After false b true b
-        here ey iy el true ih = ih
-        here ey iy el false ih =
-            ap (λ (z : ℕ). countOf u (oneMore u z old) x) ey ∙ more-here x old el ix (omega arith) ∙ omega arith
-
-        other : (y ≡ x → ⊥) → T (isIn y ps) → length old ≡ n → (b f : Bool) → countOf u old x ≡ countOf u m x + bitFor f → After false b false f
-        other ne iy el true f ih = ih
-        other ne iy el false f ih = more-other y x old el iy ix ne ∙ ih
-
-        go : (a : Bool) → eqb (getD rs j noPointer .code) 0 ≡ a → Dec (y ≡ x) → length old ≡ n
-            → countOf u old x ≡ countOf u m x + bitFor (anyBelow j (goesTo x rs)) → After a (anyBelow j (goesTo y rs)) (eqb y x) (anyBelow j (goesTo x rs))
-        go true ea d el ih = ih
-        go false ea (yes ey) el ih =
-            subst (λ (z : ℕ). After false (anyBelow j (goesTo z rs)) (eqb y x) (anyBelow j (goesTo x rs))) (sym ey)
-            (rw (eq-eqb y x ey) (here ey (start-of j (eqb-false (getD rs j noPointer .code) 0 ea)) el (anyBelow j (goesTo x rs)) ih))
-        go false ea (no ne) el ih =
-            rw (ne-eqb y x ne) (other ne (start-of j (eqb-false (getD rs j noPointer .code) 0 ea)) el (anyBelow j (goesTo y rs)) (anyBelow j (goesTo x rs)) ih)
+        go : (a : Bool) → eqb (getD rs j noPointer .code) 0 ≡ a → Dec (y ≡ x) → length old ≡ n → countOf u old x ≡ before
+            → countOf u m x + (sum j (goesTo x rs) + bitFor (not a && eqb y x)) < 2 ^ 32
+            → countOf u (cond a old (oneMore u y old)) x ≡ countOf u m x + (sum j (goesTo x rs) + bitFor (not a && eqb y x))
+        go true ea d el ih fits = omega (arith, ih)
+        go false ea (yes ey) el ih fits =
+            let one : bitFor (eqb y x) ≡ 1 = ap bitFor (eq-eqb y x ey) in
+            ap (λ (z : ℕ). countOf u (oneMore u z old) x) ey ∙ more-here x old el ix (omega (arith, one)) ∙ omega (arith, one, ih)
+        go false ea (no ne) el ih fits =
+            let none : bitFor (eqb y x) ≡ 0 = ap bitFor (ne-eqb y x ne) in
+            more-other y x old el (start-of j (eqb-false (getD rs j noPointer .code) 0 ea)) ix ne ∙ omega (arith, none, ih)
 
   -- ---- of the records at some places of the list l
   module _ (l : List ℕ) where
@@ -203,22 +189,12 @@ module _ (u n : ℕ) (ps : List ℕ) (roomy : Roomy u n ps) where
     AllLand qs = (j : ℕ) → j < length qs → (i : ℕ) → Lands ps (getD (pointersAt l (getD qs j 0)) i noPointer)
 
     -- one record
-    record-count : (q : ℕ) → ((i : ℕ) → Lands ps (getD (pointersAt l q) i noPointer)) → (m : List ℕ) → length m ≡ n → (x : ℕ) → T (isIn x ps) → countOf u m x + mostWeight < 2 ^ 32
-        → countOf u (countPointers u (pointersAt l q) 8 m) x ≡ countOf u m x + weightAt x (pointersAt l q)
+    record-count : (q : ℕ) → ((i : ℕ) → Lands ps (getD (pointersAt l q) i noPointer)) → (m : List ℕ) → length m ≡ n → (x : ℕ) → T (isIn x ps)
+        → countOf u m x + weightAt x (pointersAt l q) < 2 ^ 32 → countOf u (countPointers u (pointersAt l q) 8 m) x ≡ countOf u m x + weightAt x (pointersAt l q)
     unfolding weightAt
-    record-count q lands m e x ix lt =
-        let rs : List PackedPointer = pointersAt l q in
-        let b : Bool = anyBelow 8 (goesTo x rs) in
-        let one : countOf u (countPointers u rs 8 m) x ≡ countOf u m x + bitFor b = pointers-count rs lands m e x ix (omega arith) 8 in
-        let named : cond (namesPlace x rs) 1 0 ≡ bitFor b =
-        ap (λ (c : Bool). cond c 1 0) (names-any x rs ∙ ap (λ (k : ℕ). anyBelow k (goesTo x rs)) (packedPointers-length l q)) ∙ bit-is b in
-        omega (arith, one, named)
-      where
-        bit-is : (b : Bool) → cond b 1 0 ≡ bitFor b
-        bit-is true = refl
-        bit-is false = refl
+    record-count q lands m e x ix lt = pointers-count (pointersAt l q) lands m e x ix 8 lt
 
-    pub records-count : (qs : List ℕ) → AllLand qs → (m : List ℕ) → length m ≡ n → (x : ℕ) → T (isIn x ps) → countOf u m x + mostWeight * length qs < 2 ^ 32
+    pub records-count : (qs : List ℕ) → AllLand qs → (m : List ℕ) → length m ≡ n → (x : ℕ) → T (isIn x ps) → countOf u m x + timesNamed l qs x < 2 ^ 32
         → countOf u (countRecords u l qs m) x ≡ countOf u m x + timesNamed l qs x
     unfolding countRecords timesNamed
     records-count [] lands m e x ix lt = omega arith
@@ -226,16 +202,11 @@ module _ (u n : ℕ) (ps : List ℕ) (roomy : Roomy u n ps) where
         let rs : List PackedPointer = pointersAt l q in
         let mine : (i : ℕ) → Lands ps (getD rs i noPointer) = lands 0 (omega arith) in
         let one : countOf u (countPointers u rs 8 m) x ≡ countOf u m x + weightAt x rs = record-count q mine m e x ix (omega arith) in
-        records-count qs (λ j h. lands (suc j) (suc-le-suc h)) (countPointers u rs 8 m) (pointers-length-kept rs mine m e 8) x ix (omega (arith, one, weight-most x rs))
+        records-count qs (λ j h. lands (suc j) (suc-le-suc h)) (countPointers u rs 8 m) (pointers-length-kept rs mine m e 8) x ix (omega (arith, one))
         ∙ omega (arith, one)
 
-    -- from zero: the number of records that name the place
-    pub counted : (qs : List ℕ) → AllLand qs → mostWeight * length qs < 2 ^ 32 → (x : ℕ) → T (isIn x ps) → countOf u (countRecords u l qs (replicate n 0)) x ≡ timesNamed l qs x
-    counted qs lands few x ix =
+    -- from zero: the number of pointers that name the place
+    pub counted : (qs : List ℕ) → AllLand qs → (x : ℕ) → timesNamed l qs x < 2 ^ 32 → T (isIn x ps) → countOf u (countRecords u l qs (replicate n 0)) x ≡ timesNamed l qs x
+    counted qs lands x few ix =
         let z : countOf u (replicate n 0) x ≡ 0 = zeros-num 4 (u * x) n in
         records-count qs lands (replicate n 0) (length-replicate n 0) x ix (omega arith) ∙ omega arith
-
-pub times-few : (l qs : List ℕ) (x : ℕ) → timesNamed l qs x ≤ mostWeight * length qs
-unfolding timesNamed
-times-few l [] x = omega arith
-times-few l (q ∷ qs) x = omega (arith, weight-most x (pointersAt l q), times-few l qs x)

@@ -1,7 +1,6 @@
 -- The ways through the counting of one pointer and of a record's pointers, and through a test of counters along a list, in the code's words. By the
 -- tests passed. Assumes nothing.
 use mathlib.Core.Path.{_≡_, refl, sym, _∙_, ap, subst}
-use mathlib.Core.Bool.{true, false}
 use mathlib.Core.List.{List}
 use Prim.Native.Nat.{ℕ, _+_, _*_, _≤_}
 use native.Mathlib.Numerals.{add-one}
@@ -9,12 +8,11 @@ use native.Mathlib.Omega.{arith}
 use borrow.Author.Tests.{eq-eqb, ne-eqb}
 use lib.Dec.{T, leb→le}
 use lib.ListN.{getD}
-use Rattle.paper.specs.Numbers.{anyBelow, allIn}
+use Rattle.paper.specs.Numbers.{allIn}
 use Rattle.paper.specs.Packed.{PackedPointer, noPointer, pointersAt, recordOk}
 use Rattle.laws.proofs.Tests.{and-right}
 use Rattle.laws.proofs.Lists.{allIn-at}
 use Rattle.proper_popular.specs.Counting.{oneMore, countPointer, countPointers, pointerFits, countable}
-use Rattle.proper_popular.proofs.Counts.{goesTo}
 
 -- ---- one pointer counted, q the pointer as code has read it
 
@@ -25,17 +23,10 @@ module _ (u : ℕ) (rs : List PackedPointer) (i : ℕ) (m : List ℕ) (q : Packe
       let z : getD rs i noPointer .code ≡ 0 = ap (λ (r : PackedPointer). r .code) (sym is) ∙ e in
       sym (rw (eq-eqb (getD rs i noPointer .code) 0 z))
 
-  pub pointer-again : (q .code ≡ 0 → ⊥) → anyBelow i (goesTo (q .place) rs) ≡ true → m ≡ countPointer u rs i m
+  pub pointer-counts : (q .code ≡ 0 → ⊥) → oneMore u (q .place) m ≡ countPointer u rs i m
   unfolding countPointer
-  pointer-again n t =
-      let s : anyBelow i (goesTo (getD rs i noPointer .place) rs) ≡ true = subst (λ (r : PackedPointer). anyBelow i (goesTo (r .place) rs) ≡ true) is t in
-      sym (rw (ne-eqb (getD rs i noPointer .code) 0 (λ e. n (ap (λ (r : PackedPointer). r .code) is ∙ e)), s))
-
-  pub pointer-counts : (q .code ≡ 0 → ⊥) → anyBelow i (goesTo (q .place) rs) ≡ false → oneMore u (q .place) m ≡ countPointer u rs i m
-  unfolding countPointer
-  pointer-counts n t =
-      let s : anyBelow i (goesTo (getD rs i noPointer .place) rs) ≡ false = subst (λ (r : PackedPointer). anyBelow i (goesTo (r .place) rs) ≡ false) is t in
-      ap (λ (r : PackedPointer). oneMore u (r .place) m) is ∙ sym (rw (ne-eqb (getD rs i noPointer .code) 0 (λ e. n (ap (λ (r : PackedPointer). r .code) is ∙ e)), s))
+  pointer-counts n =
+      ap (λ (r : PackedPointer). oneMore u (r .place) m) is ∙ sym (rw (ne-eqb (getD rs i noPointer .code) 0 (λ e. n (ap (λ (r : PackedPointer). r .code) is ∙ e))))
 
 -- its counter lies inside
 pub pointer-room : (u n : ℕ) (l : List ℕ) (p i : ℕ) (q : PackedPointer) → T (countable u n l p) → q ≡ getD (pointersAt l p) i noPointer → (q .code ≡ 0 → ⊥) → u * q .place + 4 ≤ n

@@ -18,12 +18,12 @@ use Rattle.laws.proofs.Tests.{and-left, and-T}
 use Rattle.laws.proofs.Lists.{in-nil, in-cons, allIn-isIn, count-below, allIn-head, allIn-tail, allIn-at, allIn-in, allIn-T, At, isIn-at, isIn-getD}
 use Rattle.laws.proofs.PackedLists.{list-bytes, record-two}
 use Rattle.laws.proofs.PackedWalk.{SoundLists}
-use Rattle.proper_popular.specs.Places.{popularAt, popularRules}
+use Rattle.proper_popular.specs.Places.{timesNamed, popularAt, popularRules}
 use Rattle.packed_lists.specs.Ends.{unitAt}
 use Rattle.proper_popular.specs.Counting.{countOf, countRecords, pointerFits, countable, countsFall}
 use Rattle.proper_marks.proofs.InFile.{tail-inside, list-length}
-use Rattle.proper_marks.proofs.Along.{record-wide}
-use Rattle.proper_popular.proofs.Counts.{Roomy, Lands, counted, times-few}
+use Rattle.proper_marks.proofs.Along.{record-inside, record-wide}
+use Rattle.proper_popular.proofs.Counts.{record-few, Roomy, Lands, counted}
 use Rattle.proper_popular.proofs.Falls.{falls-rules, falling-same}
 
 -- ---- the starts of an inner list
@@ -85,6 +85,24 @@ starts-few l (suc n) p = go (ltb (2 * p) (length l)) (starts-few l n (p + halves
     go true h = omega arith
     go false h = omega arith
 
+-- from place p on there are no more pointers to a place than half-words
+times-few : (l : List ℕ) (n p x : ℕ) → T (allIn (recordOk l) (startsFrom l n p)) → 2 * p ≤ length l → 2 * (p + timesNamed l (startsFrom l n p) x) ≤ length l
+unfolding startsFrom timesNamed
+times-few l zero p x good h = omega arith
+times-few l (suc n) p x good h = go (ltb (2 * p) (length l)) good (times-few l n (p + halves 8 (headerAt l p)) x)
+  where
+    ss : List ℕ
+    ss = startsFrom l n (p + halves 8 (headerAt l p))
+
+    Rest : Type 0
+    Rest = T (allIn (recordOk l) ss) → 2 * (p + halves 8 (headerAt l p)) ≤ length l → 2 * (p + halves 8 (headerAt l p) + timesNamed l ss x) ≤ length l
+
+    go : (b : Bool) → T (allIn (recordOk l) (cond b (p ∷ ss) [])) → Rest → 2 * (p + timesNamed l (cond b (p ∷ ss) []) x) ≤ length l
+    go false g ih = omega arith
+    go true g ih =
+        let room : 2 * (p + halves 8 (headerAt l p)) ≤ length l = record-inside l p (allIn-head (recordOk l) p ss g) in
+        omega (arith, record-few x l p, ih (allIn-tail (recordOk l) p ss g) room)
+
 inner-roomy : (l : List ℕ) → Bytes l → (n : ℕ) → T (allIn (recordOk l) (startsFrom l n 0)) → Roomy 2 (length l) (startsFrom l n 0)
 inner-roomy l b n good = record {
   room = λ x i. record-wide l x b (allIn-isIn (recordOk l) (startsFrom l n 0) x good i);
@@ -137,9 +155,10 @@ module _ (bs : List ℕ) (by : Bytes bs) (short : length bs < 2 ^ 32) (sound : S
   roomy-at zero h = subst (λ (n : ℕ). Roomy 8 n (count 0 (sizeAt bs 0))) (sym (list-length bs (sound .sizes) 0 h)) (leaf-roomy (sizeAt bs 0))
   roomy-at (suc k) h = inner-roomy (listAt bs (suc k)) (list-bytes bs by (suc k)) (sizeAt bs (suc k)) (all-whole k h)
 
-  few-at : (k : ℕ) → suc k ≤ topOf bs → length (placesAt bs (suc k)) < 2 ^ 32
+  few-at : (k : ℕ) → suc k ≤ topOf bs → (x : ℕ) → popularAt bs k x < 2 ^ 32
   unfolding placesAt tailAt
-  few-at k h = omega (arith, starts-few (above k) (sizeAt bs (suc k)) 0, tail-inside bs (sound .sizes) (suc k) h)
+  few-at k h x =
+      omega (arith, times-few (above k) (sizeAt bs (suc k)) 0 x (all-whole k h) (omega arith), list-length bs (sound .sizes) (suc k) h, tail-inside bs (sound .sizes) (suc k) h)
 
   -- every record can be counted
   pub all-countable : (k : ℕ) → suc k ≤ topOf bs → T (allIn (countable (unitAt k) (length (listAt bs k)) (above k)) (placesAt bs (suc k)))
@@ -164,7 +183,7 @@ module _ (bs : List ℕ) (by : Bytes bs) (short : length bs < 2 ^ 32) (sound : S
 
   pub counts-are : (k : ℕ) → suc k ≤ topOf bs → (x : ℕ) → T (isIn x (placesAt bs k)) → countOf (unitAt k) (counts k) x ≡ popularAt bs k x
   counts-are k h x i =
-      counted (unitAt k) (length (listAt bs k)) (placesAt bs k) (roomy-at k (omega arith)) (above k) (placesAt bs (suc k)) (pointers-land k h) (omega (arith, few-at k h)) x i
+      counted (unitAt k) (length (listAt bs k)) (placesAt bs k) (roomy-at k (omega arith)) (above k) (placesAt bs (suc k)) (pointers-land k h) x (few-at k h x) i
 
   -- the test along them is rules 5 and 8
   pub popular-is : (k : ℕ) → suc k ≤ topOf bs → countsFall (unitAt k) (counts k) (placesAt bs k) ≡ popularRules bs k
@@ -176,4 +195,4 @@ module _ (bs : List ℕ) (by : Bytes bs) (short : length bs < 2 ^ 32) (sound : S
       first : 0 < length (placesAt bs k) → countOf (unitAt k) (counts k) (getD (placesAt bs k) 0 0) ≤ 2 ^ 32 - 1
       first l =
           let x : ℕ = getD (placesAt bs k) 0 0 in
-          omega (arith, counts-are k h x (isIn-getD (placesAt bs k) 0 l), times-few (above k) (placesAt bs (suc k)) x, few-at k h)
+          omega (arith, counts-are k h x (isIn-getD (placesAt bs k) 0 l), few-at k h x)

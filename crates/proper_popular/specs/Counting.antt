@@ -1,20 +1,16 @@
--- The records that name a place, counted in the four bytes that start there, and the counters tested along a list. Definitions only.
+-- The pointers to a place, counted in the four bytes that start there, and the counters tested along a list. Definitions only.
 use mathlib.Core.Path.{_≡_}
-use mathlib.Core.Bool.{Bool, true, cond, not, _&&_}
+use mathlib.Core.Bool.{Bool, true, cond, _&&_}
 use mathlib.Core.List.{List, [], _∷_, map}
 use Prim.Native.Nat.{ℕ, zero, suc, _+_, _-_, _*_, _%_, _^_}
 use lib.Dec.{T, eqb, leb, ltb}
 use lib.ListN.{length, take, drop, replicate, getD}
-use Rattle.paper.specs.Numbers.{anyBelow, allIn, num, bytes}
+use Rattle.paper.specs.Numbers.{allIn, num, bytes}
 use Rattle.paper.specs.Packed.{PackedPointer, noPointer, pointersAt, recordOk}
 use Rattle.numbers.specs.Laid.{laid}
 use Rattle.proper_marks.specs.Places.{placesIn, RecordList, WholeList}
 use Rattle.packed_lists.specs.Ends.{unitAt, endAt, Listed}
 use Rattle.laws.proofs.PackedWalk.{SoundLists}
-
--- a pointer to place x
-abbrev pub pointsTo : ℕ → PackedPointer → Bool
-pointsTo x r = not (eqb (r .code) 0) && eqb (r .place) x
 
 -- the number at place x: four bytes
 abbrev pub countOf : ℕ → List ℕ → ℕ → ℕ
@@ -24,19 +20,19 @@ countOf u m x = num 4 (drop (u * x) m)
 abbrev pub oneMore : ℕ → ℕ → List ℕ → List ℕ
 oneMore u x m = laid (bytes 4 (countOf u m x + 1)) (u * x) m
 
--- the record with the pointers rs counted at the place of pointer n, unless an earlier one goes there
+-- pointer n of a record with the pointers rs counted at its place
 unfoldable pub countPointer : ℕ → List PackedPointer → ℕ → List ℕ → List ℕ
 countPointer u rs n m =
     let x : ℕ = getD rs n noPointer .place in
     let new : List ℕ = oneMore u x m in
-    cond (eqb (getD rs n noPointer .code) 0) m (cond (anyBelow n (λ j. pointsTo x (getD rs j noPointer))) m new)
+    cond (eqb (getD rs n noPointer .code) 0) m new
 
--- at the places of the first n: each once
+-- the first n
 unfoldable pub countPointers : ℕ → List PackedPointer → ℕ → List ℕ → List ℕ
 countPointers u rs zero m = m
 countPointers u rs (suc n) m = countPointer u rs n (countPointers u rs n m)
 
--- of the records at these places
+-- those of the records at these places
 unfoldable pub countRecords : ℕ → List ℕ → List ℕ → List ℕ → List ℕ
 countRecords u l [] m = m
 countRecords u l (p ∷ ps) m = countRecords u l ps (countPointers u (pointersAt l p) 8 m)

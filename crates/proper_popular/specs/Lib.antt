@@ -1,3 +1,3 @@
--- Definitions that the contracts cite: the places of a list, and the records that name a place counted.
+-- Definitions that the contracts cite: the places of a list, and the pointers to a place counted.
 pub mod Places
 pub mod Counting

@@ -1,11 +1,11 @@
--- The records of a packed file by places: the places of a list by its bytes, and the records that name a place. Definitions only.
-use mathlib.Core.Bool.{Bool, true, false, cond, _&&_}
+-- The records of a packed file by places: the places of a list by its bytes, and the pointers to a place. Definitions only.
+use mathlib.Core.Bool.{Bool, not, _&&_}
 use mathlib.Core.List.{List, [], _∷_}
 use Prim.Native.Nat.{ℕ, zero, suc, _+_, _-_}
 use lib.Dec.{eqb, leb, ltb}
 use lib.ListN.{length, getD}
-use Rattle.paper.specs.Numbers.{allBelow}
-use Rattle.paper.specs.Packed.{listAt, PackedPointer, pointersAt, placesAt}
+use Rattle.paper.specs.Numbers.{allBelow, sum, bitFor}
+use Rattle.paper.specs.Packed.{listAt, PackedPointer, noPointer, pointersAt, placesAt}
 use Rattle.proper_marks.specs.Places.{placesIn, leavesIn}
 
 -- ---- the places of a list of bytes
@@ -17,14 +17,13 @@ startsIn (suc k) l = placesIn l
 
 -- ---- popularity
 
--- one of the pointers goes to place x
-unfoldable pub namesPlace : ℕ → List PackedPointer → Bool
-namesPlace x [] = false
-namesPlace x (r ∷ rs) = let m = namesPlace x rs in cond (eqb (r .code) 0) m (cond (eqb (r .place) x) true m)
+-- a pointer to place x
+abbrev pub pointsTo : ℕ → PackedPointer → Bool
+pointsTo x r = not (eqb (r .code) 0) && eqb (r .place) x
 
--- what a record with these pointers counts towards the popularity of place x
+-- what a record with these pointers counts towards the popularity of place x: how many of the eight go there
 unfoldable pub weightAt : ℕ → List PackedPointer → ℕ
-weightAt x rs = cond (namesPlace x rs) 1 0
+weightAt x rs = sum 8 (λ i. bitFor (pointsTo x (getD rs i noPointer)))
 
 -- what the records at these places of the list l count towards that of place x one list down
 unfoldable pub timesNamed : List ℕ → List ℕ → ℕ → ℕ
@@ -35,7 +34,7 @@ timesNamed l (p ∷ ps) x = weightAt x (pointersAt l p) + timesNamed l ps x
 abbrev pub popularAt : List ℕ → ℕ → ℕ → ℕ
 popularAt bs k x = timesNamed (listAt bs (suc k)) (placesAt bs (suc k)) x
 
--- every record of list k is named, and along the list the number of records that name it never rises
+-- every record of list k is named, and along the list the number of pointers that name it never rises
 unfoldable pub popularRules : List ℕ → ℕ → Bool
 popularRules bs k =
     allBelow (length (placesAt bs k)) (λ q. ltb 0 (popularAt bs k (getD (placesAt bs k) q 0)))

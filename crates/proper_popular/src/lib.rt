@@ -1,19 +1,18 @@
-// Popularity: how many records one height up name each record. They are counted in a scratch as long as the file, in the four bytes
+// Popularity: how many pointers one height up name each record. They are counted in a scratch as long as the file, in the four bytes
 // that lie there as the record's first four do in the file, and the counters are tested along each list. The lists are whole and every
 // pointer names the start of a record.
 ghost use mathlib.Core.Path.{_≡_};
 ghost use mathlib.Core.Bool.{not};
 ghost use Prim.Native.Nat.{_+_, _%_, _≤_, _<_};
 ghost use lib.Dec.{T};
-ghost use lib.ListN.{length, getD, take, drop, replicate};
-ghost use Rattle.paper.specs.Numbers.{allIn, allBelow, anyBelow, num, bytes};
-ghost use Rattle.paper.specs.Packed.{topOf, startAt, noPointer, pointersAt, recordOk};
+ghost use lib.ListN.{length, take, drop, replicate};
+ghost use Rattle.paper.specs.Numbers.{allIn, allBelow, num, bytes};
+ghost use Rattle.paper.specs.Packed.{topOf, startAt, pointersAt};
 ghost use Rattle.numbers.specs.Laid.{laid};
-ghost use Rattle.packed_records.specs.Records.{pointerIs};
 ghost use Rattle.proper_popular.specs.Places.{popularRules, startsIn};
 ghost use Rattle.packed_lists.specs.Ends.{unitAt};
 ghost use Rattle.proper_marks.specs.Places.{placesIn, leavesIn, RecordList, WholeList};
-ghost use Rattle.proper_popular.specs.Counting.{pointsTo, countPointer, countPointers, countRecords, countable, fallsBy, countsFall, Shared, Uncounted};
+ghost use Rattle.proper_popular.specs.Counting.{countPointer, countPointers, countRecords, countable, fallsBy, countsFall, Shared, Uncounted};
 use limits::CHILDREN;
 use limits::HALF_BYTES;
 use limits::LEAF_BYTES;
@@ -21,7 +20,6 @@ use numbers::be32;
 use numbers::put_number;
 use packed_lists::list_end;
 use packed_lists::unit_of;
-use packed_records::Pointer;
 use packed_records::pointer_at;
 use proper_marks::place_after;
 
@@ -31,30 +29,7 @@ const COUNTER: usize = 4;
 // The greatest number of a counter.
 const MOST: u32 = 4294967295;
 
-// ---- the records that name a place
-
-// Whether a pointer goes to place `x`.
-fn goes_to(pointer: Pointer, x: u32) -> bool
-    ensures { λ r. ⌜ r ≡ pointsTo x (pointerIs pointer) ⌝ }
-{
-    (pointer.code != 0) & (pointer.place == x)
-}
-
-// Whether one of the first `n` pointers of a record goes to place `x`.
-fn named_before(list: &[u8], place: u32, n: u32, x: u32) -> bool
-    requires { ⌜ T (recordOk (now list) place) ⌝ }
-    requires { ⌜ n ≤ 8 ⌝ }
-    ensures { λ r. ⌜ r ≡ anyBelow n (λ j. pointsTo x (getD (pointersAt (now (list .entry)) place) j noPointer)) ⌝ }
-{
-    let mut i = 0u32;
-    while i < n {
-        if goes_to(pointer_at(list, place, i), x) {
-            return true;
-        }
-        i += 1;
-    }
-    false
-}
+// ---- the pointers to a place
 
 // One more in the counter at a position.
 fn add_one(counts: &mut [u8], at: usize)
@@ -65,7 +40,7 @@ fn add_one(counts: &mut [u8], at: usize)
     put_number(counts, at, COUNTER, n + 1);
 }
 
-// Counts a record at the place of its pointer i, unless one of its earlier pointers goes there.
+// Counts pointer i of a record at its place.
 fn count_pointer(list: &[u8], place: u32, i: u32, counts: &mut [u8], unit: usize)
     requires { ⌜ T (countable unit (length (now counts)) (now list) place) ⌝ }
     requires { ⌜ (i < 8) × (unit ≤ 8) ⌝ }
@@ -75,13 +50,10 @@ fn count_pointer(list: &[u8], place: u32, i: u32, counts: &mut [u8], unit: usize
     if pointer.code == 0 {
         return;
     }
-    if named_before(list, place, i, pointer.place) {
-        return;
-    }
     add_one(counts, unit * (pointer.place as usize));
 }
 
-// Counts a record at each place that it names, once.
+// Counts the pointers of a record at their places.
 fn count_record(list: &[u8], place: u32, counts: &mut [u8], unit: usize)
     requires { ⌜ T (countable unit (length (now counts)) (now list) place) ⌝ }
     requires { ⌜ unit ≤ 8 ⌝ }
@@ -94,7 +66,7 @@ fn count_record(list: &[u8], place: u32, counts: &mut [u8], unit: usize)
     }
 }
 
-// Counts the records of a list at the places that they name.
+// Counts the pointers of the records of a list at their places.
 fn count_records(list: &[u8], counts: &mut [u8], unit: usize)
     requires { ⌜ RecordList (now list) ⌝ }
     requires { ⌜ T (allIn (countable unit (length (now counts)) (now list)) (placesIn (now list))) ⌝ }
@@ -154,7 +126,7 @@ fn records_rise(list: &[u8], counts: &[u8]) -> bool
     false
 }
 
-// Whether a record of list k is not named, or more often than the one before it: counted over the records of the list above
+// Whether a record of list k is not named, or more often than the one before it: counted over the pointers of the list above
 // in the list's share, zero before.
 fn share_bad(above: &[u8], list: &[u8], share: &mut [u8], k: u32) -> bool
     requires { ⌜ Shared k (now above) (now list) (length (now share)) ⌝ }

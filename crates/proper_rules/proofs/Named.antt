@@ -1,21 +1,22 @@
--- Where lists and pointers are sound, records are named by places just where the graph's cells are named by numbers, so the rules of popularity are the
--- same. By induction along the records one list up. Assumes nothing.
+-- Where lists and pointers are sound, pointers name records by places just where the graph's pointers name cells by numbers, so the rules of popularity
+-- are the same. By induction along the records one list up. Assumes nothing.
 use mathlib.Core.Path.{_≡_, refl, sym, _∙_, ap, ap₂}
-use mathlib.Core.Bool.{Bool, true, cond, _&&_}
+use mathlib.Core.Bool.{_&&_}
 use mathlib.Core.List.{List, [], _∷_, map}
 use mathlib.Core.Logic.{inl, inr}
 use Prim.Native.Nat.{ℕ, suc, _+_, _-_, _<_}
 use native.Mathlib.Omega.{arith}
 use borrow.Author.Tests.{eq-eqb, ne-eqb}
-use lib.Dec.{T, eqb, leb, ltb}
-use lib.ListN.{length, getD}
-use Rattle.paper.specs.Numbers.{isIn, indexIn}
-use Rattle.paper.specs.Store.{Cell, cellNo, cellsAt}
+use lib.Dec.{T, leb, ltb}
+use lib.ListN.{length, getD, List·getD-map}
+use Rattle.paper.specs.Numbers.{bitFor, isIn, indexIn}
+use Rattle.paper.specs.Store.{Cell, cellsAt}
 use Rattle.paper.specs.Packed.{topOf, listAt, PackedPointer, noPointer, pointersAt, placesAt, byNumber, cellsOf, graphOf, names, weight, popularity, namedOk, fallingOk}
 use Rattle.laws.proofs.Tests.{all-same}
 use Rattle.laws.proofs.Lists.{isIn-getD, index-getD}
+use Rattle.laws.proofs.Sums.{sum-same}
 use Rattle.laws.proofs.PackedLists.{graph-cells}
-use Rattle.proper_popular.specs.Places.{namesPlace, weightAt, timesNamed, popularAt, popularRules}
+use Rattle.proper_popular.specs.Places.{pointsTo, weightAt, timesNamed, popularAt, popularRules}
 use Rattle.proper_rules.proofs.Starting.{once-at}
 use Rattle.proper_rules.proofs.Arrows.{SoundFile, Points, points, no-packedPointer, pointer-no, pointer-ne, same-place}
 use Rattle.proper_rules.proofs.MarksAre.{cells-length}
@@ -30,23 +31,16 @@ module _ (bs : List ℕ) (f : SoundFile bs) where
   abbrev pointers : ℕ → ℕ → List PackedPointer
   pointers k p = pointersAt (listAt bs (suc k)) p
 
-  names-same : (k x : ℕ) → T (isIn x (ss k)) → (rs : List PackedPointer) → ((i : ℕ) → Points bs f k (getD rs i noPointer)) → namesPlace x rs ≡ names (indexIn x (ss k)) (map (byNumber (ss k)) rs)
-  unfolding namesPlace names
-  names-same k x hx [] h = refl
-  names-same k x hx (r ∷ rs) h = go (h 0) (names-same k x hx rs (λ i. h (suc i)))
-    where
-      n : ℕ
-      n = indexIn x (ss k)
-
-      go : Points bs f k r → namesPlace x rs ≡ names n (map (byNumber (ss k)) rs)
-          → cond (eqb (r .code) 0) (namesPlace x rs) (cond (eqb (r .place) x) true (namesPlace x rs))
-          ≡ cond (eqb (byNumber (ss k) r) 0) (names n (map (byNumber (ss k)) rs)) (cond (eqb (cellNo (byNumber (ss k) r)) n) true (names n (map (byNumber (ss k)) rs)))
-      go (inl e) ih = rw (no-packedPointer bs f k r e, eq-eqb (r .code) 0 e) ih
-      go (inr a) ih = rw (ne-eqb (byNumber (ss k) r) 0 (pointer-ne bs f k r a), pointer-no bs f k r a, same-place bs f k (r .place) x (a .at) hx, ne-eqb (r .code) 0 (a .some), ih)
+  names-same : (k x : ℕ) → T (isIn x (ss k)) → (r : PackedPointer) → Points bs f k r → pointsTo x r ≡ names (indexIn x (ss k)) (byNumber (ss k) r)
+  names-same k x hx r (inl e) = rw (no-packedPointer bs f k r e, eq-eqb (r .code) 0 e)
+  names-same k x hx r (inr a) =
+      rw (ne-eqb (byNumber (ss k) r) 0 (pointer-ne bs f k r a), pointer-no bs f k r a, same-place bs f k (r .place) x (a .at) hx, ne-eqb (r .code) 0 (a .some))
 
   weight-same : (k x : ℕ) → T (isIn x (ss k)) → (rs : List PackedPointer) → ((i : ℕ) → Points bs f k (getD rs i noPointer)) → weightAt x rs ≡ weight (indexIn x (ss k)) (map (byNumber (ss k)) rs)
   unfolding weightAt weight
-  weight-same k x hx rs h = ap (λ (b : Bool). cond b 1 0) (names-same k x hx rs h)
+  weight-same k x hx rs h =
+      sum-same 8 (λ i. bitFor (pointsTo x (getD rs i noPointer))) (λ i. bitFor (names (indexIn x (ss k)) (getD (map (byNumber (ss k)) rs) i 0)))
+      (λ i m. ap bitFor (names-same k x hx (getD rs i noPointer) (h i)) ∙ ap (λ (p : ℕ). bitFor (names (indexIn x (ss k)) p)) (sym (List·getD-map (byNumber (ss k)) rs i noPointer)))
 
   times-list : (k x : ℕ) → k < topOf bs → T (isIn x (ss k)) → (ts : List ℕ) → ((n : ℕ) → n < length ts → T (isIn (getD ts n 0) (ss (suc k))))
       → timesNamed (listAt bs (suc k)) ts x ≡ popularity (map (λ p. map (byNumber (ss k)) (pointers k p)) ts) (indexIn x (ss k))

@@ -35,6 +35,7 @@ fn main() {
     play(b"counts.script");
     play(b"any.script");
     play(b"chains.script");
+    play(b"pointers.script");
     play(b"questions.script");
     play(b"adding.script");
     play(b"packing.script");

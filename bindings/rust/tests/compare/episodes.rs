@@ -206,7 +206,7 @@ impl Compare {
             self.add(&mut store, &file);
             let length = self.random.from_to(0, 40);
             let mut bytes = self.random.bytes(length);
-            for (i, front) in [(0, 0x21), (5, self.random.from_to(2, 5) as u8), (6, self.random.below(9) as u8)] {
+            for (i, front) in [(0, 0x22), (5, self.random.from_to(2, 5) as u8), (6, self.random.below(9) as u8)] {
                 if i < length && !self.random.once_in(6) {
                     bytes[i] = front;
                 }

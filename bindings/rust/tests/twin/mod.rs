@@ -763,17 +763,17 @@ fn code(place: u32) -> u32 {
 }
 
 fn packed_scene(w: &Words, d: usize, p: u32) -> Vec<u8> {
-    let mut file = vec![0x21, 0, 0, 0, 0, d as u8, if p == 0 { 8 } else { tag(p) as u8 }];
+    let mut file = vec![0x22, 0, 0, 0, 0, d as u8, if p == 0 { 8 } else { tag(p) as u8 }];
     if p != 0 {
         // from the root down: the cells of each height in their order
         let mut lists: HashMap<usize, Vec<usize>> = HashMap::new();
         lists.insert(d, vec![number(p)]);
         for h in (2..d).rev() {
+            // every pointer from the height above counts
             let mut popularity: HashMap<usize, u32> = HashMap::new();
             for &n in &lists[&(h + 1)] {
-                let named: HashSet<usize> = cell_at(w, h + 1, n).iter().filter(|&&q| q != 0).map(|&q| number(q)).collect();
-                for q in named {
-                    *popularity.entry(q).or_insert(0) += 1;
+                for &q in cell_at(w, h + 1, n).iter().filter(|&&q| q != 0) {
+                    *popularity.entry(number(q)).or_insert(0) += 1;
                 }
             }
             let mut order: Vec<usize> = popularity.keys().copied().collect();
@@ -860,7 +860,7 @@ type Known = HashMap<(usize, u64, u32), bool>;
 impl<'a> Packed<'a> {
     /// 3, 4, 5, or the file by its first bytes.
     fn front(file: &'a Bytes) -> Answer<Packed<'a>> {
-        let depth = front(file, 0x21, 7)? as usize;
+        let depth = front(file, 0x22, 7)? as usize;
         Ok(Packed { file, depth, root: file[6] })
     }
 
@@ -1007,20 +1007,16 @@ impl<'a> Packed<'a> {
         need(starts[&self.depth].len() == 1, 6, "one record on top")?;
         need(starts[&2].iter().all(|&n| self.leaf(n) != 0), 6, "leaf zero")?;
 
-        // how many records one height up name a record
+        // how many pointers one height up name a record
         let mut named: HashMap<(usize, u64), u32> = HashMap::new();
         for h in 3..=self.depth {
             let below: HashSet<u64> = starts[&(h - 1)].iter().copied().collect();
             for &s in &starts[&h] {
                 let (links, _) = self.record(h, s)?;
-                let mut once = HashSet::new();
                 for l in links.iter().filter(|l| l.code != 0) {
                     need(below.contains(&(l.place as u64)), 6, "names no start")?;
                     need(l.code == code(l.place), 6, "width")?;
-                    once.insert(l.place as u64);
-                }
-                for place in once {
-                    *named.entry((h - 1, place)).or_insert(0) += 1;
+                    *named.entry((h - 1, l.place as u64)).or_insert(0) += 1;
                 }
             }
         }

@@ -129,7 +129,7 @@ impl Draft {
             written.push(bytes);
         }
         written.reverse();
-        let mut file = vec![0x21, 0, 0, 0, 0, self.depth as u8, self.root];
+        let mut file = vec![0x22, 0, 0, 0, 0, self.depth as u8, self.root];
         for bytes in &written {
             file.extend((bytes.len() as u32 / 2).to_be_bytes());
         }
