@@ -16,7 +16,7 @@
 
 /* ---- the calls ---- */
 
-enum { NEW, ADD, VOXEL, SIGHT, CELL, BOX, ANY, KEPT, OUTLINE, PACK, CHECK, PACKED_VOXEL, OPEN, ASK, DETAIL, CALLS };
+enum { NEW, ADD, VOXEL, SIGHT, CELL, BOX, ANY, KEPT, OUTLINE, PACK, HEADSET_PACK, CHECK, HEADSET_CHECK, PACKED_VOXEL, OPEN, ASK, DETAIL, CALLS };
 
 typedef void function(void);
 
@@ -34,15 +34,18 @@ static const struct {
     [KEPT] = {"kept", (function *)rooms_kept},
     [OUTLINE] = {"outline out", (function *)rooms_outline},
     [PACK] = {"pack", (function *)rooms_pack},
+    [HEADSET_PACK] = {"headset pack", (function *)rooms_headset_pack},
     [CHECK] = {"packed check", (function *)rooms_check},
+    [HEADSET_CHECK] = {"headset check", (function *)rooms_headset_check},
     [PACKED_VOXEL] = {"packed voxel", (function *)rooms_packed_voxel},
     [OPEN] = {"open", (function *)rooms_open},
     [ASK] = {"question on an opened scene", (function *)rooms_ask},
     [DETAIL] = {"detail", (function *)rooms_detail},
 };
 
-/* Rooms of depth 16; their files and stores, a byte or a word changed in each; such rooms of depth 15, to tell what a height takes. */
-enum series { DEEPEST, CHANGED, LOWER, ALL_SERIES };
+/* Rooms of depth 16; their files and stores, a byte or a word changed in each; such rooms of depth 15, to tell what a height takes; and of
+   depth 10, for the calls that take no deeper one. */
+enum series { DEEPEST, CHANGED, LOWER, HEADSET, ALL_SERIES };
 
 static enum series series;
 static size_t greatest[ALL_SERIES][CALLS];
@@ -336,9 +339,18 @@ static void ask_scene(unsigned points)
     }
 }
 
+/* Whether the headset's calls are made: where they take the room, or may be refused. */
+static int for_headset(void)
+{
+    return depth <= ROOMS_HEADSET_DEPTH || series == CHANGED;
+}
+
 /* The packed file, at its first so many points. */
 static void ask_packed(unsigned points)
 {
+    if (for_headset()) {
+        MEASURE(HEADSET_CHECK, PACKED_FILE, P(check_scratch), sizeof check_scratch, P(&value[0]));
+    }
     MEASURE(CHECK, PACKED_FILE, P(check_scratch), sizeof check_scratch, P(&value[0]));
     MEASURE(OPEN, PACKED_FILE, NUMBERS);
     for (unsigned n = 0; n < points; n++) {
@@ -361,6 +373,9 @@ static void write_files(void)
     MEASURE(OUTLINE, STORE, 0, OUT, P(&value[0]));
     if (series != CHANGED && (value[0] != outline_bytes || memcmp(out, outline, outline_bytes) != 0)) {
         fail(calls[OUTLINE].name, "wrote another room");
+    }
+    if (for_headset()) {
+        MEASURE(HEADSET_PACK, STORE, 0, P(pack_scratch), ROOMS_PACK_SCRATCH_WORDS(CAPACITY), OUT, P(&value[0]));
     }
     MEASURE(PACK, STORE, 0, P(pack_scratch), ROOMS_PACK_SCRATCH_WORDS(CAPACITY), OUT, P(&value[0]));
 }
@@ -475,6 +490,12 @@ static void print_number(size_t n)
     }
 }
 
+/* The greatest of a call: over rooms of depth 16 or, where it takes none of these, of depth 10. */
+static size_t most(unsigned call)
+{
+    return greatest[made[DEEPEST][call] > 0 ? DEEPEST : HEADSET][call];
+}
+
 static void print_call(unsigned call)
 {
     if (call >= CALLS) {
@@ -482,7 +503,7 @@ static void print_call(unsigned call)
         return;
     }
     printf(" %s | ", calls[call].name);
-    print_number(greatest[DEEPEST][call]);
+    print_number(most(call));
     printf(" |");
 }
 
@@ -535,7 +556,7 @@ static void print_changed(void)
             printf(" %s ", calls[call].name);
             print_number(greatest[CHANGED][call]);
             printf(";");
-            above += greatest[CHANGED][call] > greatest[DEEPEST][call];
+            above += greatest[CHANGED][call] > most(call);
         }
     }
     printf(" above the table: %u calls.\n", above);
@@ -546,14 +567,16 @@ int main(void)
     lend_stack();
     measure_rooms(DEEPEST, ROOMS_MAX_DEPTH, 4);
     measure_rooms(LOWER, ROOMS_MAX_DEPTH - 1, 0);
+    measure_rooms(HEADSET, ROOMS_HEADSET_DEPTH, 4);
     for (unsigned call = 0; call < CALLS; call++) {
-        if (made[DEEPEST][call] == 0) {
+        if (made[DEEPEST][call] + made[HEADSET][call] == 0) {
             fail(calls[call].name, "was not measured");
         }
     }
     print_table();
     print_heights();
     print_made(DEEPEST, "rooms of depth 16");
+    print_made(HEADSET, "rooms of depth 10");
     print_made(CHANGED, "files and stores of these rooms, a byte or a word changed in each");
     print_changed();
     for (unsigned call = 0; call < CALLS; call++) {

@@ -3,7 +3,7 @@
  * needs memset alone.
  *
  * A room is a cube of voxels; its depth D, from 2 to 16, gives its edge, 2^D voxels. A store keeps up to 64 scenes and each
- * differing cell of theirs once, mirror images included. The fifteen calls below work on memory that the caller lends: they
+ * differing cell of theirs once, mirror images included. The seventeen calls below work on memory that the caller lends: they
  * allocate nothing, keep nothing between calls, print nothing and start nothing. docs/RULES.md has the rules of rooms, stores
  * and refusals, docs/FORMATS.md the bytes of the two kinds of file.
  *
@@ -80,11 +80,14 @@ extern "C" {
 #define ROOMS_SCRATCH_SHORT 11u /* the scratch is shorter than the call takes */
 #define ROOMS_OUTPUT_SHORT 12u  /* the output is shorter than what would be written */
 #define ROOMS_BAD_WISH 13u      /* the wish is out of its range, infinite or no number */
+#define ROOMS_TOO_DEEP 14u      /* the depth is above 10, the headset's */
+#define ROOMS_LONG_POINTER 15u  /* the packed file has, or would have, a pointer of 4 bytes, which the headset can't read */
 
 /* ---- sizes ---- */
 
 #define ROOMS_MIN_DEPTH 2u
 #define ROOMS_MAX_DEPTH 16u
+#define ROOMS_HEADSET_DEPTH 10u
 #define ROOMS_MAX_SCENES 64u
 #define ROOMS_MAX_CAPACITY 65536u
 
@@ -96,10 +99,10 @@ extern "C" {
 #define ROOMS_STORE_WORDS(capacity) \
     ((size_t)160 + (size_t)142 * (size_t)(capacity) + (size_t)3840 + (size_t)15 * (size_t)(capacity))
 
-/* Words of scratch that rooms_pack takes for a store of this capacity. */
+/* Words of scratch that rooms_pack and rooms_headset_pack take for a store of this capacity. */
 #define ROOMS_PACK_SCRATCH_WORDS(capacity) ((size_t)60 * (size_t)(capacity))
 
-/* Bytes of scratch that rooms_check takes for a file of this length. */
+/* Bytes of scratch that rooms_check and rooms_headset_check take for a file of this length. */
 #define ROOMS_CHECK_SCRATCH_BYTES(file_length) ((size_t)(file_length))
 
 /* Bytes of an empty scene's outline and of its packed file: no file is shorter. */
@@ -218,6 +221,17 @@ uint32_t rooms_outline(const uint32_t *store, size_t store_words, uint32_t scene
 uint32_t rooms_pack(const uint32_t *store, size_t store_words, uint32_t scene, uint32_t *scratch, size_t scratch_words,
                     uint8_t *out, size_t out_bytes, uint32_t *length);
 
+/*
+ * Packed file of a scene for the headset, written to out; *length is its length in bytes. The headset reads pointers of 2
+ * bytes only and has room for depth 10. Accepted, it answers and writes what rooms_pack does, byte for byte; on a store of these
+ * calls rooms_headset_check accepts the file.
+ * Refusals, in order: 2 (the whole store is tested), 9, 11 (fewer than ROOMS_PACK_SCRATCH_WORDS(capacity) words), 14 (a depth
+ * above ROOMS_HEADSET_DEPTH, an empty scene's too), 15 (the file that rooms_pack would write has a pointer of 4 bytes), 12.
+ * out is then as it was. After 0, 12, 14 and 15 the scratch needed is zero; after 2, 9 and 11 it is as it was.
+ */
+uint32_t rooms_headset_pack(const uint32_t *store, size_t store_words, uint32_t scene, uint32_t *scratch,
+                            size_t scratch_words, uint8_t *out, size_t out_bytes, uint32_t *length);
+
 /* ---- packed files read: they need no store and no trust ---- */
 
 /*
@@ -227,6 +241,15 @@ uint32_t rooms_pack(const uint32_t *store, size_t store_words, uint32_t scene, u
  * After 0 and 6 the first file_bytes bytes of scratch are zero; otherwise scratch is as it was.
  */
 uint32_t rooms_check(const uint8_t *file, size_t file_bytes, uint8_t *scratch, size_t scratch_bytes, uint32_t *depth);
+
+/*
+ * Check of a packed file for the headset: accepted exactly where it is proper, its depth is at most ROOMS_HEADSET_DEPTH and none
+ * of its pointers takes 4 bytes; *depth is then its depth. scratch may hold anything.
+ * Refusals, in order: as rooms_check, 11, 3, 4, 5, 6; then 14 (the depth, an empty scene's too), 15 (a pointer of 4 bytes).
+ * After 0, 6, 14 and 15 the first file_bytes bytes of scratch are zero; otherwise scratch is as it was.
+ */
+uint32_t rooms_headset_check(const uint8_t *file, size_t file_bytes, uint8_t *scratch, size_t scratch_bytes,
+                             uint32_t *depth);
 
 /*
  * Voxel (x, y, z) of a packed file: *solid is 1 for solid, 0 for empty; *records is how many records that took, the top one

@@ -31,7 +31,9 @@ uint32_t rooms_any(const uint32_t *, size_t, uint32_t, uint32_t, uint32_t, uint3
 uint32_t rooms_kept(const uint32_t *, size_t, uint32_t, uint32_t *);
 uint32_t rooms_outline(const uint32_t *, size_t, uint32_t, uint8_t *, size_t, uint32_t *);
 uint32_t rooms_pack(const uint32_t *, size_t, uint32_t, uint32_t *, size_t, uint8_t *, size_t, uint32_t *);
+uint32_t rooms_headset_pack(const uint32_t *, size_t, uint32_t, uint32_t *, size_t, uint8_t *, size_t, uint32_t *);
 uint32_t rooms_check(const uint8_t *, size_t, uint8_t *, size_t, uint32_t *);
+uint32_t rooms_headset_check(const uint8_t *, size_t, uint8_t *, size_t, uint32_t *);
 uint32_t rooms_packed_voxel(const uint8_t *, size_t, uint32_t, uint32_t, uint32_t, uint32_t *, uint32_t *, uint32_t *);
 uint32_t rooms_open(const uint8_t *, size_t, uint32_t *, size_t);
 uint32_t rooms_ask(const uint8_t *, size_t, const uint32_t *, size_t, uint32_t, uint32_t, uint32_t, uint32_t *, uint32_t *, uint32_t *);
@@ -148,9 +150,19 @@ static uint32_t call_pack(const struct argument *a)
     return rooms_pack(a[0].words, a[1].whole, U32(2), a[3].words, a[4].whole, a[5].bytes, a[6].whole, a[7].words);
 }
 
+static uint32_t call_headset_pack(const struct argument *a)
+{
+    return rooms_headset_pack(a[0].words, a[1].whole, U32(2), a[3].words, a[4].whole, a[5].bytes, a[6].whole, a[7].words);
+}
+
 static uint32_t call_check(const struct argument *a)
 {
     return rooms_check(a[0].bytes, a[1].whole, a[2].bytes, a[3].whole, a[4].words);
+}
+
+static uint32_t call_headset_check(const struct argument *a)
+{
+    return rooms_headset_check(a[0].bytes, a[1].whole, a[2].bytes, a[3].whole, a[4].words);
 }
 
 static uint32_t call_packed_voxel(const struct argument *a)
@@ -473,6 +485,11 @@ static const uint8_t two_leaves[] = {
 static const uint8_t nothing[] = {0x11, 0, 0, 0, 6, 2};
 
 static const uint8_t nothing_packed[] = {0x22, 0, 0, 0, 7, 2, 8};
+
+/* Empty scenes too deep for the headset. */
+static const uint8_t deep[] = {0x11, 0, 0, 0, 6, ROOMS_HEADSET_DEPTH + 1};
+
+static const uint8_t deep_packed[] = {0x22, 0, 0, 0, 7, ROOMS_HEADSET_DEPTH + 1, 8};
 
 static void put_file(const uint8_t *file, size_t length)
 {
@@ -1033,10 +1050,10 @@ static void try_outline(void)
     refused_chains();
 }
 
-static void try_pack(void)
+static void trials_of_packing(const char *name, uint32_t (*make)(const struct argument *))
 {
     const size_t scratch = ROOMS_PACK_SCRATCH_WORDS(CAPACITY);
-    begin("rooms_pack", call_pack);
+    begin(name, make);
     put_store(sample, sizeof sample);
     give(1, 8, words("store", 0), whole("store_words", STORE), whole("scene", 1), words("scratch", 2), whole("scratch_words", scratch), bytes("out", 0), whole("out_bytes", sizeof sample_packed), words("length", 1));
     memset(after.words[2], 0, scratch * sizeof(uint32_t));
@@ -1051,10 +1068,24 @@ static void try_pack(void)
     refused_chains();
 }
 
-static void try_check(void)
+static void try_pack(void)
+{
+    trials_of_packing("rooms_pack", call_pack);
+}
+
+static void try_headset_pack(void)
+{
+    const size_t scratch = ROOMS_PACK_SCRATCH_WORDS(CAPACITY);
+    trials_of_packing("rooms_headset_pack", call_headset_pack);
+    put_store(deep, sizeof deep);
+    refused_scratch(whole("out_bytes", 0), ROOMS_TOO_DEEP, 0, scratch);
+    refused(whole("scratch_words", scratch - 1), ROOMS_SCRATCH_SHORT);
+}
+
+static void trials_of_checking(const char *name, uint32_t (*make)(const struct argument *))
 {
     const size_t length = sizeof single_packed;
-    begin("rooms_check", call_check);
+    begin(name, make);
     put_file(single_packed, length);
     give(1, 5, bytes("file", 0), whole("file_bytes", length), bytes("scratch", 1), whole("scratch_bytes", length + 7), words("depth", 0));
     memset(after.bytes[1], 0, length);
@@ -1073,6 +1104,20 @@ static void try_check(void)
     memset(after.bytes[1], 0, length);
     after.words[0][0] = 5;
     accepted("with just the scratch it takes");
+}
+
+static void try_check(void)
+{
+    trials_of_checking("rooms_check", call_check);
+}
+
+static void try_headset_check(void)
+{
+    trials_of_checking("rooms_headset_check", call_headset_check);
+    put_file(deep_packed, sizeof deep_packed);
+    change(whole("file_bytes", sizeof deep_packed));
+    refused_byte(5, ROOMS_HEADSET_DEPTH + 1, ROOMS_TOO_DEEP, sizeof deep_packed);
+    refused_byte(6, 9, ROOMS_BROKEN_RULES, sizeof deep_packed);
 }
 
 /* What packed voxel and open refuse of a file's first bytes. */
@@ -1205,6 +1250,67 @@ static void try_greatest(void)
     free(store);
 }
 
+/* The leaves of a room of depth 7 whose 4,096 cells of height 3 all differ, and no two are images: none of the four leaves below has
+   an image among them, or is its own. */
+static size_t put_differing(uint8_t *file, size_t at, unsigned height, unsigned number)
+{
+    static const uint8_t leaves[4] = {0x01, 0x03, 0x07, 0x17};
+    file[at++] = 0xff;
+    for (unsigned child = 0; child < 8; child++) {
+        if (height > 3) {
+            at = put_differing(file, at, height - 1, 8 * number + child);
+        } else {
+            memset(file + at, 0, 7);
+            file[at + 7] = leaves[child < 6 ? number >> (2 * child) & 3 : 0];
+            at += 8;
+        }
+    }
+    return at;
+}
+
+/* A room whose packed file has long pointers: its list of height 3 has 4,096 records of nine half-words. */
+static void try_long(void)
+{
+    enum { CELLS = 4096, LONGEST = 6 + 1 + 8 + 64 + 512 + CELLS * 65 };
+    const size_t words = ROOMS_STORE_WORDS(CELLS), most = ROOMS_PACKED_MAX_BYTES(CELLS), spare = ROOMS_PACK_SCRATCH_WORDS(CELLS);
+    uint32_t *store = calloc(words, sizeof *store), *scratch = calloc(spare, sizeof *scratch), value = 9;
+    uint8_t *file = malloc(LONGEST), *out = malloc(most), *marks = malloc(most);
+    called = "long pointers";
+    if (store == NULL || scratch == NULL || file == NULL || out == NULL || marks == NULL) {
+        is("no memory for them", 1, 0);
+    } else {
+        size_t length = put_differing(file, 6, 7, 0);
+        const uint8_t head[] = {0x11, 0, (uint8_t)(length >> 16), (uint8_t)(length >> 8), (uint8_t)length, 7};
+        memcpy(file, head, sizeof head);
+        is("the store", rooms_new(store, words, CELLS), ROOMS_OK);
+        is("the room", rooms_add(store, words, file, length, &value), ROOMS_OK);
+        is("its cells of height 3", rooms_kept(store, words, 3, &value) + value, CELLS);
+        memset(scratch, 5, spare * sizeof *scratch);
+        out[0] = 5;
+        is("not for the headset", rooms_headset_pack(store, words, 0, scratch, spare, out, most, &value), ROOMS_LONG_POINTER);
+        is("no length", value, 0);
+        is("nothing written", out[0], 5);
+        is("the first word of scratch", scratch[0], 0);
+        is("the last word of scratch", scratch[spare - 1], 0);
+        is("before an output too short", rooms_headset_pack(store, words, 0, scratch, spare, out, 0, &value), ROOMS_LONG_POINTER);
+        is("packed", rooms_pack(store, words, 0, scratch, spare, out, most, &value), ROOMS_OK);
+        length = value;
+        is("proper", rooms_check(out, length, marks, most, &value), ROOMS_OK);
+        is("its depth", value, 7);
+        memset(marks, 5, most);
+        is("not the headset's", rooms_headset_check(out, length, marks, most, &value), ROOMS_LONG_POINTER);
+        is("no depth", value, 0);
+        is("the first byte of scratch", marks[0], 0);
+        is("the last byte of scratch", marks[length - 1], 0);
+        is("the byte behind it", marks[length], 5);
+    }
+    free(store);
+    free(scratch);
+    free(file);
+    free(out);
+    free(marks);
+}
+
 static void try_sizes(void)
 {
     static uint32_t store[ROOMS_STORE_WORDS(CAPACITY)], scratch[ROOMS_PACK_SCRATCH_WORDS(CAPACITY)];
@@ -1258,12 +1364,15 @@ int main(int argc, char **argv)
     try_kept();
     try_outline();
     try_pack();
+    try_headset_pack();
     try_check();
+    try_headset_check();
     try_packed_voxel();
     try_open();
     try_ask();
     try_detail();
     try_sizes();
+    try_long();
     printf("%lu passed, %lu failed\n", passed, failed);
     return failed != 0;
 }

@@ -1,4 +1,4 @@
-//! The fifteen C calls of include/rooms.h over slices: the answer's number is returned, values go to out parameters,
+//! The seventeen C calls of include/rooms.h over slices: the answer's number is returned, values go to out parameters,
 //! zeros on a refusal. Each is safe: a slice and a reference are all that the library asks for, of any content and length, and
 //! `&mut` overlaps with nothing. The only `unsafe` of this crate is here.
 
@@ -71,7 +71,18 @@ pub mod declared {
             out_bytes: usize,
             length: *mut u32,
         ) -> u32;
+        pub fn rooms_headset_pack(
+            store: *const u32,
+            store_words: usize,
+            scene: u32,
+            scratch: *mut u32,
+            scratch_words: usize,
+            out: *mut u8,
+            out_bytes: usize,
+            length: *mut u32,
+        ) -> u32;
         pub fn rooms_check(file: *const u8, file_bytes: usize, scratch: *mut u8, scratch_bytes: usize, depth: *mut u32) -> u32;
+        pub fn rooms_headset_check(file: *const u8, file_bytes: usize, scratch: *mut u8, scratch_bytes: usize, depth: *mut u32) -> u32;
         pub fn rooms_packed_voxel(
             file: *const u8,
             file_bytes: usize,
@@ -142,8 +153,27 @@ pub fn rooms_pack(store: &[u32], scene: u32, scratch: &mut [u32], out: &mut [u8]
     }
 }
 
+pub fn rooms_headset_pack(store: &[u32], scene: u32, scratch: &mut [u32], out: &mut [u8], length: &mut u32) -> u32 {
+    unsafe {
+        declared::rooms_headset_pack(
+            store.as_ptr(),
+            store.len(),
+            scene,
+            scratch.as_mut_ptr(),
+            scratch.len(),
+            out.as_mut_ptr(),
+            out.len(),
+            length,
+        )
+    }
+}
+
 pub fn rooms_check(file: &[u8], scratch: &mut [u8], depth: &mut u32) -> u32 {
     unsafe { declared::rooms_check(file.as_ptr(), file.len(), scratch.as_mut_ptr(), scratch.len(), depth) }
+}
+
+pub fn rooms_headset_check(file: &[u8], scratch: &mut [u8], depth: &mut u32) -> u32 {
+    unsafe { declared::rooms_headset_check(file.as_ptr(), file.len(), scratch.as_mut_ptr(), scratch.len(), depth) }
 }
 
 pub fn rooms_packed_voxel(file: &[u8], x: u32, y: u32, z: u32, solid: &mut u32, records: &mut u32, height: &mut u32) -> u32 {

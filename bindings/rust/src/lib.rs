@@ -26,6 +26,7 @@ use refusal::accepted;
 
 pub const MIN_DEPTH: u32 = 2;
 pub const MAX_DEPTH: u32 = 16;
+pub const HEADSET_DEPTH: u32 = 10;
 pub const MAX_SCENES: u32 = 64;
 pub const MAX_CAPACITY: u32 = 65_536;
 
@@ -36,7 +37,7 @@ pub const fn store_words(capacity: u32) -> usize {
     160 + 142 * capacity + 3_840 + 15 * capacity
 }
 
-/// Words of scratch that `pack` takes for a store of this capacity.
+/// Words of scratch that `pack` and `headset_pack` take for a store of this capacity.
 pub const fn pack_scratch_words(capacity: u32) -> usize {
     60 * capacity as usize
 }
@@ -156,6 +157,17 @@ pub fn pack(store: &[u32], scene: u32, scratch: &mut [u32], out: &mut [u8]) -> R
     accepted(number, length)
 }
 
+/// Writes a scene's packed file for the headset, which reads pointers of 2 bytes only and has room for depth 10; answers its length.
+/// Where the answer is `Ok`, it and what is written are those of `pack`. The scratch needed, `pack_scratch_words`, may hold anything;
+/// it is zero afterwards where the answer is `Ok`, `TooDeep`, `LongPointer` or `OutputShort`, else as it was.
+/// Refusals, in order: `DamagedStore` (the whole store is tested), `NoScene`, `ScratchShort`, `TooDeep` (an empty scene's depth too),
+/// `LongPointer` (what `pack` would write has a pointer of 4 bytes), `OutputShort`.
+pub fn headset_pack(store: &[u32], scene: u32, scratch: &mut [u32], out: &mut [u8]) -> Result<u32, Refusal> {
+    let mut length = 0;
+    let number = c::rooms_headset_pack(store, scene, scratch, out, &mut length);
+    accepted(number, length)
+}
+
 // ---- packed files read: they need no store and no trust
 
 /// Whether a packed file is proper; answers its depth. Scratch has as many bytes as the file and may hold anything; so many are
@@ -164,6 +176,16 @@ pub fn pack(store: &[u32], scene: u32, scratch: &mut [u32], out: &mut [u8]) -> R
 pub fn check(file: &[u8], scratch: &mut [u8]) -> Result<u32, Refusal> {
     let mut depth = 0;
     let number = c::rooms_check(file, scratch, &mut depth);
+    accepted(number, depth)
+}
+
+/// Whether a packed file meets the headset's profile: it is proper, its depth is at most `HEADSET_DEPTH`, and none of its pointers
+/// takes 4 bytes; answers its depth. Scratch has as many bytes as the file and may hold anything; so many are zero afterwards where the
+/// answer is `Ok`, `BrokenRules`, `TooDeep` or `LongPointer`, else as they were.
+/// Refusals, in order: `ScratchShort`, `BadVersion`, `BadLength`, `BadDepth`, `BrokenRules`, `TooDeep`, `LongPointer`.
+pub fn headset_check(file: &[u8], scratch: &mut [u8]) -> Result<u32, Refusal> {
+    let mut depth = 0;
+    let number = c::rooms_headset_check(file, scratch, &mut depth);
     accepted(number, depth)
 }
 

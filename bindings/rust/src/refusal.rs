@@ -1,4 +1,4 @@
-//! The refusals of document 01's table.
+//! The refusals of document 01's table, and those that document 02 adds.
 
 use std::error::Error;
 use std::fmt;
@@ -33,11 +33,15 @@ pub enum Refusal {
     OutputShort = 12,
     /// Wish out of range, NaN or infinite.
     BadWish = 13,
+    /// A depth above 10, the headset's.
+    TooDeep = 14,
+    /// A pointer of 4 bytes, where the headset reads those of 2 only.
+    LongPointer = 15,
 }
 
 impl Refusal {
-    /// All thirteen, by number.
-    pub const ALL: [Refusal; 13] = [
+    /// All fifteen, by number.
+    pub const ALL: [Refusal; 15] = [
         Refusal::BadSize,
         Refusal::DamagedStore,
         Refusal::BadVersion,
@@ -51,9 +55,11 @@ impl Refusal {
         Refusal::ScratchShort,
         Refusal::OutputShort,
         Refusal::BadWish,
+        Refusal::TooDeep,
+        Refusal::LongPointer,
     ];
 
-    /// Its number in the table, 1 to 13.
+    /// Its number in the table, 1 to 15.
     pub fn number(self) -> u32 {
         self as u32
     }
@@ -75,6 +81,8 @@ impl fmt::Display for Refusal {
             Refusal::ScratchShort => "scratch too short",
             Refusal::OutputShort => "output too short",
             Refusal::BadWish => "wish out of range, NaN or infinite",
+            Refusal::TooDeep => "depth above 10, the headset's",
+            Refusal::LongPointer => "a pointer of 4 bytes: the headset reads those of 2 only",
         })
     }
 }

@@ -29,8 +29,11 @@ fn null_pointers_of_length_0() {
         assert_eq!((rooms_kept(null(), 0, 2, &mut a), a), (2, 0));
         assert_eq!((rooms_outline(store, words, 0, null_mut(), 0, &mut a), a), (12, 0));
         assert_eq!((rooms_pack(store, words, 0, null_mut(), 0, null_mut(), 0, &mut a), a), (11, 0));
+        assert_eq!((rooms_headset_pack(store, words, 0, null_mut(), 0, null_mut(), 0, &mut a), a), (11, 0));
         assert_eq!((rooms_check(null(), 0, null_mut(), 0, &mut a), a), (3, 0));
         assert_eq!((rooms_check(file, 7, null_mut(), 0, &mut a), a), (11, 0));
+        assert_eq!((rooms_headset_check(null(), 0, null_mut(), 0, &mut a), a), (3, 0));
+        assert_eq!((rooms_headset_check(file, 7, null_mut(), 0, &mut a), a), (11, 0));
         (b, c) = (9, 9);
         assert_eq!((rooms_packed_voxel(null(), 0, 0, 0, 0, &mut a, &mut b, &mut c), a, b, c), (3, 0, 0, 0));
         assert_eq!(rooms_open(null(), 0, null_mut(), 0), 3);

@@ -2,10 +2,9 @@
 -- are as they should be, the records of a height are the differing cells of that room. By going down from the root. Assumes nothing.
 use mathlib.Core.Path.{_≡_, refl, sym, subst, ap}
 use mathlib.Core.Bool.{false}
-use mathlib.Core.List.{List, [], _∷_}
+use mathlib.Core.List.{List}
 use mathlib.Core.Logic.{inr}
 use Prim.Native.Nat.{ℕ, zero, suc, _+_, _-_, _^_, _<_, _≤_}
-use native.Mathlib.Nat.{not-suc-le-zero}
 use native.Mathlib.Decide.{decLt}
 use native.Mathlib.Omega.{arith}
 use borrow.Author.Tests.{ne-eqb}
@@ -16,8 +15,8 @@ use Rattle.paper.specs.Rooms.{Room, Inside, cellOf, childRoom, Same, Image, Non
 use Rattle.paper.specs.Outline.{edge}
 use Rattle.paper.specs.Store.{Cell, tagOf, cellNo, cellsAt, cellAt}
 use Rattle.paper.specs.Meaning.{cellVoxel}
-use Rattle.paper.specs.Packed.{weight, popularity, namedOk}
-use Rattle.laws.proofs.Weights.{Naming, weight-named}
+use Rattle.paper.specs.Packed.{popularity, namedOk}
+use Rattle.laws.proofs.Weights.{NamedBy, named-by}
 use Rattle.paper.specs.Runs.{alone, Occurs, Number}
 use Rattle.laws.proofs.Tests.{all-at}
 use Rattle.laws.proofs.Eight.{xor8-lt, xor8-back}
@@ -32,30 +31,6 @@ use Rattle.laws.proofs.Records.{seenRoom, child-room, solid-mirrored}
 use Rattle.laws.proofs.Filling.{occurs-held}
 use Rattle.laws.proofs.Differing.{images-number}
 use Rattle.laws.proofs.Alone.{CellAt, alone-cell}
-
--- ---- who names a record
-
--- pointer `child` of cell `cell` of a list names q
-record NamedBy (cs : List Cell) (q : ℕ) : Type 0 where
-  cell : ℕ
-  is-cell : cell < length cs
-  child : ℕ
-  eight : child < 8
-  some : getD (getD cs cell []) child 0 ≡ 0 → ⊥
-  is : cellNo (getD (getD cs cell []) child 0) ≡ q
-
-named-by : (cs : List Cell) (q : ℕ) → 0 < popularity cs q → NamedBy cs q
-unfolding popularity
-named-by [] q h = absurd (not-suc-le-zero h)
-named-by (c ∷ cs) q h = go (decLt 0 (weight q c)) (named-by cs q)
-  where
-    go : Dec (0 < weight q c) → (0 < popularity cs q → NamedBy cs q) → NamedBy (c ∷ cs) q
-    go (yes l) ih =
-        let w : Naming q c = weight-named q c l in
-        record { cell = 0; is-cell = omega arith; child = w .child; eight = w .eight; some = w .some; is = w .is }
-    go (no n) ih =
-        let w : NamedBy cs q = ih (omega (arith, h)) in
-        record { cell = suc (w .cell); is-cell = omega (arith, w .is-cell); child = w .child; eight = w .eight; some = w .some; is = w .is }
 
 -- ---- the graph K under its record 0 of list k, seen under m
 

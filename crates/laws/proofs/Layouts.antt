@@ -22,17 +22,22 @@ use Rattle.laws.proofs.Tests.{T-true, true-T, and-T, all-T}
 use Rattle.laws.proofs.Lists.{Once, length-count, getD-count, length-tabulate, getD-tabulate}
 use Rattle.laws.proofs.Bytes.{bytes-length}
 use Rattle.laws.proofs.RecordSizes.{list-length}
-use Rattle.laws.proofs.RecordReading.{num-bytes, Row, ListRead, list-read, places-length, places-in, places-once}
+use Rattle.laws.proofs.RecordReading.{num-bytes, Row, Some, ListRead, list-read, places-length, places-rise, places-in, places-once}
 use Rattle.laws.proofs.RecordCells.{list-back, list-good, LeafRow, LeavesRead, leaves-read, leaves-length}
 
--- a graph that can be laid out
+-- a graph that can be laid out and read back
 pub record Layable (k : ℕ) (K : List (List Cell)) : Type 0 where
-  pub leaves : (q : ℕ) → q < length (cellsAt K 0) → LeafRow (cellAt K 0 q)
+  pub leaves : (q : ℕ) → q < length (cellsAt K 0) → length (cellAt K 0 q) ≡ 2
   pub rows : (j : ℕ) → j < k → (q : ℕ) → q < length (cellsAt K (suc j)) → Row (length (cellsAt K j)) (cellAt K (suc j) q)
   pub sizes : (j : ℕ) → j ≤ k → size K j ≤ 2 ^ 29
 
+-- its leaves have voxels and its other cells children, as a proper file's records
+pub record Solid (k : ℕ) (K : List (List Cell)) : Type 0 where
+  pub leaves : (q : ℕ) → q < length (cellsAt K 0) → LeafRow (cellAt K 0 q)
+  pub some : (j : ℕ) → j < k → (q : ℕ) → q < length (cellsAt K (suc j)) → Some (cellAt K (suc j) q)
+
 module _ (k : ℕ) (K : List (List Cell)) (g : Layable k K) where
-  places-many : (j : ℕ) → length (places K j) ≡ length (cellsAt K j)
+  pub places-many : (j : ℕ) → length (places K j) ≡ length (cellsAt K j)
   unfolding places
   places-many zero = length-count (length (cellsAt K 0)) 0
   places-many (suc j) = places-length (places K j) 0 (cellsAt K (suc j))
@@ -44,6 +49,16 @@ module _ (k : ℕ) (K : List (List Cell)) (g : Layable k K) where
       omega (arith, getD-count (length (cellsAt K 0)) 0 q i, g .sizes 0 h)
   places-small (suc j) h q m =
       omega (arith, places-in (places K j) 0 (cellsAt K (suc j)) q (omega (arith, places-many (suc j))), g .sizes (suc j) h)
+
+  -- places rise along a list
+  pub places-rising : (j i q : ℕ) → i ≤ q → q < length (places K j) → getD (places K j) i 0 ≤ getD (places K j) q 0
+  unfolding places
+  places-rising zero i q h m =
+      let n : ℕ = length (cellsAt K 0) in
+      let a : i < n = omega (arith, places-many 0) in
+      let b : q < n = omega (arith, places-many 0) in
+      omega (arith, getD-count n 0 i a, getD-count n 0 q b)
+  places-rising (suc j) i q h m = places-rise (places K j) 0 (cellsAt K (suc j)) i q h (omega (arith, places-many (suc j)))
 
   places-apart : (j : ℕ) → Once (places K j)
   unfolding places
@@ -163,42 +178,22 @@ module _ (k m : ℕ) (K : List (List Cell)) (g : Layable k K) (short : packedHea
   unfolding listBytes
   read-at j h = list-read (places K j) (places-small k K g j (omega arith)) (listAt file (suc j)) [] 0 (cellsAt K (suc j)) (rows-at k K g j h) refl (list-said (suc j) h)
 
-  leaves-at : LeavesRead (listAt file 0) 0 (cellsAt K 0)
-  unfolding listBytes
-  leaves-at = leaves-read (listAt file 0) [] 0 (cellsAt K 0) (g .leaves) refl (list-said 0 (omega arith))
-
-  places-said : (j : ℕ) → j ≤ k → placesAt file j ≡ places K j
+  pub places-said : (j : ℕ) → j ≤ k → placesAt file j ≡ places K j
   unfolding placesAt places size
   places-said zero h = ap (count 0) (size-said 0 h)
   places-said (suc j) h = read-at j h .starts (sizeAt file (suc j)) (omega (arith, size-said (suc j) h))
 
-  cells-said : (j : ℕ) → j ≤ k → cellsOf file j ≡ cellsAt K j
+  pub inner-said : (j : ℕ) → j < k → cellsOf file (suc j) ≡ cellsAt K (suc j)
   unfolding cellsOf places
-  cells-said zero h = rw (places-said 0 h) (leaves-at .cells)
-  cells-said (suc j) h =
+  inner-said j h =
       rw (places-said (suc j) h, places-said j (omega arith))
       (list-back (places K j) (places-apart k K g j) (listAt file (suc j)) 0 (cellsAt K (suc j)) (rows-at k K g j h) (read-at j h))
 
-  whole-said : (j : ℕ) → j ≤ k → T (wholeAt file j)
-  unfolding wholeAt places
-  whole-said zero h = rw (places-said 0 h) (leaves-at .good)
-  whole-said (suc j) h = rw (places-said (suc j) h) (read-at j h .good)
-
-  pointers-said : (j : ℕ) → j < k → T (packedPointersOk file j)
+  pub pointers-said : (j : ℕ) → j < k → T (packedPointersOk file j)
   unfolding packedPointersOk places
   pointers-said j h =
       rw (places-said (suc j) h, places-said j (omega arith))
       (list-good (places K j) (places-apart k K g j) (listAt file (suc j)) 0 (cellsAt K (suc j)) (rows-at k K g j h) (read-at j h))
-
-  -- the graph is read back
-  pub graph-said : length K ≡ suc k → graphOf file ≡ K
-  unfolding graphOf
-  graph-said n =
-      rw top-said
-      (ext-getD [] (tabulate 0 (suc k) (cellsOf file)) K (length-tabulate (suc k) 0 (cellsOf file) ∙ sym n)
-      (λ j h.
-      let i : j < suc k = omega (arith, length-tabulate (suc k) 0 (cellsOf file)) in
-      getD-tabulate (suc k) 0 j (cellsOf file) [] i ∙ ap (cellsOf file) (omega arith) ∙ cells-said j (omega arith)))
 
   -- the tests on bytes
   pub version-ok : T (versionOk packedVersion file)
@@ -232,25 +227,52 @@ module _ (k m : ℕ) (K : List (List Cell)) (g : Layable k K) (short : packedHea
   unfolding topOk
   top-ok e = rw (top-said, places-said k (omega arith), places-many k K g k, e) tt
 
-  pub lists-ok : length (cellsAt K k) ≡ 1 → T (listsOk file)
-  unfolding listsOk
-  lists-ok e =
-      and-T (topOk file && allBelow (suc (topOf file)) (wholeAt file)) (allBelow (topOf file) (packedPointersOk file))
-      (and-T (topOk file) (allBelow (suc (topOf file)) (wholeAt file)) (top-ok e) (rw top-said (all-T (suc k) (wholeAt file) (λ j h. whole-said j (omega arith)))))
-      (rw top-said (all-T k (packedPointersOk file) pointers-said))
+  -- ---- no cell empty: the graph is read back whole, and the file is proper
 
-  rules-ok : length K ≡ suc k → m < 8 → length (cellsAt K k) ≡ 1 → T (graphOk k m K) → T (packedRules file)
-  unfolding packedRules headOk
-  rules-ok n hm e t =
-      rw (T-true {b = rootOk file} (root-ok hm), tag-said, ne-eqb m emptyMark (λ e. omega arith), T-true {b = sizesOk file} sizes-ok, T-true {b = listsOk file} (lists-ok e), top-said, graph-said n) t
+  module _ (w : Solid k K) where
+    leaves-at : LeavesRead (listAt file 0) 0 (cellsAt K 0)
+    unfolding listBytes
+    leaves-at = leaves-read (listAt file 0) [] 0 (cellsAt K 0) (w .leaves) refl (list-said 0 (omega arith))
 
-  -- a graph that obeys the rules on records, laid out, is a proper file
-  pub layout-proper : length K ≡ suc k → k < heights → m < 8 → length (cellsAt K k) ≡ 1 → T (graphOk k m K) → T (proper file)
-  unfolding proper
-  layout-proper n hk hm e t =
-      rw (T-true {b = versionOk packedVersion file} version-ok, T-true {b = lengthOk packedHead file} length-ok, T-true {b = depthOk (fileDepth file)} (depth-ok hk)) (rules-ok n hm e t)
+    cells-said : (j : ℕ) → j ≤ k → cellsOf file j ≡ cellsAt K j
+    unfolding cellsOf places
+    cells-said zero h = rw (places-said 0 h) (leaves-at .cells)
+    cells-said (suc j) h = inner-said j h
 
-  -- and means the room of its top cell, mirrored
-  pub layout-room : length K ≡ suc k → m < 8 → (v : Point) → packedRoom file v ≡ cellVoxel K k (cellAt K k 0) (mirror m (edge k) v)
-  unfolding packedRoom
-  layout-room n hm v = rw (tag-said, ne-eqb m emptyMark (λ e. omega arith), top-said, graph-said n, depth-said)
+    whole-said : (j : ℕ) → j ≤ k → T (wholeAt file j)
+    unfolding wholeAt places
+    whole-said zero h = rw (places-said 0 h) (leaves-at .good)
+    whole-said (suc j) h = rw (places-said (suc j) h) (read-at j h .good (w .some j h))
+
+    -- the graph is read back
+    pub graph-said : length K ≡ suc k → graphOf file ≡ K
+    unfolding graphOf
+    graph-said n =
+        rw top-said
+        (ext-getD [] (tabulate 0 (suc k) (cellsOf file)) K (length-tabulate (suc k) 0 (cellsOf file) ∙ sym n)
+        (λ j h.
+        let i : j < suc k = omega (arith, length-tabulate (suc k) 0 (cellsOf file)) in
+        getD-tabulate (suc k) 0 j (cellsOf file) [] i ∙ ap (cellsOf file) (omega arith) ∙ cells-said j (omega arith)))
+
+    pub lists-ok : length (cellsAt K k) ≡ 1 → T (listsOk file)
+    unfolding listsOk
+    lists-ok e =
+        and-T (topOk file && allBelow (suc (topOf file)) (wholeAt file)) (allBelow (topOf file) (packedPointersOk file))
+        (and-T (topOk file) (allBelow (suc (topOf file)) (wholeAt file)) (top-ok e) (rw top-said (all-T (suc k) (wholeAt file) (λ j h. whole-said j (omega arith)))))
+        (rw top-said (all-T k (packedPointersOk file) pointers-said))
+
+    rules-ok : length K ≡ suc k → m < 8 → length (cellsAt K k) ≡ 1 → T (graphOk k m K) → T (packedRules file)
+    unfolding packedRules headOk
+    rules-ok n hm e t =
+        rw (T-true {b = rootOk file} (root-ok hm), tag-said, ne-eqb m emptyMark (λ e. omega arith), T-true {b = sizesOk file} sizes-ok, T-true {b = listsOk file} (lists-ok e), top-said, graph-said n) t
+
+    -- a graph that obeys the rules on records, laid out, is a proper file
+    pub layout-proper : length K ≡ suc k → k < heights → m < 8 → length (cellsAt K k) ≡ 1 → T (graphOk k m K) → T (proper file)
+    unfolding proper
+    layout-proper n hk hm e t =
+        rw (T-true {b = versionOk packedVersion file} version-ok, T-true {b = lengthOk packedHead file} length-ok, T-true {b = depthOk (fileDepth file)} (depth-ok hk)) (rules-ok n hm e t)
+
+    -- and means the room of its top cell, mirrored
+    pub layout-room : length K ≡ suc k → m < 8 → (v : Point) → packedRoom file v ≡ cellVoxel K k (cellAt K k 0) (mirror m (edge k) v)
+    unfolding packedRoom
+    layout-room n hm v = rw (tag-said, ne-eqb m emptyMark (λ e. omega arith), top-said, graph-said n, depth-said)

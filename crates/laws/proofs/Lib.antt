@@ -128,6 +128,11 @@ pub mod PackedReachable
 pub mod PackedGraph
 pub mod Packing
 pub mod PackedMost
+pub mod LongPointers
 pub mod SamePack
 pub mod PackClaim
 pub mod PackedClaims
+-- the headset profile
+pub mod HeadsetCheck
+pub mod HeadsetPack
+pub mod HeadsetClaim

@@ -14,7 +14,8 @@ use Rattle.paper.specs.Detail.{detailOrder, detailOutcome}
 use Rattle.paper.specs.Calls.{newOrder, newOutcome, addOutcome, noScene, questionOrder, voxelOutside, voxelDamaged, voxelOutcome, cellOutside, cellDamaged, cellOutcome, boxOutside, boxDamaged, boxOutcome, keptOutcome, outlineOutcome, packOutcome, checkOrder, checkOutcome, packedVoxelOrder, packedVoxelOutcome, openOrder, openOutcome, askOrder, askOutcome}
 use Rattle.paper.specs.Sight.{decider, givesTwo, sightDamaged, sightOutside, sightOutcome}
 use Rattle.paper.specs.Anything.{anyDamaged, anyOutcome}
-use Rattle.paper.specs.Runs.{StoreQuestion, voxel, sight, cell, box, anything, kept, outline, pack, FileQuestion, check, packedVoxel, opening, ask, detail, Call, new, add, ofStore, ofFile, Held, storeAnswer, fileAnswer, outcomeOf}
+use Rattle.paper.specs.Headset.{headsetCheckOrder, headsetCheckOutcome, headsetPackOutcome}
+use Rattle.paper.specs.Runs.{StoreQuestion, voxel, sight, cell, box, anything, kept, outline, pack, headsetPack, FileQuestion, check, headsetCheck, packedVoxel, opening, ask, detail, Call, new, add, ofStore, ofFile, Held, storeAnswer, fileAnswer, outcomeOf}
 use Rattle.laws.proofs.Tests.{T-true}
 use Rattle.laws.proofs.Refusals.{settled-number, never-2, sound-never-2, question-never-2}
 use Rattle.laws.proofs.Walks.{voxel-clear, cell-clear}
@@ -25,8 +26,9 @@ use Rattle.laws.proofs.AnyClaim.{scene-any-clear}
 
 -- 2 is in no order of a question that looks at no store
 file-undamaged : (q : FileQuestion) → fileAnswer q .number ≡ 2 → ⊥
-unfolding checkOutcome packedVoxelOutcome openOutcome askOutcome detailOutcome
+unfolding checkOutcome headsetCheckOutcome packedVoxelOutcome openOutcome askOutcome detailOutcome
 file-undamaged (check file scratch) = never-2 (checkOrder file scratch) _ _ _ tt
+file-undamaged (headsetCheck file scratch) = never-2 (headsetCheckOrder file scratch) _ _ _ tt
 file-undamaged (packedVoxel file v) = never-2 (packedVoxelOrder file v) _ _ _ tt
 file-undamaged (opening file) = never-2 (openOrder file) _ _ _ tt
 file-undamaged (ask file D starts v) = never-2 (askOrder file D starts v) _ _ _ tt
@@ -77,7 +79,7 @@ module _ {ws : List ℕ} {held : Held} (s : Holds ws held) where
       go (some v) = ne-eqb (voxelOutcome ws n v .number) 2 (voxel-never-2 n v)
 
   store-undamaged : (q : StoreQuestion) → storeAnswer ws q .number ≡ 2 → ⊥
-  unfolding sightOutcome cellOutcome boxOutcome anyOutcome keptOutcome outlineOutcome packOutcome
+  unfolding sightOutcome cellOutcome boxOutcome anyOutcome keptOutcome outlineOutcome packOutcome headsetPackOutcome
   store-undamaged (voxel n v) = voxel-never-2 n v
   store-undamaged (sight n a b) = question-sound n (sightOutside ws n a b) (sightDamaged ws n a b) _ (λ e. sight-undamaged n a b)
   store-undamaged (cell n h c) = question-sound n (cellOutside ws n h c) (cellDamaged ws n h c) _ (cell-undamaged n h c)
@@ -86,6 +88,7 @@ module _ {ws : List ℕ} {held : Held} (s : Holds ws held) where
   store-undamaged (kept h) = sound-never-2 _ _ _ _ _ sound-header tt
   store-undamaged (outline n out) = sound-never-2 _ _ _ _ _ sound-store tt
   store-undamaged (pack n scratch out) = sound-never-2 _ _ _ _ _ sound-store tt
+  store-undamaged (headsetPack n scratch out) = sound-never-2 _ _ _ _ _ sound-store tt
 
   -- (a) no call answers 2
   pub never-damaged : (c : Call) → outcomeOf ws c .number ≡ 2 → ⊥

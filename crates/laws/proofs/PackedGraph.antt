@@ -26,7 +26,7 @@ use Rattle.laws.proofs.Invariant.{Names, names-ne, LowTag, Inv}
 use Rattle.laws.proofs.RenumberedPointers.{Listed, listed-cell, listed-tag}
 use Rattle.laws.proofs.Renumbering.{Renumbered, renumbered-length, renumbered-cell, renumbered-pointer, renumbered-voxels, renumbered-popularity, pointer-low, renumbered-inv}
 use Rattle.laws.proofs.PackedOrder.{every-at, pairs-at, Before, Counted}
-use Rattle.laws.proofs.PackedReachable.{Packable, numbers, keptAt, uses, N-top, N-chosen, N-few, N-used, N-falls, all-listed, before-le}
+use Rattle.laws.proofs.PackedReachable.{Pointing, Packable, numbers, keptAt, uses, chosen, listed, N-top, N-few, N-used, N-falls, all-pointing, before-le}
 
 -- ---- the lists of a scene's graph
 
@@ -42,6 +42,22 @@ module _ (K : List (List Cell)) (k p : ℕ) where
   pub graph-inner : (j : ℕ) → j < k → cellsAt (sceneGraph K k p) (suc j) ≡ map (λ q. map (renumber (numbers K k p j)) (cellAt K (suc j) q)) (numbers K k p (suc j))
   unfolding listFor
   graph-inner j h = graph-list (suc j) h
+
+  -- the graph's cells are the store's renumbered, where kept cells point to kept ones
+  pub pointing-renumbered : cellNo p < length (cellsAt K k) → ((j : ℕ) → j ≤ k → length (cellsAt K j) ≤ mostCapacity) → Pointing K k → Renumbered K (sceneGraph K k p) (numbers K k p) k
+  pointing-renumbered root few ok = record {
+    list = graph-list;
+    below = λ j h. chosen K k p root j h .below;
+    once = λ j h. chosen K k p root j h .once;
+    few = λ j h. omega (arith, chosen K k p root j h .len, few j h);
+    closed = listed K k p root ok;
+  }
+
+  -- and every one below the top is named
+  pub renumbered-named : Renumbered K (sceneGraph K k p) (numbers K k p) k → (j : ℕ) → j < k → (q : ℕ) → q < length (numbers K k p j) → 0 < popularity (cellsAt (sceneGraph K k p) (suc j)) q
+  renumbered-named r j h q l =
+      let u : Counted (uses K k p j) (mostWeight * length (numbers K k p (suc j))) (length (cellsAt K j)) (getD (numbers K k p j) q 0) = every-at _ (numbers K k p j) (N-used K k p j h) q l in
+      omega (arith, renumbered-popularity r j h q l, u .some)
 
 -- ---- lists as they should be keep the rules
 
@@ -90,22 +106,13 @@ module _ (K : List (List Cell)) (s : Packable K) (k p : ℕ) (hp : Names (length
   -- ---- the graph's cells are the store's renumbered
 
   pub graph-renumbered : Renumbered K G N k
-  graph-renumbered = record {
-    list = graph-list K k p;
-    below = λ j h. N-chosen K s k p hp j h .below;
-    once = λ j h. N-chosen K s k p hp j h .once;
-    few = N-few K s k p hp;
-    closed = all-listed K s k p hp;
-  }
+  graph-renumbered = pointing-renumbered K k p (omega arith) (λ j h. s .few j) (all-pointing K s k p hp)
 
   pub graph-length : (j : ℕ) → j ≤ k → length (cellsAt G j) ≡ length (N j)
   graph-length = renumbered-length graph-renumbered
 
   pub graph-leaf : (n : ℕ) → n < length (N 0) → cellAt G 0 n ≡ kept 0 n
   graph-leaf = renumbered-cell graph-renumbered 0 (omega arith)
-
-  pub graph-cell : (j : ℕ) → j < k → (n : ℕ) → n < length (N (suc j)) → cellAt G (suc j) n ≡ map (renumber (N j)) (kept (suc j) n)
-  graph-cell j h = renumbered-cell graph-renumbered (suc j) h
 
   pub graph-pointer : (j : ℕ) → j < k → (n : ℕ) → n < length (N (suc j)) → (i : ℕ) → getD (cellAt G (suc j) n) i 0 ≡ renumber (N j) (getD (kept (suc j) n) i 0)
   graph-pointer = renumbered-pointer graph-renumbered
@@ -127,9 +134,7 @@ module _ (K : List (List Cell)) (s : Packable K) (k p : ℕ) (hp : Names (length
   unfolding namedOk
   named-ok j h =
       all-T (length (cellsAt G j)) _ (λ q hq.
-      let l : q < length (N j) = omega (arith, graph-length j (omega arith)) in
-      let u : Counted (used j) (mostWeight * length (N (suc j))) (length (cellsAt K j)) (getD (N j) q 0) = every-at _ (N j) (N-used K k p j h) q l in
-      true-T (lt-ltb 0 (popularity (cellsAt G (suc j)) q) (omega (arith, graph-popularity j h q l, u .some))))
+      true-T (lt-ltb 0 (popularity (cellsAt G (suc j)) q) (renumbered-named K k p graph-renumbered j h q (omega (arith, graph-length j (omega arith))))))
 
   -- along each list that number never rises
   falling-ok : (j : ℕ) → j < k → T (fallingOk G j)

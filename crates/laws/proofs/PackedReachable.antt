@@ -173,8 +173,8 @@ module _ (K : List (List Cell)) (s : Packable K) (k p : ℕ) (hp : Names (length
   pub N-few : (j : ℕ) → j ≤ k → length (numbers K k p j) ≤ mostCapacity
   N-few j h = omega (arith, N-chosen j h .len, s .few j)
 
-  pointing : Pointing K k
-  pointing j h q l = (s .invs (suc j) .shape q l .0, s .invs (suc j) .ok q l)
+  pub all-pointing : Pointing K k
+  all-pointing j h q l = (s .invs (suc j) .shape q l .0, s .invs (suc j) .ok q l)
 
   pub all-listed : (j : ℕ) → j < k → (n : ℕ) → n < length (numbers K k p (suc j)) → (i : ℕ) → InList (numbers K k p j) (getD (keptAt K k p (suc j) n) i 0)
-  all-listed = listed K k p (omega arith) pointing
+  all-listed = listed K k p (omega arith) all-pointing

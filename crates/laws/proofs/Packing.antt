@@ -24,15 +24,16 @@ use Rattle.laws.proofs.Lists.{length-tabulate}
 use Rattle.laws.proofs.Outlines.{depth-two}
 use Rattle.laws.proofs.Undamaged.{depth-low}
 use Rattle.laws.proofs.Matching.{tag-lt}
-use Rattle.laws.proofs.Invariant.{Names, OkPointer, LowTag, TwoWords, names-ne}
+use Rattle.laws.proofs.Invariant.{Names, OkPointer, LowTag, names-ne}
 use Rattle.laws.proofs.Adding.{pointer-names}
 use Rattle.laws.proofs.RecordSizes.{size-le}
-use Rattle.laws.proofs.RecordReading.{NamesWord, OkPackedPointer, Row}
+use Rattle.laws.proofs.RecordReading.{NamesWord, OkPackedPointer, Row, Some}
 use Rattle.laws.proofs.RecordCells.{LeafRow}
-use Rattle.laws.proofs.Layouts.{Layable, list-size, leaf-size, sizes-length, layout-proper, layout-room}
+use Rattle.laws.proofs.Layouts.{Layable, Solid, list-size, leaf-size, sizes-length, layout-proper, layout-room}
 use Rattle.laws.proofs.LayoutBytes.{layout-bytes, empty-bytes}
-use Rattle.laws.proofs.PackedReachable.{InList, none-renumbered, listed-is, listed-small, listed-some, Packable, numbers, N-top, N-chosen, N-few, all-listed}
-use Rattle.laws.proofs.PackedGraph.{graph-length, graph-leaf, graph-cell, graph-pointer, graph-voxels, graph-ok}
+use Rattle.laws.proofs.Renumbering.{Renumbered, renumbered-length, renumbered-cell, renumbered-pointer}
+use Rattle.laws.proofs.PackedReachable.{InList, none-renumbered, listed-is, listed-small, listed-some, Packable, numbers, N-top, N-chosen, all-listed}
+use Rattle.laws.proofs.PackedGraph.{graph-renumbered, graph-length, graph-leaf, graph-pointer, graph-voxels, graph-ok}
 
 -- ---- sizes: a record has at most 17 half-words
 
@@ -47,6 +48,64 @@ solid-pointer : (K : List (List Cell)) (j : ℕ) (c : Cell) (v : Point) → cell
 unfolding cellVoxel
 solid-pointer K j c v e z = false≢true (sym (rw (eq-eqb (getD c (childNo (edge j) v) 0) 0 z)) ∙ e)
 
+-- a pointer renumbered is none, or names one of the numbers
+packedPointer-in : (ns : List ℕ) → length ns ≤ mostCapacity → (r : ℕ) → InList ns r → OkPackedPointer (length ns) (renumber ns r)
+packedPointer-in ns few r (inl e) = inl (none-renumbered ns r e)
+packedPointer-in ns few r (inr w) =
+    let n : ℕ = indexIn (cellNo r) ns in
+    inr (subst (NamesWord (length ns)) (sym (listed-is ns r w))
+    (record { names = pointer-names (tagOf r) n (length ns) (listed-small ns few r w) (w .at .inside); small = omega (arith, listed-small ns few r w) }))
+
+-- a pointer that is some stays some
+some-in : (ns : List ℕ) (r : ℕ) → InList ns r → (r ≡ 0 → ⊥) → renumber ns r ≡ 0 → ⊥
+some-in ns r (inl e) n = absurd (n e)
+some-in ns r (inr w) n = listed-some ns r w
+
+-- ---- the graph can be laid out: its cells are the store's renumbered, leaves of two words and others of eight
+
+module _ (K : List (List Cell)) (k p : ℕ) (hk : k < heights) (r : Renumbered K (sceneGraph K k p) (numbers K k p) k)
+    (two : (q : ℕ) → q < length (cellsAt K 0) → length (cellAt K 0 q) ≡ 2)
+    (eight : (j : ℕ) → j < k → (q : ℕ) → q < length (cellsAt K (suc j)) → length (cellAt K (suc j) q) ≡ 8) where
+  abbrev G : List (List Cell)
+  G = sceneGraph K k p
+
+  abbrev N : ℕ → List ℕ
+  N = numbers K k p
+
+  two-of : (n : ℕ) → n < length (cellsAt G 0) → length (cellAt G 0 n) ≡ 2
+  two-of n m =
+      let l : n < length (N 0) = omega (arith, renumbered-length r 0 (omega arith)) in
+      ap length (renumbered-cell r 0 (omega arith) n l) ∙ two (getD (N 0) n 0) (r .below 0 (omega arith) n l)
+
+  row-of : (j : ℕ) → j < k → (n : ℕ) → n < length (cellsAt G (suc j)) → Row (length (cellsAt G j)) (cellAt G (suc j) n)
+  row-of j h n m =
+      let l : n < length (N (suc j)) = omega (arith, renumbered-length r (suc j) h) in
+      let q : ℕ = getD (N (suc j)) n 0 in
+      record {
+        eight = ap length (renumbered-cell r (suc j) h n l) ∙ length-map (cellAt K (suc j) q) (renumber (N j)) ∙ eight j h q (r .below (suc j) h n l);
+        pointers = λ i.
+            subst₂ OkPackedPointer (sym (renumbered-length r j (omega arith))) (sym (renumbered-pointer r j h n l i))
+            (packedPointer-in (N j) (r .few j (omega arith)) (getD (cellAt K (suc j) q) i 0) (r .closed j h n l i));
+      }
+
+  size-small : (j : ℕ) → j ≤ k → size G j ≤ mostHalves
+  unfolding size
+  size-small zero h = omega (arith, renumbered-length r 0 h, r .few 0 h)
+  size-small (suc j) h =
+      omega (arith, size-le (places G j) (cellsAt G (suc j)) (λ q m. row-of j h q m .eight), renumbered-length r (suc j) h, r .few (suc j) h)
+
+  pub renumbered-good : Layable k G
+  renumbered-good = record { leaves = two-of; rows = row-of; sizes = λ j h. omega (arith, size-small j h) }
+
+  body-small : (j : ℕ) → j ≤ k → length (body G j) ≤ 8 * mostHalves * suc j
+  unfolding body
+  body-small zero h = omega (arith, leaf-size k G renumbered-good, size-small 0 h)
+  body-small (suc j) h =
+      omega (arith, length-append (listBytes G (suc j)) (body G j), list-size k G renumbered-good j h, size-small (suc j) h, body-small j (omega arith))
+
+  pub renumbered-short : packedHead + length (sizeBytes G k ++ body G k) < 2 ^ 32
+  renumbered-short = omega (arith, length-append (sizeBytes G k) (body G k), sizes-length G k, body-small k (omega arith))
+
 module _ (K : List (List Cell)) (s : Packable K) (k p : ℕ) (hk : k < heights) (hp : Names (length (cellsAt K k)) p) where
   abbrev g : List (List Cell)
   g = sceneGraph K k p
@@ -54,7 +113,19 @@ module _ (K : List (List Cell)) (s : Packable K) (k p : ℕ) (hk : k < heights) 
   abbrev Ns : ℕ → List ℕ
   Ns = numbers K k p
 
-  -- ---- the graph can be laid out
+  -- ---- the graph can be laid out, and no cell of it is empty
+
+  two : (q : ℕ) → q < length (cellsAt K 0) → length (cellAt K 0 q) ≡ 2
+  two q h = ap length (s .invs 0 .shape q h .is)
+
+  eight : (j : ℕ) → j < k → (q : ℕ) → q < length (cellsAt K (suc j)) → length (cellAt K (suc j) q) ≡ 8
+  eight j h q m = s .invs (suc j) .shape q m .0
+
+  pub scene-good : Layable k g
+  scene-good = renumbered-good K k p hk (graph-renumbered K s k p hp) two eight
+
+  pub scene-short : packedHead + length (sizeBytes g k ++ body g k) < 2 ^ 32
+  scene-short = renumbered-short K k p hk (graph-renumbered K s k p hp) two eight
 
   leaf-row : (n : ℕ) → n < length (cellsAt g 0) → LeafRow (cellAt g 0 n)
   unfolding cellVoxel
@@ -69,33 +140,16 @@ module _ (K : List (List Cell)) (s : Packable K) (k p : ℕ) (hk : k < heights) 
       hq : q < length (cellsAt K 0)
       hq = N-chosen K s k p hp 0 (omega arith) .below n l
 
-      two : TwoWords (cellAt K 0 q)
-      two = s .invs 0 .shape q hq
-
       row : LeafRow (cellAt K 0 q)
-      row = record { two = two; solid = solid-leaf (leafNo (cellAt K 0 q)) (s .invs 0 .solid q hq .0) (s .invs 0 .solid q hq .2) }
+      row = record { two = s .invs 0 .shape q hq; solid = solid-leaf (leafNo (cellAt K 0 q)) (s .invs 0 .solid q hq .0) (s .invs 0 .solid q hq .2) }
 
-  packedPointer-in : (ns : List ℕ) → length ns ≤ mostCapacity → (r : ℕ) → InList ns r → OkPackedPointer (length ns) (renumber ns r)
-  packedPointer-in ns few r (inl e) = inl (none-renumbered ns r e)
-  packedPointer-in ns few r (inr w) =
-      let n : ℕ = indexIn (cellNo r) ns in
-      inr (subst (NamesWord (length ns)) (sym (listed-is ns r w))
-      (record { names = pointer-names (tagOf r) n (length ns) (listed-small ns few r w) (w .at .inside); small = omega (arith, listed-small ns few r w) }))
-
-  -- a pointer that is some stays some
-  some-in : (ns : List ℕ) (r : ℕ) → InList ns r → (r ≡ 0 → ⊥) → renumber ns r ≡ 0 → ⊥
-  some-in ns r (inl e) n = absurd (n e)
-  some-in ns r (inr w) n = listed-some ns r w
-
-  row-of : (j : ℕ) → j < k → (n : ℕ) → n < length (cellsAt g (suc j)) → Row (length (cellsAt g j)) (cellAt g (suc j) n)
-  row-of j h n m = record {
-    eight = ap length (graph-cell K s k p hp j h n l) ∙ length-map (cellAt K (suc j) q) (renumber (Ns j)) ∙ s .invs (suc j) .shape q hq .0;
-    pointers = λ i. subst₂ OkPackedPointer (sym (graph-length K s k p hp j (omega arith))) (sym (graph-pointer K s k p hp j h n l i)) (packedPointer-in (Ns j) few (getD (cellAt K (suc j) q) i 0) (all-listed K s k p hp j h n l i));
-    one = childNo (edge j) v;
-    there = λ e.
+  some-of : (j : ℕ) → j < k → (n : ℕ) → n < length (cellsAt g (suc j)) → Some (cellAt g (suc j) n)
+  some-of j h n m = (
+    childNo (edge j) v,
+    λ e.
         some-in (Ns j) (getD (cellAt K (suc j) q) (childNo (edge j) v) 0) (all-listed K s k p hp j h n l (childNo (edge j) v))
-        (solid-pointer K j (cellAt K (suc j) q) v (s .invs (suc j) .solid q hq .2)) (sym (graph-pointer K s k p hp j h n l (childNo (edge j) v)) ∙ e);
-  }
+        (solid-pointer K j (cellAt K (suc j) q) v (s .invs (suc j) .solid q hq .2)) (sym (graph-pointer K s k p hp j h n l (childNo (edge j) v)) ∙ e),
+  )
     where
       l : n < length (Ns (suc j))
       l = omega (arith, graph-length K s k p hp (suc j) h)
@@ -106,29 +160,11 @@ module _ (K : List (List Cell)) (s : Packable K) (k p : ℕ) (hk : k < heights) 
       hq : q < length (cellsAt K (suc j))
       hq = N-chosen K s k p hp (suc j) h .below n l
 
-      few : length (Ns j) ≤ mostCapacity
-      few = N-few K s k p hp j (omega arith)
-
       v : Point
       v = s .invs (suc j) .solid q hq .0
 
-  size-small : (j : ℕ) → j ≤ k → size g j ≤ mostHalves
-  unfolding size
-  size-small zero h = omega (arith, graph-length K s k p hp 0 h, N-few K s k p hp 0 h)
-  size-small (suc j) h =
-      omega (arith, size-le (places g j) (cellsAt g (suc j)) (λ q m. row-of j h q m .eight), graph-length K s k p hp (suc j) h, N-few K s k p hp (suc j) h)
-
-  pub scene-good : Layable k g
-  scene-good = record { leaves = leaf-row; rows = row-of; sizes = λ j h. omega (arith, size-small j h) }
-
-  body-small : (j : ℕ) → j ≤ k → length (body g j) ≤ 8 * mostHalves * suc j
-  unfolding body
-  body-small zero h = omega (arith, leaf-size k g scene-good, size-small 0 h)
-  body-small (suc j) h =
-      omega (arith, length-append (listBytes g (suc j)) (body g j), list-size k g scene-good j h, size-small (suc j) h, body-small j (omega arith))
-
-  pub scene-short : packedHead + length (sizeBytes g k ++ body g k) < 2 ^ 32
-  scene-short = omega (arith, length-append (sizeBytes g k) (body g k), sizes-length g k, body-small k (omega arith))
+  scene-solid : Solid k g
+  scene-solid = record { leaves = leaf-row; some = some-of }
 
   scene-tall : length g ≡ suc k
   unfolding sceneGraph
@@ -140,11 +176,11 @@ module _ (K : List (List Cell)) (s : Packable K) (k p : ℕ) (hk : k < heights) 
   -- ---- the file
 
   pub scene-proper : LowTag K k p → T (proper (layout k (tagOf p) g))
-  scene-proper low = layout-proper k (tagOf p) g scene-good scene-short scene-tall hk (tag-lt p) top-one (graph-ok K s k p hp low)
+  scene-proper low = layout-proper k (tagOf p) g scene-good scene-short scene-solid scene-tall hk (tag-lt p) top-one (graph-ok K s k p hp low)
 
   pub scene-room : (v : Point) → packedRoom (layout k (tagOf p) g) v ≡ pointerVoxel (cellVoxel K k) (cellsAt K k) (edge k) p v
   scene-room v =
-      layout-room k (tagOf p) g scene-good scene-short scene-tall (tag-lt p) v
+      layout-room k (tagOf p) g scene-good scene-short scene-solid scene-tall (tag-lt p) v
       ∙ graph-voxels K s k p hp k (omega arith) 0 (mirror (tagOf p) (edge k) v) (omega (arith, ap length (N-top K k p)))
       ∙ ap (λ (l : List ℕ). cellVoxel K k (cellAt K k (getD l 0 0)) (mirror (tagOf p) (edge k) v)) (N-top K k p)
       ∙ sym (rw (ne-eqb p 0 (names-ne hp)))

@@ -75,9 +75,15 @@ pub record LeafRow (c : Cell) : Type 0 where
   pub two : TwoWords c
   pub solid : 0 < leafNo c
 
-leaf-length : (c : Cell) → LeafRow c → length (leafBytes c) ≡ 8
+pub leaf-words : (c : Cell) → LeafRow c → length c ≡ 2
+leaf-words c r = ap length (r .two .is)
+
+leaf-length : (c : Cell) → length c ≡ 2 → length (leafBytes c) ≡ 8
 unfolding leafBytes flatten bytes
-leaf-length c r = rw (r .two .is)
+leaf-length [] e = absurd (omega (arith, e))
+leaf-length (a ∷ []) e = absurd (omega (arith, e))
+leaf-length (a ∷ b ∷ []) e = refl
+leaf-length (a ∷ b ∷ d ∷ c) e = absurd (omega (arith, e))
 
 leaf-read : (l before rest : List ℕ) (a : ℕ) (c : Cell) → LeafRow c → length before ≡ 8 * a → l ≡ before ++ (leafBytes c ++ rest) → leafAt l a ≡ c
 unfolding leafAt leafBytes flatten
@@ -111,13 +117,13 @@ leaves-read l before a (c ∷ cs) rows n e =
     let here : leafAt l a ≡ c = leaf-read l before rest a c row n e in
     let more : LeavesRead l (suc a) cs =
     leaves-read l (before ++ leafBytes c) (suc a) cs (λ q h. rows (suc q) (omega arith))
-    (length-append before (leafBytes c) ∙ omega (arith, leaf-length c row)) (e ∙ sym (append-assoc before (leafBytes c) rest)) in
+    (length-append before (leafBytes c) ∙ omega (arith, leaf-length c (leaf-words c row))) (e ∙ sym (append-assoc before (leafBytes c) rest)) in
     record {
       cells = λ i. here i ∷ more .cells i;
       good = rw (here, lt-ltb 0 (leafNo c) (row .solid)) (more .good);
     }
 
-pub leaves-length : (cs : List Cell) → ((q : ℕ) → q < length cs → LeafRow (getD cs q [])) → length (flatten (map leafBytes cs)) ≡ 8 * length cs
+pub leaves-length : (cs : List Cell) → ((q : ℕ) → q < length cs → length (getD cs q []) ≡ 2) → length (flatten (map leafBytes cs)) ≡ 8 * length cs
 unfolding flatten
 leaves-length [] rows = refl
 leaves-length (c ∷ cs) rows =

@@ -81,18 +81,20 @@ module _ (ps : List ℕ) (p : ℕ) where
   pub word-some : {n : ℕ} → NamesWord n p → p ≡ 0 → ⊥
   word-some w e = omega arith
 
--- what a cell above a list of n must be: eight pointers, not all none
+-- what a cell above a list of n must be: eight pointers, each none or to one of the n
 pub record Row (n : ℕ) (c : Cell) : Type 0 where
   pub eight : length c ≡ 8
   pub pointers : (i : ℕ) → OkPackedPointer n (getD c i 0)
-  pub one : ℕ
-  pub there : getD c one 0 ≡ 0 → ⊥
 
--- the starts, the pointers and the tests of a list with bytes l, from place a on
+-- not all are none, as a record's test asks
+abbrev pub Some : Cell → Type 0
+Some c = (i : ℕ) × (getD c i 0 ≡ 0 → ⊥)
+
+-- the starts and the pointers of a list with bytes l, from place a on, and its tests
 pub record ListRead (ps l : List ℕ) (a : ℕ) (cs : List Cell) : Type 0 where
   pub starts : (n : ℕ) → sizeOf ps cs ≤ n → startsFrom l n a ≡ placesFrom ps a cs
   pub pointers : map (pointersAt l) (placesFrom ps a cs) ≡ map (map (packedPointerFor ps)) cs
-  pub good : T (allIn (recordOk l) (placesFrom ps a cs))
+  pub good : ((q : ℕ) → q < length cs → Some (getD cs q [])) → T (allIn (recordOk l) (placesFrom ps a cs))
 
 -- places rise, so each is found again under its number
 module _ (ps : List ℕ) where
@@ -106,6 +108,14 @@ module _ (ps : List ℕ) where
   places-late a [] q h = absurd (not-suc-le-zero h)
   places-late a (c ∷ cs) zero h = omega arith
   places-late a (c ∷ cs) (suc q) h = omega (arith, places-late (a + width ps c) cs q (le-of-suc-le-suc h), width-pos ps c)
+
+  pub places-rise : (a : ℕ) (cs : List Cell) (i j : ℕ) → i ≤ j → j < length cs → getD (placesFrom ps a cs) i 0 ≤ getD (placesFrom ps a cs) j 0
+  unfolding placesFrom
+  places-rise a [] i j h g = absurd (not-suc-le-zero g)
+  places-rise a (c ∷ cs) zero zero h g = omega arith
+  places-rise a (c ∷ cs) zero (suc j) h g = omega (arith, places-late (a + width ps c) cs j (le-of-suc-le-suc g))
+  places-rise a (c ∷ cs) (suc i) zero h g = absurd (not-suc-le-zero h)
+  places-rise a (c ∷ cs) (suc i) (suc j) h g = places-rise (a + width ps c) cs i j (le-of-suc-le-suc h) (le-of-suc-le-suc g)
 
   pub places-in : (a : ℕ) (cs : List Cell) (q : ℕ) → q < length cs → getD (placesFrom ps a cs) q 0 < a + sizeOf ps cs
   unfolding placesFrom sizeOf
@@ -171,17 +181,17 @@ module _ (ps : List ℕ) (low : (q : ℕ) → q < length ps → getD ps q 0 < 2 
   record RecordRead (l : List ℕ) (a : ℕ) (c : Cell) : Type 0 where
     head : halves 8 (headerAt l a) ≡ width ps c
     pointers : pointersAt l a ≡ map (packedPointerFor ps) c
-    good : T (recordOk l a)
+    good : Some c → T (recordOk l a)
 
   record-read : (l before rest : List ℕ) (a : ℕ) (c : Cell) → Row (length ps) c → length before ≡ 2 * a → l ≡ before ++ (recordBytes ps c ++ rest) → RecordRead l a c
   unfolding recordOk pointersAt recordBytes
   record-read l before rest a c r n e = record {
     head = rw headed wide;
     pointers = rw (headed, pointed) (subst (λ (m : ℕ). readPointers m h (tail ++ rest) ≡ map (packedPointerFor ps) c) (r .eight) (read-pointers c rest (r .pointers)));
-    good = rw (
+    good = λ s. rw (
       headed,
       wide,
-      lt-ltb 0 h (header-pos ps c (r .one) (r .there)),
+      lt-ltb 0 h (header-pos ps c (s .0) (s .1)),
       T-true {b = codesOk 8 h} (subst (λ (m : ℕ). T (codesOk m h)) (r .eight) (codes-are c)),
       le-leb (2 * (a + width ps c)) (length l) room,
     ) tt;
@@ -212,7 +222,7 @@ module _ (ps : List ℕ) (low : (q : ℕ) → q < length ps → getD ps q 0 < 2 
 
   list-nil : (l : List ℕ) (a : ℕ) → length l ≡ 2 * a → ListRead ps l a []
   unfolding placesFrom sizeOf allIn startsFrom
-  list-nil l a done = record { starts = λ n h. ends n; pointers = refl; good = tt }
+  list-nil l a done = record { starts = λ n h. ends n; pointers = refl; good = λ s. tt }
     where
       ends : (n : ℕ) → startsFrom l n a ≡ []
       ends zero = refl
@@ -223,7 +233,7 @@ module _ (ps : List ℕ) (low : (q : ℕ) → q < length ps → getD ps q 0 < 2 
   list-cons l a c cs r inside more = record {
     starts = begin;
     pointers = λ i. r .pointers i ∷ more .pointers i;
-    good = rw (T-true {b = recordOk l a} (r .good)) (more .good);
+    good = λ s. rw (T-true {b = recordOk l a} (r .good (s 0 (omega arith)))) (more .good (λ q h. s (suc q) (omega arith)));
   }
     where
       begin : (n : ℕ) → width ps c + sizeOf ps cs ≤ n → startsFrom l n a ≡ a ∷ placesFrom ps (a + width ps c) cs

@@ -5,14 +5,14 @@ use mathlib.Core.List.{List, [], _∷_}
 use Prim.Native.Nat.{ℕ, zero, suc}
 use lib.ListN.{getD}
 use Rattle.paper.specs.declared.Refusal.{Refusal}
-use Rattle.paper.specs.declared.Refusal.the-variants.{BadSize, DamagedStore, BadVersion, BadLength, BadDepth, BrokenRules, ScenesFull, CellsFull, NoScene, Outside, ScratchShort, OutputShort, BadWish}
+use Rattle.paper.specs.declared.Refusal.the-variants.{BadSize, DamagedStore, BadVersion, BadLength, BadDepth, BrokenRules, ScenesFull, CellsFull, NoScene, Outside, ScratchShort, OutputShort, BadWish, TooDeep, LongPointer}
 use Rattle.paper.specs.Answers.{numberOf}
 
 -- the refusals, in the order of their numbers from 1
 abbrev pub refusals : List Refusal
 refusals =
     BadSize ∷ DamagedStore ∷ BadVersion ∷ BadLength ∷ BadDepth ∷ BrokenRules ∷ ScenesFull ∷ CellsFull ∷ NoScene ∷ Outside ∷ ScratchShort ∷ OutputShort
-    ∷ BadWish ∷ []
+    ∷ BadWish ∷ TooDeep ∷ LongPointer ∷ []
 
 -- what an answer is: accepted at number 0, else refused by the number
 abbrev pub answerOf : {A : Type 0} → A → (Refusal → A) → ℕ → A
@@ -34,3 +34,5 @@ refused-back a f Outside = refl
 refused-back a f ScratchShort = refl
 refused-back a f OutputShort = refl
 refused-back a f BadWish = refl
+refused-back a f TooDeep = refl
+refused-back a f LongPointer = refl

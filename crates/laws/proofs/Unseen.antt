@@ -16,9 +16,9 @@ use Rattle.paper.specs.Answers.{Outcome}
 use Rattle.paper.specs.Order.{when, firstOf, settled}
 use Rattle.paper.specs.Calls.{over, cleared, noScene, outlineBytes, outlineShort, outlineOutOrder, outlineOutcome}
 use Rattle.paper.specs.Calls.{scratchFor, packBytes, packShort, packOrder, packScratchAfter, packOutcome, packedOrder, checkOrder, checkScratchAfter, checkOutcome}
-use Rattle.paper.specs.Runs.{StoreQuestion, voxel, sight, cell, box, anything, kept, outline, pack, Call, new, add, ofStore, ofFile, storeAnswer, outcomeOf, writes, wordsAfter, besides, usedBy}
+use Rattle.paper.specs.Runs.{StoreQuestion, voxel, sight, cell, box, anything, kept, outline, pack, headsetPack, Call, new, add, ofStore, ofFile, storeAnswer, outcomeOf, writes, wordsAfter, besides, usedBy}
 use Rattle.paper.specs.Claims.{SameAnswer, SameBut, lengthIn, C11}
-use Rattle.laws.proofs.UnseenAnswers.{voxel-unseen, sight-unseen, cell-unseen, box-unseen, any-unseen, kept-answer-unseen, outline-unseen, pack-unseen}
+use Rattle.laws.proofs.UnseenAnswers.{voxel-unseen, sight-unseen, cell-unseen, box-unseen, any-unseen, kept-answer-unseen, outline-unseen, pack-unseen, headset-pack-unseen}
 use Rattle.laws.proofs.Orders.{told-number, told-values}
 use Rattle.laws.proofs.Scratch.{pack-scratch, check-scratch}
 use Rattle.laws.proofs.UnseenWrites.{Written, new-written, new-short, add-written, add-short}
@@ -63,6 +63,7 @@ question-unseen (anything n low high) f r h = any-unseen f r h n low high
 question-unseen (kept k) f r h = kept-answer-unseen f r h k
 question-unseen (outline n out) f r h = outline-unseen f r h n out
 question-unseen (pack n scratch out) f r h = pack-unseen f r h n scratch out
+question-unseen (headsetPack n scratch out) f r h = headset-pack-unseen f r h n scratch out
 
 unseen : (c : Call) (f r : List ℕ) → usedBy f c ≤ length f → Unseen c f r
 unseen (new C) f r h = stores-only (new C) f r refl (new-written C f r h)
@@ -150,7 +151,7 @@ stores-alike c ws ws′ e = go (leb (usedBy ws c) (length ws)) refl
 -- ---- output and scratch
 
 -- bytes B written over the slice lent as number i, or nothing
-same-but : (n : ℕ) (B out out′ : List ℕ) (A E A′ E′ : List (List ℕ)) (i : ℕ)
+pub same-but : (n : ℕ) (B out out′ : List ℕ) (A E A′ E′ : List (List ℕ)) (i : ℕ)
     → getD A i [] ≡ over B out → getD E i [] ≡ out → getD A′ i [] ≡ over B out′ → getD E′ i [] ≡ out′
     → SameBut (lengthIn (settled n (length B ∷ []) A E)) (settled n (length B ∷ []) A E) (settled n (length B ∷ []) A′ E′) out out′ i
 unfolding settled

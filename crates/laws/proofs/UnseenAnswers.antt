@@ -8,7 +8,7 @@ use mathlib.Core.Option as O
 use Prim.Native.Nat.{ℕ, _-_, _<_, _≤_, _^_}
 use lib.Dec.{T, eqb, leb, ltb}
 use lib.ListN.{length}
-use Rattle.paper.specs.Numbers.{bitFor}
+use Rattle.paper.specs.Numbers.{bitFor, isIn}
 use Rattle.paper.specs.Rooms.{Point, depthOk, inside}
 use Rattle.paper.specs.Outline.{longest, outlineOf}
 use Rattle.paper.specs.Store.{Cell, mostScenes, heights, used, capacityOf, keptCount, keptOf, countOf, sceneDepth, sceneRoot, headerOk, sceneOk, storeOk}
@@ -16,6 +16,7 @@ use Rattle.paper.specs.Meaning.{rootRoom}
 use Rattle.paper.specs.Walk.{isDamaged, solidAt, emptyHeight}
 use Rattle.paper.specs.Questions.{voxelWalk, cellNonEmpty, cellWalkDamaged, boxTally, tallyDamaged, tallySolid}
 use Rattle.paper.specs.declared.Tally.{Tally}
+use Rattle.paper.specs.Packed.{allShort}
 use Rattle.paper.specs.Pack.{packedFile}
 use Rattle.paper.specs.Answers.{Outcome, told, outcome}
 use Rattle.paper.specs.Order.{when, firstOf, settled}
@@ -24,6 +25,7 @@ use Rattle.paper.specs.Calls.{keptOutcome, outShort, outlineBytes, outlineShort
 use Rattle.paper.specs.Lines.{tested, firstFailing}
 use Rattle.paper.specs.Sight.{saysEmpty, decider, givesTwo, sightDamaged, sightOutside, blockedAt, sightOutcome}
 use Rattle.paper.specs.Anything.{boxSearch, searchDamaged, searchTold, sceneSearch, anyDamaged, anyOutcome}
+use Rattle.paper.specs.Headset.{tooDeep, headsetPackOutcome}
 use Rattle.paper.specs.declared.Search.{Search}
 use Rattle.paper.specs.declared.Search.the-variants.{Met, Passed, Damaged}
 use Rattle.laws.proofs.Undamaged.{fine-header, depth-low, store-header, there-held, held-placed}
@@ -83,6 +85,25 @@ unfolding firstOf settled
 packFor-same false e m B B′ scratch out q = refl
 packFor-same true true m B B′ scratch out q = refl
 packFor-same true false m B B′ scratch out q = ap (λ (b : List ℕ). packFor true false m b scratch out) (q tt refl)
+
+-- the headset packing: store, no scene, the scratch it takes, the depth, the bytes
+abbrev headsetNumber : Bool → Bool → ℕ → ℕ → List ℕ → List ℕ → List ℕ → ℕ
+headsetNumber s e m D B scratch out =
+    firstOf (when (not s) 2 ∷ when e 9 ∷ when (ltb (length scratch) m) 11 ∷ when (tooDeep D) 14 ∷ when (not (allShort B)) 15 ∷ when (outShort B out) 12 ∷ [])
+
+abbrev headsetFor : Bool → Bool → ℕ → ℕ → List ℕ → List ℕ → List ℕ → Outcome
+headsetFor s e m D B scratch out =
+    settled (headsetNumber s e m D B scratch out) (length B ∷ []) (cleared m scratch ∷ over B out ∷ [])
+    (cond (isIn (headsetNumber s e m D B scratch out) (12 ∷ 14 ∷ 15 ∷ [])) (cleared m scratch) scratch ∷ out ∷ [])
+
+headsetFor-same : (s e : Bool) (m D D′ : ℕ) (B B′ scratch out : List ℕ) → (T s → e ≡ false → (D ≡ D′) × (B ≡ B′))
+    → headsetFor s e m D B scratch out ≡ headsetFor s e m D′ B′ scratch out
+unfolding firstOf settled isIn
+headsetFor-same false e m D D′ B B′ scratch out q = refl
+headsetFor-same true true m D D′ B B′ scratch out q = refl
+headsetFor-same true false m D D′ B B′ scratch out q =
+    let p : (D ≡ D′) × (B ≡ B′) = q tt refl in
+    ap₂ (λ (d : ℕ) (b : List ℕ). headsetFor true false m d b scratch out) (p .0) (p .1)
 
 -- a box outside, by a scene's depth
 abbrev boxOut : Point → Point → List (List Cell) → ℕ → ℕ → Bool
@@ -198,3 +219,14 @@ module _ (f r : List ℕ) (whole : used (capacityOf f) ≤ length f) where
       ap (λ (c : ℕ). packFor (storeOk (f ++ r)) (noScene (f ++ r) n) (packScratch c) B scratch out) (capacity-unseen f r whole)
       ∙ ap₂ (λ (s e : Bool). packFor s e m B scratch out) (undamaged-unseen f r whole) (no-scene-unseen n)
       ∙ packFor-same (storeOk f) (noScene f n) m B (ofScene packedFile f n) scratch out (λ t. scene-part packedFile n (store-header f t))
+
+  pub headset-pack-unseen : (n : ℕ) (scratch out : List ℕ) → headsetPackOutcome (f ++ r) n scratch out ≡ headsetPackOutcome f n scratch out
+  unfolding headsetPackOutcome packShort packBytes
+  headset-pack-unseen n scratch out =
+      let B : List ℕ = ofScene packedFile (f ++ r) n in
+      let D : ℕ = sceneDepth (f ++ r) n in
+      let m : ℕ = packScratch (capacityOf f) in
+      ap (λ (c : ℕ). headsetFor (storeOk (f ++ r)) (noScene (f ++ r) n) (packScratch c) D B scratch out) (capacity-unseen f r whole)
+      ∙ ap₂ (λ (s e : Bool). headsetFor s e m D B scratch out) (undamaged-unseen f r whole) (no-scene-unseen n)
+      ∙ headsetFor-same (storeOk f) (noScene f n) m D (sceneDepth f n) B (ofScene packedFile f n) scratch out
+      (λ t e. (scene-part (λ K D p. D) n (store-header f t) e, scene-part packedFile n (store-header f t) e))

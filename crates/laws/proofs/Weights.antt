@@ -1,15 +1,18 @@
 -- What one record counts towards a popularity: something exactly where one of its eight pointers names the number, and no more than the most. By
--- the sum over the eight. Assumes nothing.
+-- the sum over the eight. So what has a popularity is named. Assumes nothing.
 use mathlib.Core.Path.{_≡_, refl}
 use mathlib.Core.Bool.{Bool, true, false, false≢true, not, _&&_}
-use Prim.Native.Nat.{ℕ, _<_, _≤_}
+use mathlib.Core.List.{List, [], _∷_}
+use Prim.Native.Nat.{ℕ, suc, _<_, _≤_}
+use native.Mathlib.Nat.{not-suc-le-zero}
+use native.Mathlib.Decide.{decLt}
 use native.Mathlib.Omega.{arith}
 use borrow.Author.Tests.{eq-eqb, ne-eqb, eqb-true, eqb-false}
 use lib.Dec.{eqb}
-use lib.ListN.{getD}
+use lib.ListN.{length, getD}
 use Rattle.paper.specs.Numbers.{bitFor}
 use Rattle.paper.specs.Store.{Cell, cellNo}
-use Rattle.paper.specs.Packed.{names, weight, mostWeight}
+use Rattle.paper.specs.Packed.{names, weight, mostWeight, popularity}
 use Rattle.laws.proofs.Bits.{bitFor-lt, bitFor-pos}
 use Rattle.laws.proofs.Sums.{sum-most, sum-pos, sum-some}
 
@@ -43,3 +46,27 @@ weight-named q c h =
 pub weight-le : (q : ℕ) (c : Cell) → weight q c ≤ mostWeight
 unfolding weight
 weight-le q c = sum-most 8 1 (λ i. bitFor (names q (getD c i 0))) (λ i h. omega (arith, bitFor-lt (names q (getD c i 0))))
+
+-- ---- who names a record
+
+-- pointer `child` of cell `cell` of a list names q
+pub record NamedBy (cs : List Cell) (q : ℕ) : Type 0 where
+  pub cell : ℕ
+  pub is-cell : cell < length cs
+  pub child : ℕ
+  pub eight : child < 8
+  pub some : getD (getD cs cell []) child 0 ≡ 0 → ⊥
+  pub is : cellNo (getD (getD cs cell []) child 0) ≡ q
+
+pub named-by : (cs : List Cell) (q : ℕ) → 0 < popularity cs q → NamedBy cs q
+unfolding popularity
+named-by [] q h = absurd (not-suc-le-zero h)
+named-by (c ∷ cs) q h = go (decLt 0 (weight q c)) (named-by cs q)
+  where
+    go : Dec (0 < weight q c) → (0 < popularity cs q → NamedBy cs q) → NamedBy (c ∷ cs) q
+    go (yes l) ih =
+        let w : Naming q c = weight-named q c l in
+        record { cell = 0; is-cell = omega arith; child = w .child; eight = w .eight; some = w .some; is = w .is }
+    go (no n) ih =
+        let w : NamedBy cs q = ih (omega (arith, h)) in
+        record { cell = suc (w .cell); is-cell = omega (arith, w .is-cell); child = w .child; eight = w .eight; some = w .some; is = w .is }

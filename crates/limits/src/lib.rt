@@ -45,3 +45,6 @@ pub const FARTHEST_SHORT: u32 = 8191;
 pub const SHORT_PLACES: u32 = 8192;
 
 pub const LONG_PLACES: u32 = 536870912;
+
+// The deepest scene that the headset has room for (document 02, request 12).
+pub const HEADSET_DEPTH: u32 = 10;

@@ -1,35 +1,36 @@
 -- What code finds for a scene of an undamaged store is its packed file: once all lists are placed, scratch has the places of the graph's records,
--- the sizes are the lists' sizes, and the bytes by both are the file's, fewer than 2^32. By induction from the leaves up. Assumes nothing.
+-- the sizes are the lists' sizes, and the bytes by both are the file's, fewer than 2^32; and by the places, whether a pointer is long. By induction from
+-- the leaves up. Assumes nothing.
 use mathlib.Core.Path.{_≡_, refl, sym, ap, ap₂, subst, _∙_}
-use mathlib.Core.Bool.{Bool, false, cond}
+use mathlib.Core.Bool.{false}
 use mathlib.Core.List.{List, [], _∷_, _++_, map, append-assoc, append-nil}
 use mathlib.Core.Logic.{_⊎_, inl, inr}
-use Prim.Native.Nat.{ℕ, zero, suc, _+_, _-_, _*_, _^_, _<_, _≤_}
+use Prim.Native.Nat.{ℕ, zero, suc, _+_, _-_, _<_, _≤_}
 use native.Mathlib.Nat.{zero-add, eq-or-lt-of-le, le-of-suc-le-suc, not-suc-le-zero}
 use native.Mathlib.Numerals.{add-one}
 use native.Mathlib.Omega.{arith}
-use borrow.Author.Tests.{ne-eqb}
-use lib.Dec.{T}
-use lib.ListN.{length, getD, set, take, length-append, length-set}
+use lib.Dec.{T, leb}
+use lib.ListN.{length, getD, set, take, length-append, length-set, List·getD-eq-default}
 use lib.Seq.{getD-set-same, getD-set-other, ext-getD}
 use Rattle.paper.specs.Numbers.{bytes, flatten}
-use Rattle.paper.specs.Store.{Cell, heights, mostCapacity, capacityOf, keptCount, keptOf, tagOf, badPointer, storeOk}
-use Rattle.paper.specs.Packed.{packedVersion, packedHead}
-use Rattle.paper.specs.Pack.{size, listBytes, sizeBytes, body, layout, emptyFile, sceneGraph, packedFile}
+use Rattle.paper.specs.Store.{Cell, heights, capacityOf, keptCount, keptOf, tagOf, badPointer, storeOk}
+use Rattle.paper.specs.Packed.{packedVersion, packedHead, farthestShort, allShort}
+use Rattle.paper.specs.Pack.{places, size, listBytes, sizeBytes, body, layout, sceneGraph, packedFile}
 use Rattle.laws.proofs.PackedReachable.{numbers}
-use Rattle.laws.proofs.Layouts.{sizes-length}
+use Rattle.laws.proofs.Tests.{all-same}
+use Rattle.laws.proofs.Layouts.{list-size, leaf-size, sizes-length}
 use Rattle.numbers.specs.Laid.{Reached, reached}
 use Rattle.pack_scratch.specs.Parts.{orders, wordIn, Lent, Only, OnlyPart, orderIn}
 use Rattle.pack_scratch.specs.Parts as part
 use Rattle.pack_scratch.proofs.Words.{in-orders, in-places, only-none, only-then, only-more, only-lent, words-at, words-length}
 use Rattle.pack_order.specs.OrderParts.{Ordered}
-use Rattle.pack_places.specs.Placing.{span, placing, placedList, Placed, placed, onto, listPlaced, placedLists, Kept}
+use Rattle.pack_places.specs.Placing.{span, placing, placedList, Placed, placed, onto, listPlaced, placedLists, Kept, lastPlace, allNear}
 use Rattle.pack_bytes.specs.Writing.{recordIn, listIn, bodyIn, sizesIn, bodyLength, fileLength, headOf}
 use Rattle.pack.specs.Ready.{Ready}
 use Rattle.pack.proofs.Heads.{head-length}
 use Rattle.pack_places.proofs.Placings.{stop, words, total, placing-only, placing-stop, placing-at}
 use Rattle.pack_places.proofs.Runs.{Places, kept-still}
-use Rattle.pack.proofs.Scenes.{Told, ListIs, list-is, choice, N-kept, N-below, N-few, size-small, list-bytes, leaf-bytes}
+use Rattle.pack.proofs.Scenes.{Told, ListIs, list-is, choice, N-kept, N-below, N-few, good, short, places-listed, file-layout, short-file}
 
 -- the sizes and the words once lists are placed
 abbrev sizesOf : Placed → List ℕ
@@ -180,17 +181,9 @@ module _ (ws : List ℕ) (ok : T (storeOk ws)) (top p : ℕ) (hk : top < heights
 
       length-is : (k : ℕ) → k ≤ top → bodyLength sizes k ≡ length (body G k)
       unfolding bodyLength body
-      length-is zero h = omega (arith, all .sized 0 (omega arith), leaf-bytes ws ok top p hk some fine)
+      length-is zero h = omega (arith, all .sized 0 (omega arith), leaf-size top G (good ws ok top p hk some fine))
       length-is (suc k) h =
-          omega (arith, all .sized (suc k) (omega arith), length-append (listBytes G (suc k)) (body G k), list-bytes ws ok top p hk some fine k h, length-is k (omega arith))
-
-      length-small : (k : ℕ) → k ≤ top → bodyLength sizes k ≤ 136 * mostCapacity * (k + 1)
-      unfolding bodyLength
-      length-small zero h = omega (arith, all .sized 0 (omega arith), size-small ws ok top p hk some fine 0 h)
-      length-small (suc k) h = omega (arith, all .sized (suc k) (omega arith), size-small ws ok top p hk some fine (suc k) h, length-small k (omega arith))
-
-      file-small : fileLength sizes top < 2 ^ 32
-      file-small = omega (arith, length-small top (omega arith))
+          omega (arith, all .sized (suc k) (omega arith), length-append (listBytes G (suc k)) (body G k), list-size top G (good ws ok top p hk some fine) k h, length-is k (omega arith))
 
       -- the sizes and the lists
       abbrev tail : List ℕ
@@ -203,17 +196,15 @@ module _ (ws : List ℕ) (ok : T (storeOk ws)) (top p : ℕ) (hk : top < heights
       whole = omega (arith, length-append (sizeBytes G top) (body G top), sizes-length G top, length-is top (omega arith))
 
       file-is : headOf (fileLength sizes top) (top + 2) (tagOf p) ++ tail ≡ packedFile K (top + 2) p
-      unfolding layout packedFile
+      unfolding layout
       file-is =
           let m : ℕ = tagOf p in
           let rest : List ℕ = sizeBytes G top ++ body G top in
           let D : top + 2 ≡ suc (suc top) = omega arith in
-          let under : top ≡ top + 2 - 2 = omega arith in
           ap₂ (λ (n : ℕ) (l : List ℕ). headOf n (top + 2) m ++ l) whole tail-is
           ∙ ap (λ (l : List ℕ). packedVersion ∷ l) (append-assoc (bytes 4 (packedHead + length rest)) ((top + 2) ∷ m ∷ []) rest)
           ∙ ap (λ (d : ℕ). packedVersion ∷ bytes 4 (packedHead + length rest) ++ (d ∷ m ∷ rest)) D
-          ∙ ap (λ (j : ℕ). layout j m (sceneGraph K j p)) under
-          ∙ ap (λ (b : Bool). cond b (emptyFile (top + 2)) (layout (top + 2 - 2) m (sceneGraph K (top + 2 - 2) p))) (sym (ne-eqb p 0 some))
+          ∙ file-layout ws ok top p hk some fine
 
       file-length : length (packedFile K (top + 2) p) ≡ fileLength sizes top
       file-length =
@@ -229,5 +220,26 @@ module _ (ws : List ℕ) (ok : T (storeOk ws)) (top p : ℕ) (hk : top < heights
         kept = λ j h. kept-still ws j (getD counts j 0) s t (omega arith) (all-kept j h) (all .frame);
         whole = ap (λ (m : ℕ). headOf m (top + 2) (tagOf p) ++ tail) e ∙ file-is;
         measured = e ∙ sym file-length;
-        small = omega (arith, e, file-small);
+        small = omega (arith, e, whole, short ws ok top p hk some fine);
       }
+
+  -- ---- whether a pointer is long, by the places of a scene prepared
+
+  module _ (counts sizes : List ℕ) (n : ℕ) (t : List ℕ) (r : Ready ws top p counts sizes n t) where
+    last-at : (j : ℕ) → j < top → (m : ℕ) → length (N j) ≡ m → lastPlace C j m t ≡ getD (places G j) (length (N j) - 1) 0
+    unfolding lastPlace
+    last-at j h zero e = sym (List·getD-eq-default (places G j) 0 (omega (arith, e, places-listed ws ok top p hk some fine j (omega arith))))
+    last-at j h (suc i) e =
+        let l : i < length (N j) = omega (arith, e) in
+        let last : i ≡ length (N j) - 1 = omega (arith, e) in
+        ap (wordIn C (part.places j) t) (r .ordered .order j (omega arith) i l) ∙ r .placed j (omega arith) i l ∙ ap (λ (m : ℕ). getD (places G j) m 0) last
+
+    last-is : (j : ℕ) → j < top → lastPlace C j (getD counts j 0) t ≡ getD (places G j) (length (N j) - 1) 0
+    last-is j h = last-at j h (getD counts j 0) (sym (r .ordered .count j (omega arith)))
+
+    pub near-is : allNear C counts top t ≡ allShort (packedFile K (top + 2) p)
+    unfolding allNear
+    near-is =
+        all-same top (λ j. leb (lastPlace C j (getD counts j 0) t) farthestShort) (λ j. leb (getD (places G j) (length (N j) - 1) 0) farthestShort)
+        (λ j h. ap (λ (m : ℕ). leb m farthestShort) (last-is j h))
+        ∙ sym (short-file ws ok top p hk some fine)

@@ -1,28 +1,31 @@
 -- A list of a scene of an undamaged store by the places in scratch: where these are the places of the list below, its own places, its size and its
 -- bytes are those of the packed file. By the laws of renumbering. Assumes nothing.
 use mathlib.Core.Path.{_≡_, refl, sym, ap, ap₂, subst, _∙_}
-use mathlib.Core.Bool.{false}
+use mathlib.Core.Bool.{Bool, false, cond}
 use mathlib.Core.List.{List, [], _∷_, _++_, map}
-use Prim.Native.Nat.{ℕ, zero, suc, _+_, _*_, _<_, _≤_}
+use Prim.Native.Nat.{ℕ, zero, suc, _+_, _-_, _^_, _<_, _≤_}
 use native.Mathlib.Nat.{zero-add}
 use native.Mathlib.Omega.{arith}
 use borrow.Author.Tests.{ne-eqb}
-use lib.Dec.{T}
-use lib.ListN.{length, getD, take, length-append, length-map}
+use lib.Dec.{T, leb}
+use lib.ListN.{length, getD, take, length-map}
 use lib.Seq.{length-take-le}
-use Rattle.paper.specs.Numbers.{bytes, flatten}
-use Rattle.paper.specs.Store.{Cell, heights, mostCapacity, capacityOf, keptCount, keptOf, cellsAt, cellAt, cellNo, badPointer, storeOk}
-use Rattle.paper.specs.Pack.{width, recordBytes, leafBytes, placesFrom, sizeOf, places, size, listBytes, renumber, sceneGraph}
-use Rattle.laws.proofs.Bytes.{bytes-length}
-use Rattle.laws.proofs.Lists.{map-at, getD-count}
+use Rattle.paper.specs.Numbers.{allBelow, flatten}
+use Rattle.paper.specs.Store.{Cell, heights, mostCapacity, capacityOf, keptCount, keptOf, cellsAt, cellAt, cellNo, tagOf, badPointer, storeOk}
+use Rattle.paper.specs.Packed.{packedHead, farthestShort, allShort}
+use Rattle.paper.specs.Pack.{width, recordBytes, leafBytes, placesFrom, sizeOf, places, size, listBytes, sizeBytes, body, layout, emptyFile, renumber, sceneGraph, packedFile}
+use Rattle.laws.proofs.Lists.{getD-count}
 use Rattle.laws.proofs.Kept.{kept-length}
 use Rattle.laws.proofs.Tests.{none-at}
 use Rattle.laws.proofs.StoreFacts.{names-kept, cell-sound}
 use Rattle.laws.proofs.Undamaged.{store-header}
 use Rattle.laws.proofs.Invariant.{OkPointer, not-bad-ok}
-use Rattle.laws.proofs.RecordSizes.{list-length, size-le}
+use Rattle.laws.proofs.Renumbering.{Renumbered, renumbered-length}
 use Rattle.laws.proofs.PackedReachable.{Chosen, numbers, Pointing, chosen, listed}
-use Rattle.laws.proofs.PackedGraph.{graph-leaves, graph-inner}
+use Rattle.laws.proofs.PackedGraph.{graph-leaves, graph-inner, pointing-renumbered}
+use Rattle.laws.proofs.Layouts.{Layable, places-many}
+use Rattle.laws.proofs.Packing.{renumbered-good, renumbered-short}
+use Rattle.laws.proofs.LongPointers.{scene-near}
 use Rattle.store.proofs.HeaderFacts.{header}
 use Rattle.pack_scratch.specs.Parts.{wordIn, placesIn}
 use Rattle.pack_scratch.specs.Parts as part
@@ -54,28 +57,6 @@ parts-map : {A : Type 0} (f : A → List ℕ) (g : ℕ → A) (l : List ℕ) →
 unfolding flatten
 parts-map f g [] = refl
 parts-map f g (q ∷ l) = ap (λ (x : List ℕ). f (g q) ++ x) (parts-map f g l)
-
--- ---- lengths
-
-size-most : (ps : List ℕ) (ns : List ℕ) (f : ℕ → Cell) → ((i : ℕ) → i < length ns → length (f (getD ns i 0)) ≡ 8) → sizeOf ps (map f ns) ≤ 17 * length ns
-size-most ps ns f h =
-    let many : length (map f ns) ≡ length ns = length-map ns f in
-    omega (arith, many, size-le ps (map f ns) (λ q l. ap length (map-at f ns q 0 [] (omega arith)) ∙ h q (omega arith)))
-
-leaf-length : (c : Cell) → length c ≡ 2 → length (leafBytes c) ≡ 8
-unfolding leafBytes flatten
-leaf-length [] e = absurd (omega (arith, e))
-leaf-length (a ∷ []) e = absurd (omega (arith, e))
-leaf-length (a ∷ b ∷ []) e =
-    length-append (bytes 4 a) (bytes 4 b ++ []) ∙ omega (arith, bytes-length 4 a, length-append (bytes 4 b) [], bytes-length 4 b)
-leaf-length (a ∷ b ∷ d ∷ c) e = absurd (omega (arith, e))
-
-leaves-length : (ns : List ℕ) (f : ℕ → Cell) → ((i : ℕ) → i < length ns → length (f (getD ns i 0)) ≡ 2) → length (flatten (map leafBytes (map f ns))) ≡ 8 * length ns
-unfolding flatten
-leaves-length [] f h = refl
-leaves-length (q ∷ ns) f h =
-    length-append (leafBytes (f q)) (flatten (map leafBytes (map f ns)))
-    ∙ omega (arith, leaf-length (f q) (h 0 (omega arith)), leaves-length ns f (λ i l. h (suc i) (omega arith)))
 
 module _ (ws : List ℕ) (ok : T (storeOk ws)) (top p : ℕ) (hk : top < heights) (some : p ≡ 0 → ⊥) (fine : badPointer (keptCount ws top) p ≡ false) where
   abbrev K : List (List Cell)
@@ -122,6 +103,37 @@ module _ (ws : List ℕ) (ok : T (storeOk ws)) (top p : ℕ) (hk : top < heights
 
   pub N-few : (j : ℕ) → j ≤ top → length (N j) ≤ C
   N-few j h = omega (arith, choice j h .len, kept-length ws j (omega arith), kept-few j (omega arith))
+
+  -- ---- the scene's graph can be laid out
+
+  renumbered : Renumbered K G N top
+  renumbered = pointing-renumbered K top p root (λ j h. omega (arith, kept-length ws j (omega arith), kept-few j (omega arith), capacity-most)) pointing
+
+  two : (q : ℕ) → q < length (cellsAt K 0) → length (cellAt K 0 q) ≡ 2
+  two q l = leaf-two ws (store-header ws ok) q (omega (arith, kept-length ws 0 (omega arith)))
+
+  eight : (j : ℕ) → j < top → (q : ℕ) → q < length (cellsAt K (suc j)) → length (cellAt K (suc j) q) ≡ 8
+  eight j h q l = pointing j h q l .0
+
+  pub good : Layable top G
+  good = renumbered-good K top p hk renumbered two eight
+
+  pub short : packedHead + length (sizeBytes G top ++ body G top) < 2 ^ 32
+  short = renumbered-short K top p hk renumbered two eight
+
+  pub places-listed : (j : ℕ) → j ≤ top → length (places G j) ≡ length (N j)
+  places-listed j h = places-many top G good j ∙ renumbered-length renumbered j h
+
+  -- its file, and whether a pointer of it is long
+  pub file-layout : layout top (tagOf p) G ≡ packedFile K (top + 2) p
+  unfolding packedFile
+  file-layout =
+      let under : top ≡ top + 2 - 2 = omega arith in
+      ap (λ (j : ℕ). layout j (tagOf p) (sceneGraph K j p)) under
+      ∙ ap (λ (b : Bool). cond b (emptyFile (top + 2)) (layout (top + 2 - 2) (tagOf p) (sceneGraph K (top + 2 - 2) p))) (sym (ne-eqb p 0 some))
+
+  pub short-file : allShort (packedFile K (top + 2) p) ≡ allBelow top (λ j. leb (getD (places G j) (length (N j) - 1) 0) farthestShort)
+  short-file = ap allShort (sym file-layout) ∙ scene-near K top p hk renumbered two eight
 
   -- ---- list k by the places of the lists below
 
@@ -170,25 +182,3 @@ module _ (ws : List ℕ) (ok : T (storeOk ws)) (top p : ℕ) (hk : top < heights
   list-is zero h s told = leaves-are s
   list-is (suc j) h s told =
       inner-are j h s (λ i l. words-at C (part.places j) C s (getD (N j) i 0) (N-below j (omega arith) i l) ∙ told j (omega arith) i l)
-
-  -- ---- sizes
-
-  pub size-small : (k : ℕ) → k ≤ top → size G k ≤ 17 * mostCapacity
-  unfolding size
-  size-small zero h = omega (arith, ap length (graph-leaves K top p), length-map (N 0) (cellAt K 0), N-few 0 h, capacity-most)
-  size-small (suc j) h =
-      let f : ℕ → Cell = λ q. map (renumber (N j)) (cellAt K (suc j) q) in
-      let eight : (i : ℕ) → i < length (N (suc j)) → length (f (getD (N (suc j)) i 0)) ≡ 8 =
-      λ i l. length-map (cellAt K (suc j) (getD (N (suc j)) i 0)) (renumber (N j)) ∙ cell-eight ws (store-header ws ok) j (getD (N (suc j)) i 0) (omega arith) (N-kept (suc j) h i l) in
-      rw (graph-inner K top p j h) (omega (arith, size-most (places G j) (N (suc j)) f eight, N-few (suc j) h, capacity-most))
-
-  pub list-bytes : (k : ℕ) → k < top → length (listBytes G (suc k)) ≡ 2 * size G (suc k)
-  unfolding listBytes size
-  list-bytes k h = list-length (places G k) (cellsAt G (suc k))
-
-  pub leaf-bytes : length (listBytes G 0) ≡ 8 * size G 0
-  unfolding listBytes size
-  leaf-bytes =
-      ap (λ (cs : List Cell). length (flatten (map leafBytes cs))) (graph-leaves K top p)
-      ∙ leaves-length (N 0) (cellAt K 0) (λ i l. leaf-two ws (store-header ws ok) (getD (N 0) i 0) (N-kept 0 (omega arith) i l))
-      ∙ ap (λ (n : ℕ). 8 * n) (sym (ap length (graph-leaves K top p) ∙ length-map (N 0) (cellAt K 0)))

@@ -1,16 +1,19 @@
 -- A scene prepared for its packed file, and nothing written yet: what the counts, the sizes and the length answered say, and the order and the
 -- places in scratch. Definitions only.
 use mathlib.Core.Path.{_≡_}
+use mathlib.Core.Bool.{Bool, cond, not, _&&_}
 use mathlib.Core.List.{List, [], _∷_, _++_}
 use Prim.Native.Nat.{ℕ, suc, _+_, _^_, _<_, _≤_}
 use lib.ListN.{length, getD}
 use Rattle.paper.specs.Store.{capacityOf, keptOf, cellNo, tagOf}
+use Rattle.paper.specs.Packed.{allShort}
 use Rattle.paper.specs.Pack.{places, size, reachable, sceneGraph, packedFile}
+use Rattle.paper.specs.Answers.{Outcome, outcome, told}
 use Rattle.pack_scratch.specs.Parts.{wordIn, Room}
 use Rattle.pack_scratch.specs.Parts as part
 use Rattle.pack_order.specs.OrderParts.{Ordered}
 use Rattle.pack_places.specs.Placing.{Kept}
-use Rattle.pack_bytes.specs.Writing.{bodyIn, sizesIn, headOf}
+use Rattle.pack_bytes.specs.Writing.{bodyIn, sizesIn, headOf, fitted}
 
 -- the scene under root p of list k of the store ws: scratch is t, and n the file's length
 pub record Ready (ws : List ℕ) (k p : ℕ) (counts sizes : List ℕ) (n : ℕ) (t : List ℕ) : Type 0 where
@@ -24,3 +27,9 @@ pub record Ready (ws : List ℕ) (k p : ℕ) (counts sizes : List ℕ) (n : ℕ)
   pub whole : headOf n (k + 2) (tagOf p) ++ (sizesIn sizes (suc k) ++ bodyIn (keptOf ws) (capacityOf ws) counts (suc k) t) ≡ packedFile (keptOf ws) (k + 2) p
   pub measured : n ≡ length (packedFile (keptOf ws) (k + 2) p)
   pub small : n < 2 ^ 32
+
+-- what comes of an output into which these bytes are to go, for the headset or not: bytes with a long pointer aren't for the headset
+unfoldable pub profiled : Bool → List ℕ → List ℕ → Outcome
+profiled headset bs out =
+    let r : Outcome = fitted bs out in
+    cond (headset && not (allShort bs)) (outcome (told 15 (0 ∷ [])) (out ∷ [])) r

@@ -1,5 +1,6 @@
-// A scene's file, and the call. Scratch is cleared before it is used and after.
+// A scene's file, and the calls. Scratch is cleared before it is used and after.
 ghost use mathlib.Core.Path.{_≡_};
+ghost use mathlib.Core.Bool.{cond};
 ghost use mathlib.Core.List.{[], _∷_};
 ghost use Prim.Native.Nat.{_+_, _≤_, _<_};
 ghost use lib.Dec.{T};
@@ -10,12 +11,14 @@ ghost use Rattle.paper.specs.Packed.{packedHead};
 ghost use Rattle.paper.specs.Pack.{emptyFile, packedFile};
 ghost use Rattle.paper.specs.Answers.{outcome, written};
 ghost use Rattle.paper.specs.Calls.{over, packScratch, packOutcome};
+ghost use Rattle.paper.specs.Headset.{headsetPackOutcome};
 ghost use Rattle.numbers.specs.Laid.{reached, writing};
 ghost use Rattle.pack_order.specs.OrderParts.{SceneRoot};
 ghost use Rattle.pack_bytes.specs.Writing.{headOf, fitted};
-ghost use Rattle.pack.specs.Ready.{Ready};
+ghost use Rattle.pack.specs.Ready.{Ready, profiled};
 use file_head::write_head;
 use limits::EMPTY_MARK;
+use limits::HEADSET_DEPTH;
 use limits::LEAF_HEIGHT;
 use limits::PACKED_VERSION;
 use pack_bytes::HEAD;
@@ -23,6 +26,7 @@ use pack_bytes::file_length;
 use pack_bytes::write_lists;
 use pack_bytes::write_sizes;
 use pack_order::order_lists;
+use pack_places::all_near;
 use pack_places::place_lists;
 use pack_scratch::scratch_words;
 use paper::Refusal;
@@ -92,18 +96,29 @@ fn write_prepared(
     write_lists(store, top, counts, scratch, out, after_sizes);
 }
 
-// Writes the file of the scene with this root in list `top`: prepared (ordered, placed, measured), and written where the output has room.
-fn pack_root(store: &[u32], top: u32, root: u32, scratch: &mut [u32], out: &mut [u8]) -> Written
+// Writes the file of the scene with this root in list `top`: prepared (ordered, placed, measured), and written where no pointer is too long for the headset and
+// the output has room.
+fn pack_root(
+    store: &[u32],
+    top: u32,
+    root: u32,
+    headset: bool,
+    scratch: &mut [u32],
+    out: &mut [u8],
+) -> Written
     requires { ⌜ T (storeOk (now store)) ⌝ }
     requires { ⌜ SceneRoot (now store) top root ⌝ }
     requires { ⌜ packScratch (capacityOf (now store)) ≤ length (now scratch) ⌝ }
     requires { ⌜ take (packScratch (capacityOf (now store))) (now scratch) ≡ replicate (packScratch (capacityOf (now store))) 0 ⌝ }
-    ensures { λ r. ⌜ outcome (written r) (now (out .exit) ∷ []) ≡ fitted (packedFile (keptOf (now (store .entry))) (top + 2) root) (now (out .entry)) ⌝ }
+    ensures { λ r. ⌜ outcome (written r) (now (out .exit) ∷ []) ≡ profiled headset (packedFile (keptOf (now (store .entry))) (top + 2) root) (now (out .entry)) ⌝ }
     ensures { λ r. ⌜ (length (now (scratch .exit)) ≡ length (now (scratch .entry))) × (drop (packScratch (capacityOf (now (store .entry)))) (now (scratch .exit)) ≡ drop (packScratch (capacityOf (now (store .entry)))) (now (scratch .entry))) ⌝ }
 {
     let counts = order_lists(store, top, root, scratch);
     let sizes = place_lists(store, top, counts, scratch);
     let total = file_length(sizes, top);
+    if headset & !all_near(store, top, counts, scratch) {
+        return Written::Refused(Refusal::LongPointer);
+    }
     if (out.len() as u64) < total {
         return Written::Refused(Refusal::OutputShort);
     }
@@ -111,9 +126,15 @@ fn pack_root(store: &[u32], top: u32, root: u32, scratch: &mut [u32], out: &mut 
     Written::Length(total as u32)
 }
 
-// Pack: the length written; refused by 2 (the whole store), 9, 11, then 12.
-pub fn pack(store: &[u32], scene: u32, scratch: &mut [u32], out: &mut [u8]) -> Written
-    ensures { λ r. ⌜ outcome (written r) (now (scratch .exit) ∷ now (out .exit) ∷ []) ≡ packOutcome (now (store .entry)) scene (now (scratch .entry)) (now (out .entry)) ⌝ }
+// Packs a scene: the length written; refused by 2 (the whole store), 9, 11, for the headset then 14 and 15, and 12.
+fn pack_scene(
+    store: &[u32],
+    scene: u32,
+    headset: bool,
+    scratch: &mut [u32],
+    out: &mut [u8],
+) -> Written
+    ensures { λ r. ⌜ outcome (written r) (now (scratch .exit) ∷ now (out .exit) ∷ []) ≡ cond headset (headsetPackOutcome (now (store .entry)) scene (now (scratch .entry)) (now (out .entry))) (packOutcome (now (store .entry)) scene (now (scratch .entry)) (now (out .entry))) ⌝ }
 {
     if store_bad(store) {
         return Written::Refused(Refusal::DamagedStore);
@@ -127,11 +148,28 @@ pub fn pack(store: &[u32], scene: u32, scratch: &mut [u32], out: &mut [u8]) -> W
     }
     clear(scratch, words);
     let depth = scene_depth(store, scene);
+    if headset & (depth > HEADSET_DEPTH) {
+        return Written::Refused(Refusal::TooDeep);
+    }
     let root = scene_root(store, scene);
     if root == 0 {
         return pack_empty(depth, out);
     }
-    let answer = pack_root(store, depth - LEAF_HEIGHT, root, scratch, out);
+    let answer = pack_root(store, depth - LEAF_HEIGHT, root, headset, scratch, out);
     clear(scratch, words); // so that it is left clear
     answer
+}
+
+// Pack: the length written; refused by 2 (the whole store), 9, 11, then 12.
+pub fn pack(store: &[u32], scene: u32, scratch: &mut [u32], out: &mut [u8]) -> Written
+    ensures { λ r. ⌜ outcome (written r) (now (scratch .exit) ∷ now (out .exit) ∷ []) ≡ packOutcome (now (store .entry)) scene (now (scratch .entry)) (now (out .entry)) ⌝ }
+{
+    pack_scene(store, scene, false, scratch, out)
+}
+
+// Pack for the headset: the length written; refused by 2 (the whole store), 9, 11, 14, 15, then 12.
+pub fn headset_pack(store: &[u32], scene: u32, scratch: &mut [u32], out: &mut [u8]) -> Written
+    ensures { λ r. ⌜ outcome (written r) (now (scratch .exit) ∷ now (out .exit) ∷ []) ≡ headsetPackOutcome (now (store .entry)) scene (now (scratch .entry)) (now (out .entry)) ⌝ }
+{
+    pack_scene(store, scene, true, scratch, out)
 }

@@ -2,10 +2,14 @@
 -- A place is kept in scratch under its cell's number, and a pointer's place is looked up there. Definitions only; that these are the places of
 -- the packed file is a law.
 use mathlib.Core.Path.{_≡_}
+use mathlib.Core.Bool.{Bool}
 use mathlib.Core.List.{List, [], _∷_}
 use Prim.Native.Nat.{ℕ, zero, suc, _+_, _*_, _<_, _≤_}
+use lib.Dec.{leb}
 use lib.ListN.{getD, set, replicate}
+use Rattle.paper.specs.Numbers.{allBelow}
 use Rattle.paper.specs.Store.{Cell, heights, cellAt, cellNo, keptCount, capacityOf}
+use Rattle.paper.specs.Packed.{farthestShort}
 use Rattle.paper.specs.Pack.{code, width}
 use Rattle.numbers.specs.Laid.{Reached, reached}
 use Rattle.pack_scratch.specs.Parts.{orders, places, wordIn, withWord, orderIn, placesIn}
@@ -43,6 +47,15 @@ listPlaced K C counts k (placed sizes s) = onto k sizes (placedList K C k (getD 
 unfoldable pub placedLists : List (List Cell) → ℕ → List ℕ → ℕ → List ℕ → Placed
 placedLists K C counts zero s = placed (replicate heights 0) s
 placedLists K C counts (suc k) s = listPlaced K C counts k (placedLists K C counts k s)
+
+-- where the last of the n cells of list k in their order is placed, 0 of no cell
+unfoldable pub lastPlace : ℕ → ℕ → ℕ → List ℕ → ℕ
+lastPlace C k zero s = 0
+lastPlace C k (suc i) s = wordIn C (places k) s (wordIn C (orders k) s i)
+
+-- a short pointer reaches the last cell of each of the first n lists
+unfoldable pub allNear : ℕ → List ℕ → ℕ → List ℕ → Bool
+allNear C counts n s = allBelow n (λ k. leb (lastPlace C k (getD counts k 0) s) farthestShort)
 
 -- ---- what code asks of its arguments
 

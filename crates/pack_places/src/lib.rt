@@ -8,8 +8,9 @@ ghost use Rattle.paper.specs.Store.{capacityOf, keptCount, keptOf, cellNo, stor
 ghost use Rattle.paper.specs.Pack.{code};
 ghost use Rattle.numbers.specs.Laid.{reached};
 ghost use Rattle.pack_scratch.specs.Parts.{Room, placesIn};
-ghost use Rattle.pack_places.specs.Placing.{digits, span, placedList, placed, placedLists, Below, Kept};
+ghost use Rattle.pack_places.specs.Placing.{digits, span, placedList, placed, placedLists, Below, Kept, lastPlace, allNear};
 use limits::CHILDREN;
+use limits::FARTHEST_SHORT;
 use pack_scratch::ordered;
 use pack_scratch::place;
 use pack_scratch::put_place;
@@ -104,4 +105,35 @@ pub fn place_lists(store: &[u32], top: u32, counts: [u32; 15], scratch: &mut [u3
         k += 1;
     }
     sizes
+}
+
+// The place of the last of the n cells of list k in their order, the farthest of the list; 0 where there is none.
+fn last_place(store: &[u32], k: u32, n: u32, scratch: &[u32]) -> u32
+    requires { ⌜ T (storeOk (now store)) ⌝ }
+    requires { ⌜ Room (capacityOf (now store)) k (now scratch) ⌝ }
+    requires { ⌜ Kept (now store) k n (now scratch) ⌝ }
+    ensures { λ r. ⌜ r ≡ lastPlace (capacityOf (now (store .entry))) k n (now (scratch .entry)) ⌝ }
+{
+    if n == 0 {
+        return 0;
+    }
+    let c = capacity(store);
+    place(c, k, ordered(c, k, n - 1, scratch), scratch)
+}
+
+// Does a short pointer reach every cell of the lists below `top`?
+pub fn all_near(store: &[u32], top: u32, counts: [u32; 15], scratch: &[u32]) -> bool
+    requires { ⌜ T (storeOk (now store)) ⌝ }
+    requires { ⌜ Room (capacityOf (now store)) top (now scratch) ⌝ }
+    requires { ⌜ ((j : ℕ) → j ≤ top → Kept (now store) j (getD counts j 0) (now scratch)) ⌝ }
+    ensures { λ r. ⌜ r ≡ allNear (capacityOf (now (store .entry))) counts top (now (scratch .entry)) ⌝ }
+{
+    let mut k = 0u32;
+    while k < top {
+        if last_place(store, k, counts[k as usize], scratch) > FARTHEST_SHORT {
+            return false;
+        }
+        k += 1;
+    }
+    true
 }

@@ -4,7 +4,7 @@ use mathlib.Core.List.{List, [], _∷_}
 use Prim.Native.Nat.{ℕ}
 use denote.Ref.{now}
 use Rattle.paper.specs.declared.Refusal.{Refusal}
-use Rattle.paper.specs.declared.Refusal.the-variants.{BadSize, DamagedStore, BadVersion, BadLength, BadDepth, BrokenRules, ScenesFull, CellsFull, NoScene, Outside, ScratchShort, OutputShort, BadWish}
+use Rattle.paper.specs.declared.Refusal.the-variants.{BadSize, DamagedStore, BadVersion, BadLength, BadDepth, BrokenRules, ScenesFull, CellsFull, NoScene, Outside, ScratchShort, OutputShort, BadWish, TooDeep, LongPointer}
 use Rattle.paper.specs.declared.Started.{Started}
 use Rattle.paper.specs.declared.Added.{Added}
 use Rattle.paper.specs.declared.Seen.{Seen}
@@ -27,7 +27,7 @@ pub record Told : Type 0 where
 abbrev pub told : ℕ → List ℕ → Told
 told n vs = record { number = n; values = vs }
 
--- the table of refusal numbers
+-- the table of refusal numbers; 14 and 15 are document 02's, request 12
 abbrev pub numberOf : Refusal → ℕ
 numberOf BadSize = 1
 numberOf DamagedStore = 2
@@ -42,6 +42,8 @@ numberOf Outside = 10
 numberOf ScratchShort = 11
 numberOf OutputShort = 12
 numberOf BadWish = 13
+numberOf TooDeep = 14
+numberOf LongPointer = 15
 
 -- new store: no value
 abbrev pub started : Started → Told

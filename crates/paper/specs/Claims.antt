@@ -1,6 +1,6 @@
--- The claims C1 to C16, the demands of documents 01 and 02, as types. This file states all and proves none; docs/READING.md says where each is proved.
+-- The claims C1 to C17, the demands of documents 01 and 02, as types. This file states all and proves none; docs/READING.md says where each is proved.
 -- A claim that speaks of a call speaks of its outcome function (Calls, Detail); the promise of the call ties the code to that function.
-use mathlib.Core.Bool.{Bool, true, false, cond}
+use mathlib.Core.Bool.{Bool, true, false, cond, not}
 use mathlib.Core.List.{List, [], _∷_}
 use mathlib.Core.Option.{Option, some}
 use mathlib.Core.Option as O
@@ -8,19 +8,19 @@ use mathlib.Core.Logic.{_↔_}
 use mathlib.Core.Path.{_≡_}
 use Prim.Native.Nat.{ℕ, zero, suc, _+_, _-_, _*_, _<_, _≤_, _^_}
 use lib.Bits.{bitXor}
-use lib.Dec.{T, eqb, ltb}
+use lib.Dec.{T, eqb, leb, ltb}
 use lib.Ieee.{Float, binary64, fits, le}
 use lib.Ieee.Exact.{HasValue}
 use lib.Ieee.Positive.{num, den}
 use lib.ListN.{length, take, drop, getD}
-use Rattle.paper.specs.Numbers.{allIn, bitFor, isIn, tabulate}
+use Rattle.paper.specs.Numbers.{allBelow, allIn, bitFor, isIn, tabulate}
 use Rattle.paper.specs.Rooms.{Point, point, Room, deepest, depthOk, Inside, cellOf, OneCell, cellAround, childRoom, mirror, mirrored, Same, Image, NonEmpty, boxCount, origin, far, isWhole, nonEmpty, emptyAt}
 use Rattle.paper.specs.Outline.{edge, IsOutline, outlineOf, fileDepth, fileRoom}
 use Rattle.paper.specs.Store.{Cell, leafNo, tagUnit, tagOf, lowOf, cellNo, anyBad, heights, capacityOf, isHeld, keptCount, headPosition, nextPosition, keptOf, cellsAt, cellAt, countOf, leafSolid, chains, keyOf, chainOf, sceneDepth, storeOk}
 use Rattle.paper.specs.Meaning.{cellVoxel, rootRoom}
 use Rattle.paper.specs.Leaf.{mirrorLeaf}
 use Rattle.paper.specs.Match.{matches, lowest, orFound, find}
-use Rattle.paper.specs.Packed.{rootTag, isEmpty, topOf, graphOf, proper, packedRoom, packedPath, startsOf}
+use Rattle.paper.specs.Packed.{rootTag, isEmpty, topOf, placesAt, farthestShort, graphOf, proper, allShort, packedRoom, packedPath, startsOf}
 use Rattle.paper.specs.Pack.{layout, emptyFile, packedMost}
 use Rattle.paper.specs.Answers.{Outcome, told, outcome}
 use Rattle.paper.specs.Order.{firstOf}
@@ -30,6 +30,7 @@ use Rattle.paper.specs.Runs.{Call, Bytes, Given, outcomeOf, wordsAfter, 
 use Rattle.paper.specs.Lines.{Before, Between, tested}
 use Rattle.paper.specs.Sight.{sightOutcome}
 use Rattle.paper.specs.Anything.{cellSearch, anyOutcome, sharing}
+use Rattle.paper.specs.Headset.{meetsHeadset, headsetCheckOutcome, headsetPackOutcome}
 use Rattle.paper.specs.declared.Search.the-variants.{Met}
 use Rattle.paper.specs.Samples.{samples, holds}
 
@@ -414,3 +415,32 @@ pub record C16 : Type 0 where
   pub any : (ws : List ℕ) → T (storeOk ws) → ChainsTrue ws
   -- so on every store that only the calls wrote
   pub ours : (s : State) → Reached s → ChainsTrue (s .words)
+
+-- ---- C17, the headset profile (document 02, request 12)
+
+pub record C17 : Type 0 where
+  -- the headset check answers 0 exactly on files that meet the profile: proper, of depth at most 10, no pointer long (with scratch enough to look)
+  pub checked : (file scratch : List ℕ) → Bytes file → (headsetCheckOutcome file scratch .number ≡ 0) ↔ ((meetsHeadset file ≡ true) × (length file ≤ length scratch))
+  -- a proper file has no long pointer exactly where no record below the top starts past place 8,191
+  pub long : (file : List ℕ) → Bytes file → proper file ≡ true → isEmpty file ≡ false
+      → allShort file ≡ allBelow (topOf file) (λ k. allIn (λ p. leb p farthestShort) (placesAt file k))
+  -- where the headset packing is accepted, its outcome is pack's, all of it ('the ordinary bytes')
+  pub ordinary : (ws : List ℕ) (n : ℕ) (scratch out : List ℕ) → headsetPackOutcome ws n scratch out .number ≡ 0 → headsetPackOutcome ws n scratch out ≡ packOutcome ws n scratch out
+  -- of the scenes held it refuses by 14 and 15 just those whose packed file doesn't meet the profile
+  pub refused : (s : State) → Reached s → (n : ℕ) (sc : Scene) → s .held n ≡ some sc → (scratch out : List ℕ) → scratchFor (s .words) ≤ length scratch
+      → isIn (headsetPackOutcome (s .words) n scratch out .number) (14 ∷ 15 ∷ []) ≡ not (meetsHeadset (packBytes (s .words) n))
+  -- and what it writes passes the headset check
+  pub passes : (s : State) → Reached s → (n : ℕ) (scratch out scratch′ : List ℕ) → headsetPackOutcome (s .words) n scratch out .number ≡ 0
+      → length (packBytes (s .words) n) ≤ length scratch′ → headsetCheckOutcome (packBytes (s .words) n) scratch′ .number ≡ 0
+  -- both answer alike whatever output and scratch held before
+  pub packs : (ws : List ℕ) (n : ℕ) (scratch scratch′ out out′ : List ℕ) → length scratch ≡ length scratch′ → length out ≡ length out′
+      → SameBut (lengthIn (headsetPackOutcome ws n scratch out)) (headsetPackOutcome ws n scratch out) (headsetPackOutcome ws n scratch′ out′) out out′ 1
+  pub checks : (file scratch scratch′ : List ℕ) → length scratch ≡ length scratch′
+      → (headsetCheckOutcome file scratch .number ≡ headsetCheckOutcome file scratch′ .number) × (headsetCheckOutcome file scratch .values ≡ headsetCheckOutcome file scratch′ .values)
+  -- the packing's scratch is zero afterwards as far as it was needed, but as it was after 2, 9 and 11; the check's after 0, 6, 14 and 15, else as it was
+  pub pack-scratch : (ws : List ℕ) (n : ℕ) (scratch out : List ℕ)
+      → getD (headsetPackOutcome ws n scratch out .lent) 0 []
+      ≡ cond (isIn (headsetPackOutcome ws n scratch out .number) (2 ∷ 9 ∷ 11 ∷ [])) scratch (cleared (scratchFor ws) scratch)
+  pub check-scratch : (file scratch : List ℕ)
+      → getD (headsetCheckOutcome file scratch .lent) 0 []
+      ≡ cond (isIn (headsetCheckOutcome file scratch .number) (0 ∷ 6 ∷ 14 ∷ 15 ∷ [])) (cleared (length file) scratch) scratch

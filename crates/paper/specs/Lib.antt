@@ -20,6 +20,8 @@ pub mod Calls
 pub mod Sight
 -- document 02, request 5
 pub mod Anything
+-- document 02, request 12
+pub mod Headset
 pub mod Promises
 pub mod Samples
 pub mod Runs

@@ -232,6 +232,20 @@ packedRules bs =
 unfoldable pub proper : List ℕ → Bool
 proper bs = versionOk packedVersion bs && lengthOk packedHead bs && depthOk (fileDepth bs) && packedRules bs
 
+-- ---- long pointers (document 02, request 12)
+
+-- none of the pointers of the record at place p of a list's bytes is long: has code 2
+unfoldable pub shortAt : List ℕ → ℕ → Bool
+shortAt l p = allIn (λ q. not (eqb (q .code) 2)) (pointersAt l p)
+
+-- none of list k + 1 is
+unfoldable pub shortList : List ℕ → ℕ → Bool
+shortList bs k = allIn (shortAt (listAt bs (suc k))) (placesAt bs (suc k))
+
+-- 'no pointer is long': of any list above the leaves; an empty scene has none
+unfoldable pub allShort : List ℕ → Bool
+allShort bs = let r = allBelow (topOf bs) (shortList bs) in cond (isEmpty bs) true r
+
 -- ---- the room that a proper file means, by coordinates, and the path to a voxel
 
 -- voxel v as the top record sees it

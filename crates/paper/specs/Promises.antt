@@ -8,6 +8,7 @@ use Rattle.paper.specs.Answers.{outcome, started, added, seen, sighted, 
 use Rattle.paper.specs.Calls.{newOutcome, addOutcome, voxelOutcome, cellOutcome, boxOutcome, keptOutcome, outlineOutcome, packOutcome, checkOutcome, packedVoxelOutcome, openOutcome, askOutcome}
 use Rattle.paper.specs.Detail.{detailOutcome}
 use Rattle.paper.specs.Sight.{sightOutcome}
+use Rattle.paper.specs.Headset.{headsetCheckOutcome, headsetPackOutcome}
 use Rattle.paper.specs.Anything.{anyOutcome}
 use Rattle.paper.specs.declared.Started.{Started}
 use Rattle.paper.specs.declared.Added.{Added}
@@ -67,6 +68,14 @@ PackPromise ws n scratch out r scratch′ out′ = outcome (written r) (scratch�
 -- the file, the scratch; the scratch afterwards
 abbrev pub CheckPromise : List ℕ → List ℕ → Checked → List ℕ → Type 0
 CheckPromise file scratch r scratch′ = outcome (checked r) (scratch′ ∷ []) ≡ checkOutcome file scratch
+
+-- the headset packing: as pack
+abbrev pub HeadsetPackPromise : List ℕ → ℕ → List ℕ → List ℕ → Written → List ℕ → List ℕ → Type 0
+HeadsetPackPromise ws n scratch out r scratch′ out′ = outcome (written r) (scratch′ ∷ out′ ∷ []) ≡ headsetPackOutcome ws n scratch out
+
+-- the headset check: as check
+abbrev pub HeadsetCheckPromise : List ℕ → List ℕ → Checked → List ℕ → Type 0
+HeadsetCheckPromise file scratch r scratch′ = outcome (checked r) (scratch′ ∷ []) ≡ headsetCheckOutcome file scratch
 
 -- the file, the point
 abbrev pub PackedVoxelPromise : List ℕ → Point → Found → Type 0

@@ -16,6 +16,7 @@ use Rattle.paper.specs.Detail.{detailOutcome}
 use Rattle.paper.specs.Calls.{newOutcome, addOutcome, voxelOutcome, cellOutcome, boxOutcome, keptOutcome, outlineOutcome, packOutcome, checkOutcome, packedVoxelOutcome, openOutcome, askOutcome}
 use Rattle.paper.specs.Sight.{sightOutcome}
 use Rattle.paper.specs.Anything.{anyOutcome}
+use Rattle.paper.specs.Headset.{headsetCheckOutcome, headsetPackOutcome}
 use Rattle.paper.specs.declared.Wish.{Wish}
 
 -- ---- calls
@@ -30,10 +31,12 @@ pub data StoreQuestion : Type 0 where
   kept : ℕ → StoreQuestion
   outline : ℕ → List ℕ → StoreQuestion
   pack : ℕ → List ℕ → List ℕ → StoreQuestion
+  headsetPack : ℕ → List ℕ → List ℕ → StoreQuestion
 
 -- a question that looks at no store: on a packed file, or on detail
 pub data FileQuestion : Type 0 where
   check : List ℕ → List ℕ → FileQuestion
+  headsetCheck : List ℕ → List ℕ → FileQuestion
   packedVoxel : List ℕ → Point → FileQuestion
   opening : List ℕ → FileQuestion
   ask : List ℕ → ℕ → List ℕ → Point → FileQuestion
@@ -67,10 +70,12 @@ storeAnswer ws (anything n low high) = anyOutcome ws n low high
 storeAnswer ws (kept h) = keptOutcome ws h
 storeAnswer ws (outline n out) = outlineOutcome ws n out
 storeAnswer ws (pack n scratch out) = packOutcome ws n scratch out
+storeAnswer ws (headsetPack n scratch out) = headsetPackOutcome ws n scratch out
 
 -- what a question that looks at no store answers
 abbrev pub fileAnswer : FileQuestion → Outcome
 fileAnswer (check file scratch) = checkOutcome file scratch
+fileAnswer (headsetCheck file scratch) = headsetCheckOutcome file scratch
 fileAnswer (packedVoxel file v) = packedVoxelOutcome file v
 fileAnswer (opening file) = openOutcome file
 fileAnswer (ask file D starts v) = askOutcome file D starts v

@@ -5,7 +5,7 @@ ghost use mathlib.Core.Path.{_≡_};
 ghost use lib.ListN.{getD};
 ghost use Rattle.paper.specs.Answers.{numberOf, started, added, seen, occupied, counted, kept, written, checked, found, chosen, sighted, searched};
 
-// The refusals of document 01's table, in its order: 1 to 13.
+// The refusals of document 01's table, in its order, 1 to 13; then those that document 02 adds.
 pub enum Refusal {
     BadSize,
     DamagedStore,
@@ -20,6 +20,8 @@ pub enum Refusal {
     ScratchShort,
     OutputShort,
     BadWish,
+    TooDeep,
+    LongPointer,
 }
 
 impl Refusal {
@@ -41,6 +43,8 @@ impl Refusal {
             Refusal::ScratchShort => 11,
             Refusal::OutputShort => 12,
             Refusal::BadWish => 13,
+            Refusal::TooDeep => 14,
+            Refusal::LongPointer => 15,
         }
     }
 }

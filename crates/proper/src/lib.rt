@@ -1,6 +1,6 @@
 // The check of untrusted packed bytes: refusals 11, 3, 4 and 5, then all rules, by places and symmetries, in a scratch of as many bytes as the file. Phase 1,
 // in the crate `proper_lists`, goes from the leaves up and leaves in the scratch, at the first byte of each record, its mark; phase 2, in the crate
-// `proper_popular`, counts there the pointers that name it.
+// `proper_popular`, counts there the pointers that name it. The headset check comes after: depth, and long pointers, which the crate `proper_long` finds.
 ghost use mathlib.Core.Path.{_≡_};
 ghost use mathlib.Core.Bool.{false, not};
 ghost use mathlib.Core.List.{[], _∷_};
@@ -11,6 +11,7 @@ ghost use Rattle.paper.specs.Numbers.{allBelow};
 ghost use Rattle.paper.specs.Packed.{topOf, isEmpty, topOk};
 ghost use Rattle.paper.specs.Answers.{outcome, checked};
 ghost use Rattle.paper.specs.Calls.{checkOutcome};
+ghost use Rattle.paper.specs.Headset.{headsetCheckOutcome};
 ghost use Rattle.packed_lists.specs.Header.{Tested, Opens};
 ghost use Rattle.packed_lists.specs.Ends.{Listed};
 ghost use Rattle.proper_lists.specs.Marking.{listRules, Marked};
@@ -21,6 +22,7 @@ use file_head::head_number;
 use limits::DEPTH_POSITION;
 use limits::EMPTY_MARK;
 use limits::HALF_BYTES;
+use limits::HEADSET_DEPTH;
 use limits::LEAF_BYTES;
 use limits::LEAF_HEIGHT;
 use limits::MIRROR_POSITION;
@@ -34,6 +36,7 @@ use packed_records::width;
 use paper::Checked;
 use paper::Refusal;
 use proper_lists::lists_bad;
+use proper_long::any_long;
 use proper_marks::clear;
 use proper_marks::tag_high;
 use proper_popular::popular_lists_bad;
@@ -143,4 +146,24 @@ pub fn check(file: &[u8], scratch: &mut [u8]) -> Checked
         return Checked::Refused(Refusal::BrokenRules);
     }
     Checked::Depth(depth(file))
+}
+
+// Headset check: whether the bytes are a proper file that meets the headset's profile, with its depth; refused as the packed check, then by 14 and
+// 15. The scratch is the packed check's, and is zero after 0, 6, 14 and 15.
+pub fn headset_check(file: &[u8], scratch: &mut [u8]) -> Checked
+    ensures { λ r. ⌜ outcome (checked r) (now (scratch .exit) ∷ []) ≡ headsetCheckOutcome (now (file .entry)) (now (scratch .entry)) ⌝ }
+{
+    let answer = check(file, scratch);
+    if answer.number() != 0 {
+        return answer;
+    }
+    let deep = HEADSET_DEPTH < depth(file);
+    let long = any_long(file);
+    if deep {
+        return Checked::Refused(Refusal::TooDeep);
+    }
+    if long {
+        return Checked::Refused(Refusal::LongPointer);
+    }
+    answer
 }

@@ -36,6 +36,7 @@ fn main() {
     play(b"any.script");
     play(b"chains.script");
     play(b"pointers.script");
+    play(b"headset.script");
     play(b"questions.script");
     play(b"adding.script");
     play(b"packing.script");

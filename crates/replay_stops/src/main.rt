@@ -7,7 +7,7 @@ fn no_command() {
     script::start(b"Z");
     script::start(b"\x00");
     script::start(b"HZH");
-    script::start(b"h");
+    script::start(b"j");
     script::start(b"k\x00\x00\x00\x02");
 }
 
@@ -31,6 +31,8 @@ fn cut_short() {
     cut(b'Y', 29);
     cut(b'K', 5);
     cut(b'O', 9);
+    cut(b'Q', 13);
+    cut(b'h', 5);
     script::start(b"HL");
     script::start(b"HL\x00\x00\x00\x02a");
     cut(b'X', 6);

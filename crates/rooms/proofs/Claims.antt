@@ -1,5 +1,5 @@
 -- Every claim of the paper, in order, each by the law that proves it. Assumes nothing.
-use Rattle.paper.specs.Claims.{C1, C2, C3, C4, C5, C6, C7, C8, C9, C10, C11, C12, C13, C14, C15, C16}
+use Rattle.paper.specs.Claims.{C1, C2, C3, C4, C5, C6, C7, C8, C9, C10, C11, C12, C13, C14, C15, C16, C17}
 use Rattle.paper.proofs.Samples as Samples
 use Rattle.laws.proofs.MirrorClaim as MirrorClaim
 use Rattle.laws.proofs.OutlineClaim as OutlineClaim
@@ -13,6 +13,7 @@ use Rattle.laws.proofs.SightClaim as SightClaim
 use Rattle.laws.proofs.CountClaim as CountClaim
 use Rattle.laws.proofs.AnyClaim as AnyClaim
 use Rattle.laws.proofs.ChainClaim as ChainClaim
+use Rattle.laws.proofs.HeadsetClaim as HeadsetClaim
 use Rattle.detail.proofs.Claims as DetailClaim
 
 -- mirror laws
@@ -78,3 +79,7 @@ claim15 = AnyClaim.claim15
 -- chains
 pub claim16 : C16
 claim16 = ChainClaim.claim16
+
+-- the headset profile
+pub claim17 : C17
+claim17 = HeadsetClaim.claim17

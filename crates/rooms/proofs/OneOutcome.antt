@@ -21,7 +21,7 @@ use Rattle.paper.specs.declared.Opening.{Opening}
 use Rattle.paper.specs.declared.Wish.{Wish}
 use Rattle.paper.specs.Rooms.{Point}
 use Rattle.paper.specs.Answers.{Outcome, Told, outcome, started, added, seen, sighted, searched, occupied, counted, kept, written, checked, found, chosen, opened, holds}
-use Rattle.paper.specs.Promises.{NewStorePromise, AddPromise, VoxelPromise, SightPromise, CellPromise, BoxPromise, AnyPromise, KeptPromise, OutlinePromise, PackPromise, CheckPromise, PackedVoxelPromise, OpenPromise, AskPromise, DetailPromise}
+use Rattle.paper.specs.Promises.{NewStorePromise, AddPromise, VoxelPromise, SightPromise, CellPromise, BoxPromise, AnyPromise, KeptPromise, OutlinePromise, PackPromise, HeadsetPackPromise, CheckPromise, HeadsetCheckPromise, PackedVoxelPromise, OpenPromise, AskPromise, DetailPromise}
 use Rattle.laws.proofs.RefusalNumbers.{answerOf, refused-back}
 
 -- ---- each answer from its number and values
@@ -168,8 +168,16 @@ pub pack : (ws : List ℕ) (n : ℕ) (scratch out : List ℕ) {r s : Written} {x
     → PackPromise ws n scratch out r xs us → PackPromise ws n scratch out s ys vs → (r ≡ s) × (xs ≡ ys) × (us ≡ vs)
 pack ws n scratch out a b = (same-answer written writtenOf written-back a b, ap (lent-at 0) (same-lent a b), ap (lent-at 1) (same-lent a b))
 
+pub headset-pack : (ws : List ℕ) (n : ℕ) (scratch out : List ℕ) {r s : Written} {xs ys us vs : List ℕ}
+    → HeadsetPackPromise ws n scratch out r xs us → HeadsetPackPromise ws n scratch out s ys vs → (r ≡ s) × (xs ≡ ys) × (us ≡ vs)
+headset-pack ws n scratch out a b = (same-answer written writtenOf written-back a b, ap (lent-at 0) (same-lent a b), ap (lent-at 1) (same-lent a b))
+
 pub check : (file scratch : List ℕ) {r s : Checked} {xs ys : List ℕ} → CheckPromise file scratch r xs → CheckPromise file scratch s ys → (r ≡ s) × (xs ≡ ys)
 check file scratch a b = (same-answer checked checkedOf checked-back a b, ap (lent-at 0) (same-lent a b))
+
+pub headset-check : (file scratch : List ℕ) {r s : Checked} {xs ys : List ℕ} → HeadsetCheckPromise file scratch r xs → HeadsetCheckPromise file scratch s ys
+    → (r ≡ s) × (xs ≡ ys)
+headset-check file scratch a b = (same-answer checked checkedOf checked-back a b, ap (lent-at 0) (same-lent a b))
 
 pub packed-voxel : (file : List ℕ) (v : Point) {r s : Found} → PackedVoxelPromise file v r → PackedVoxelPromise file v s → r ≡ s
 packed-voxel file v a b = same-answer found foundOf found-back a b

@@ -1,7 +1,7 @@
 // The public calls of the room store. Each promise stands in `paper`, by name, as one equation: the outcome read from the answer
 // is the documents'. No call asks anything of its caller.
 ghost use Rattle.points.specs.Points.{at};
-ghost use Rattle.paper.specs.Promises.{NewStorePromise, AddPromise, VoxelPromise, SightPromise, CellPromise, BoxPromise, AnyPromise, KeptPromise, OutlinePromise, PackPromise, CheckPromise, PackedVoxelPromise, DetailPromise};
+ghost use Rattle.paper.specs.Promises.{NewStorePromise, AddPromise, VoxelPromise, SightPromise, CellPromise, BoxPromise, AnyPromise, KeptPromise, OutlinePromise, PackPromise, HeadsetPackPromise, CheckPromise, HeadsetCheckPromise, PackedVoxelPromise, DetailPromise};
 
 // The types of what is asked and answered.
 pub use paper::Added;
@@ -100,11 +100,25 @@ pub fn pack(store: &[u32], scene: u32, scratch: &mut [u32], out: &mut [u8]) -> W
     pack::pack(store, scene, scratch, out)
 }
 
+// Pack for the headset: as pack, where the scene meets its profile; refused by 2, 9, 11, 14, 15, 12.
+pub fn headset_pack(store: &[u32], scene: u32, scratch: &mut [u32], out: &mut [u8]) -> Written
+    ensures { λ r. ⌜ HeadsetPackPromise (now (store .entry)) scene (now (scratch .entry)) (now (out .entry)) r (now (scratch .exit)) (now (out .exit)) ⌝ }
+{
+    pack::headset_pack(store, scene, scratch, out)
+}
+
 // Packed check: the depth of a proper file; refused by 11, 3, 4, 5, 6.
 pub fn check(file: &[u8], scratch: &mut [u8]) -> Checked
     ensures { λ r. ⌜ CheckPromise (now (file .entry)) (now (scratch .entry)) r (now (scratch .exit)) ⌝ }
 {
     proper::check(file, scratch)
+}
+
+// Headset check: the depth of a proper file that meets the headset's profile; refused by 11, 3, 4, 5, 6, 14, 15.
+pub fn headset_check(file: &[u8], scratch: &mut [u8]) -> Checked
+    ensures { λ r. ⌜ HeadsetCheckPromise (now (file .entry)) (now (scratch .entry)) r (now (scratch .exit)) ⌝ }
+{
+    proper::headset_check(file, scratch)
 }
 
 // Packed voxel: solid or empty, with the number of records read on the way and the height of the emptiness; refused by 3, 4, 5, 10, 6.

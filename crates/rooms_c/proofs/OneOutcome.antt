@@ -7,7 +7,7 @@ use lib.Ieee.{Float}
 use lib.ListN.{getD}
 use Rattle.paper.specs.Rooms.{Point}
 use Rattle.paper.specs.Answers.{Outcome, told, outcome}
-use Rattle.rooms_c.specs.Exports.{RoomsNewPromise, RoomsAddPromise, RoomsVoxelPromise, RoomsSightPromise, RoomsCellPromise, RoomsBoxPromise, RoomsAnyPromise, RoomsKeptPromise, RoomsOutlinePromise, RoomsPackPromise, RoomsCheckPromise, RoomsPackedVoxelPromise, RoomsOpenPromise, RoomsAskPromise, RoomsDetailPromise}
+use Rattle.rooms_c.specs.Exports.{RoomsNewPromise, RoomsAddPromise, RoomsVoxelPromise, RoomsSightPromise, RoomsCellPromise, RoomsBoxPromise, RoomsAnyPromise, RoomsKeptPromise, RoomsOutlinePromise, RoomsPackPromise, RoomsHeadsetPackPromise, RoomsCheckPromise, RoomsHeadsetCheckPromise, RoomsPackedVoxelPromise, RoomsOpenPromise, RoomsAskPromise, RoomsDetailPromise}
 
 -- ---- the parts of equal outcomes
 
@@ -29,6 +29,11 @@ one-value a b = (same-number a b, same-value a b 0)
 one-slice : {n m v w : ℕ} {xs ys : List ℕ} {o : Outcome} → outcome (told n (v ∷ [])) (xs ∷ []) ≡ o → outcome (told m (w ∷ [])) (ys ∷ []) ≡ o
     → (n ≡ m) × (v ≡ w) × (xs ≡ ys)
 one-slice a b = (same-number a b, same-value a b 0, same-lent a b 0)
+
+-- one value and two slices
+two-slices : {n m v w : ℕ} {xs ys us vs : List ℕ} {o : Outcome} → outcome (told n (v ∷ [])) (xs ∷ us ∷ []) ≡ o → outcome (told m (w ∷ [])) (ys ∷ vs ∷ []) ≡ o
+    → (n ≡ m) × (v ≡ w) × (xs ≡ ys) × (us ≡ vs)
+two-slices a b = (same-number a b, same-value a b 0, same-lent a b 0, same-lent a b 1)
 
 -- one slice and no value
 slice-only : {n m : ℕ} {xs ys : List ℕ} {o : Outcome} → outcome (told n []) (xs ∷ []) ≡ o → outcome (told m []) (ys ∷ []) ≡ o → (n ≡ m) × (xs ≡ ys)
@@ -86,11 +91,19 @@ rooms-outline ws scene out a b = one-slice a b
 
 pub rooms-pack : (ws : List ℕ) (scene : ℕ) (scratch out : List ℕ) {n m len len′ : ℕ} {xs ys us vs : List ℕ} → RoomsPackPromise ws scene scratch out n len xs us
     → RoomsPackPromise ws scene scratch out m len′ ys vs → (n ≡ m) × (len ≡ len′) × (xs ≡ ys) × (us ≡ vs)
-rooms-pack ws scene scratch out a b = (same-number a b, same-value a b 0, same-lent a b 0, same-lent a b 1)
+rooms-pack ws scene scratch out a b = two-slices a b
+
+pub rooms-headset-pack : (ws : List ℕ) (scene : ℕ) (scratch out : List ℕ) {n m len len′ : ℕ} {xs ys us vs : List ℕ} → RoomsHeadsetPackPromise ws scene scratch out n len xs us
+    → RoomsHeadsetPackPromise ws scene scratch out m len′ ys vs → (n ≡ m) × (len ≡ len′) × (xs ≡ ys) × (us ≡ vs)
+rooms-headset-pack ws scene scratch out a b = two-slices a b
 
 pub rooms-check : (file scratch : List ℕ) {n m depth depth′ : ℕ} {xs ys : List ℕ} → RoomsCheckPromise file scratch n depth xs
     → RoomsCheckPromise file scratch m depth′ ys → (n ≡ m) × (depth ≡ depth′) × (xs ≡ ys)
 rooms-check file scratch a b = one-slice a b
+
+pub rooms-headset-check : (file scratch : List ℕ) {n m depth depth′ : ℕ} {xs ys : List ℕ} → RoomsHeadsetCheckPromise file scratch n depth xs
+    → RoomsHeadsetCheckPromise file scratch m depth′ ys → (n ≡ m) × (depth ≡ depth′) × (xs ≡ ys)
+rooms-headset-check file scratch a b = one-slice a b
 
 pub rooms-packed-voxel : (file : List ℕ) (v : Point) {n m solid solid′ records records′ height height′ : ℕ} → RoomsPackedVoxelPromise file v n solid records height
     → RoomsPackedVoxelPromise file v m solid′ records′ height′ → (n ≡ m) × (solid ≡ solid′) × (records ≡ records′) × (height ≡ height′)

@@ -9,6 +9,7 @@ use Rattle.paper.specs.Answers.{told, outcome}
 use Rattle.paper.specs.Calls.{newOutcome, addOutcome, voxelOutcome, cellOutcome, boxOutcome, keptOutcome, outlineOutcome, packOutcome, checkOutcome, packedVoxelOutcome}
 use Rattle.paper.specs.Sight.{sightOutcome}
 use Rattle.paper.specs.Anything.{anyOutcome}
+use Rattle.paper.specs.Headset.{headsetCheckOutcome, headsetPackOutcome}
 use Rattle.rooms_numbers.specs.Numbers.{openCOutcome, askCOutcome, detailCOutcome}
 
 abbrev pub RoomsNewPromise : ℕ → List ℕ → ℕ → List ℕ → Type 0
@@ -44,6 +45,13 @@ RoomsPackPromise ws n scratch out r len scratch′ out′ = outcome (told r (len
 
 abbrev pub RoomsCheckPromise : List ℕ → List ℕ → ℕ → ℕ → List ℕ → Type 0
 RoomsCheckPromise file scratch r depth scratch′ = outcome (told r (depth ∷ [])) (scratch′ ∷ []) ≡ checkOutcome file scratch
+
+-- the headset's: as pack, and as check
+abbrev pub RoomsHeadsetPackPromise : List ℕ → ℕ → List ℕ → List ℕ → ℕ → ℕ → List ℕ → List ℕ → Type 0
+RoomsHeadsetPackPromise ws n scratch out r len scratch′ out′ = outcome (told r (len ∷ [])) (scratch′ ∷ out′ ∷ []) ≡ headsetPackOutcome ws n scratch out
+
+abbrev pub RoomsHeadsetCheckPromise : List ℕ → List ℕ → ℕ → ℕ → List ℕ → Type 0
+RoomsHeadsetCheckPromise file scratch r depth scratch′ = outcome (told r (depth ∷ [])) (scratch′ ∷ []) ≡ headsetCheckOutcome file scratch
 
 abbrev pub RoomsPackedVoxelPromise : List ℕ → Point → ℕ → ℕ → ℕ → ℕ → Type 0
 RoomsPackedVoxelPromise file v r solid records height = outcome (told r (solid ∷ records ∷ height ∷ [])) [] ≡ packedVoxelOutcome file v

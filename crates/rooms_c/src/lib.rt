@@ -3,7 +3,7 @@
 // on the same outcome as the call of `rooms`; where C passes numbers in the place of a struct or of a wish, that file says which. No
 // call asks anything of the values it is given; what it asks of pointers and memory is in the header.
 ghost use Rattle.paper.specs.Rooms.{point};
-ghost use Rattle.rooms_c.specs.Exports.{RoomsNewPromise, RoomsAddPromise, RoomsVoxelPromise, RoomsSightPromise, RoomsCellPromise, RoomsBoxPromise, RoomsAnyPromise, RoomsKeptPromise, RoomsOutlinePromise, RoomsPackPromise, RoomsCheckPromise, RoomsPackedVoxelPromise, RoomsOpenPromise, RoomsAskPromise, RoomsDetailPromise};
+ghost use Rattle.rooms_c.specs.Exports.{RoomsNewPromise, RoomsAddPromise, RoomsVoxelPromise, RoomsSightPromise, RoomsCellPromise, RoomsBoxPromise, RoomsAnyPromise, RoomsKeptPromise, RoomsOutlinePromise, RoomsPackPromise, RoomsHeadsetPackPromise, RoomsCheckPromise, RoomsHeadsetCheckPromise, RoomsPackedVoxelPromise, RoomsOpenPromise, RoomsAskPromise, RoomsDetailPromise};
 use rooms::Point;
 use rooms_numbers::ask_numbers;
 use rooms_numbers::detail_numbers;
@@ -199,12 +199,38 @@ pub extern "C" fn rooms_pack(
     answer.number()
 }
 
+// Pack for the headset: a scene that meets its profile as a packed file, and its length.
+#[no_mangle]
+pub extern "C" fn rooms_headset_pack(
+    store: &[u32],
+    scene: u32,
+    scratch: &mut [u32],
+    out: &mut [u8],
+    length: &mut u32,
+) -> u32
+    ensures { λ r. ⌜ RoomsHeadsetPackPromise (now (store .entry)) scene (now (scratch .entry)) (now (out .entry)) r (now (length .exit)) (now (scratch .exit)) (now (out .exit)) ⌝ }
+{
+    let answer = rooms::headset_pack(store, scene, scratch, out);
+    *length = answer.value();
+    answer.number()
+}
+
 // Packed check: the depth of a proper file.
 #[no_mangle]
 pub extern "C" fn rooms_check(file: &[u8], scratch: &mut [u8], depth: &mut u32) -> u32
     ensures { λ r. ⌜ RoomsCheckPromise (now (file .entry)) (now (scratch .entry)) r (now (depth .exit)) (now (scratch .exit)) ⌝ }
 {
     let answer = rooms::check(file, scratch);
+    *depth = answer.value();
+    answer.number()
+}
+
+// Headset check: the depth of a proper file that meets the headset's profile.
+#[no_mangle]
+pub extern "C" fn rooms_headset_check(file: &[u8], scratch: &mut [u8], depth: &mut u32) -> u32
+    ensures { λ r. ⌜ RoomsHeadsetCheckPromise (now (file .entry)) (now (scratch .entry)) r (now (depth .exit)) (now (scratch .exit)) ⌝ }
+{
+    let answer = rooms::headset_check(file, scratch);
     *depth = answer.value();
     answer.number()
 }

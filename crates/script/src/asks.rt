@@ -47,9 +47,11 @@ fn front(code: u8, given: &[u8]) -> usize
         b'K' => 5,
         b'O' => 9,
         b'P' => 13,
+        b'Q' => 13,
         b'L' => 5,
         b'X' => 6,
         b'c' => 5,
+        b'h' => 5,
         b'v' => 13,
         b'q' => 13,
         b'D' => detail_front(given),
@@ -82,8 +84,8 @@ fn part(code: u8, given: &[u8], words: usize, size: usize) -> Memory {
         b'N' => asked.words = second,
         b'L' => asked.size = first,
         b'O' => asked.room = second,
-        b'c' => asked.room = first,
-        b'P' => {
+        b'c' | b'h' => asked.room = first,
+        b'P' | b'Q' => {
             asked.scratch = second;
             asked.room = word(given, 8) as usize;
         }

@@ -99,6 +99,21 @@ fn pack(given: &[u8], store: &[u32], scratch: &mut [u32], out: &mut [u8]) -> [u6
     ]
 }
 
+// `Q`: pack for the headset, with this scratch and into this output.
+fn headset_pack(given: &[u8], store: &[u32], scratch: &mut [u32], out: &mut [u8]) -> [u64; 6] {
+    fill_words(scratch);
+    fill_bytes(out);
+    let length = rooms::headset_pack(store, word(given, 0), scratch, out);
+    [
+        length.number() as u64,
+        length.value() as u64,
+        sum_words(scratch),
+        sum_bytes(out),
+        0,
+        0,
+    ]
+}
+
 // Plays a command that asks the store.
 pub fn ask(code: u8, given: &[u8], store: &[u32], scratch: &mut [u32], out: &mut [u8]) -> [u64; 6] {
     match code {
@@ -110,6 +125,7 @@ pub fn ask(code: u8, given: &[u8], store: &[u32], scratch: &mut [u32], out: &mut
         b'K' => kept(given, store),
         b'O' => outline_out(given, store, out),
         b'P' => pack(given, store, scratch, out),
+        b'Q' => headset_pack(given, store, scratch, out),
         b'H' => [sum_words(store), 0, 0, 0, 0, 0],
         _ => [0; 6],
     }

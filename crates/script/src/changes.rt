@@ -76,7 +76,7 @@ pub fn taken(code: u8, numbers: [u64; 6], out: &[u8], file: &mut [u8], size: usi
     requires { ⌜ size ≤ length (now file) ⌝ }
     ensures { λ r. ⌜ r ≤ length (now (file .entry)) ⌝ }
 {
-    if code != b'P' {
+    if (code != b'P') & (code != b'Q') {
         return size;
     }
     if numbers[0] != 0 {

@@ -49,6 +49,20 @@ fn check(file: &[u8], scratch: &mut [u8]) -> [u64; 6] {
     ]
 }
 
+// `h`: headset check, with this scratch.
+fn headset_check(file: &[u8], scratch: &mut [u8]) -> [u64; 6] {
+    fill_bytes(scratch);
+    let depth = rooms::headset_check(file, scratch);
+    [
+        depth.number() as u64,
+        depth.value() as u64,
+        sum_bytes(scratch),
+        0,
+        0,
+        0,
+    ]
+}
+
 // The f64 of these bits; a pattern that is no number stands for NaN.
 fn float_of(bits: u64) -> f64 {
     if bits % 9223372036854775808 > 9218868437227405312 {
@@ -89,6 +103,7 @@ pub fn look(code: u8, given: &[u8], file: &[u8], out: &mut [u8]) -> [u64; 6] {
         b'v' => packed_voxel(given, file),
         b'q' => open_and_ask(given, file),
         b'c' => check(file, out),
+        b'h' => headset_check(file, out),
         b'D' => detail(given),
         _ => [0; 6],
     }

@@ -123,6 +123,6 @@ pub fn say(text: &mut [u8], used: usize, code: u8, numbers: [u64; 6]) -> usize
     ensures { λ r. ⌜ r ≤ used + 1000 ⌝ }
 {
     let forms =
-        b"Nnew 0 store 1\nAadd 0 1 store 2\nHstore 0\nVvoxel 0 1 2\nSsight 0 1 2 3 4\nCcell 0 1\nBbox 0 1\nYany 0 1 2\nKkept 0 1\nOoutline 0 1 out 2\nPpack 0 1 scratch 2 out 3\nccheck 0 1 scratch 2\nvpacked 0 1 2 3\nqopen 0 1\naask 2 3 4 5\nDdetail 0 1\n";
+        b"Nnew 0 store 1\nAadd 0 1 store 2\nHstore 0\nVvoxel 0 1 2\nSsight 0 1 2 3 4\nCcell 0 1\nBbox 0 1\nYany 0 1 2\nKkept 0 1\nOoutline 0 1 out 2\nPpack 0 1 scratch 2 out 3\nQslim 0 1 scratch 2 out 3\nccheck 0 1 scratch 2\nhheadset 0 1 scratch 2\nvpacked 0 1 2 3\nqopen 0 1\naask 2 3 4 5\nDdetail 0 1\n";
     lines(text, used, forms, code, numbers)
 }

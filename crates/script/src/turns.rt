@@ -34,7 +34,7 @@ fn command(
 ) -> [u64; 6] {
     match code {
         b'N' | b'A' | b'W' | b'X' | b'L' => change(code, given, bytes, store, file),
-        b'v' | b'q' | b'c' | b'D' => look(code, given, file, out),
+        b'v' | b'q' | b'c' | b'h' | b'D' => look(code, given, file, out),
         _ => ask(code, given, store, scratch, out),
     }
 }
