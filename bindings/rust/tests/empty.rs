@@ -11,6 +11,7 @@ fn null_pointers_of_length_0() {
     rooms::add(&mut store, &[0x11, 0, 0, 0, 6, 2]).unwrap();
     let empty_scene = [0x22, 0, 0, 0, 7, 2, 8];
     let (mut a, mut b, mut c, mut d) = (9, 9, 9, 9);
+    let mut scratch = vec![7; rooms::pack_scratch_words(1)];
     let store = store.as_mut_ptr();
     let file = empty_scene.as_ptr();
     unsafe {
@@ -29,7 +30,12 @@ fn null_pointers_of_length_0() {
         assert_eq!((rooms_kept(null(), 0, 2, &mut a), a), (2, 0));
         assert_eq!((rooms_outline(store, words, 0, null_mut(), 0, &mut a), a), (12, 0));
         assert_eq!((rooms_pack(store, words, 0, null_mut(), 0, null_mut(), 0, &mut a), a), (11, 0));
+        assert_eq!((rooms_headset_pack(null(), 0, 0, null_mut(), 0, null_mut(), 0, &mut a), a), (2, 0));
         assert_eq!((rooms_headset_pack(store, words, 0, null_mut(), 0, null_mut(), 0, &mut a), a), (11, 0));
+        a = 9;
+        let short = rooms_headset_pack(store, words, 0, scratch.as_mut_ptr(), scratch.len(), null_mut(), 0, &mut a);
+        assert_eq!((short, a), (12, 0));
+        assert!(scratch.iter().all(|&word| word == 0));
         assert_eq!((rooms_check(null(), 0, null_mut(), 0, &mut a), a), (3, 0));
         assert_eq!((rooms_check(file, 7, null_mut(), 0, &mut a), a), (11, 0));
         assert_eq!((rooms_headset_check(null(), 0, null_mut(), 0, &mut a), a), (3, 0));

@@ -1,5 +1,5 @@
 #!/usr/bin/env python3
-"""Makes seven scripts of calls in crates/replay_scripts/data: questions, adding, packing, far, opening, changes and rules.
+"""Makes eight scripts of calls in crates/replay_scripts/data: questions, adding, packing, far, opening, changes, rules and headset-edges.
 
 The other scripts there came with documents 01 and 02. What all of them must print is what the twin prints: tests/twin/play.rs. The commands
 are those of docs/replay.md.
@@ -74,6 +74,11 @@ def pack(scene, scratch, room):
     return b"P" + u32(scene, scratch, room)
 
 
+def slim(scene, scratch, room):
+    """Headset packing."""
+    return b"Q" + u32(scene, scratch, room)
+
+
 def load(file):
     return b"L" + u32(len(file)) + file
 
@@ -84,6 +89,11 @@ def change(at, byte):
 
 def check(scratch):
     return b"c" + u32(scratch)
+
+
+def headset(scratch):
+    """Headset check."""
+    return b"h" + u32(scratch)
 
 
 def packed(x, y, z):
@@ -160,6 +170,40 @@ def packed_file(depth, root, lists):
     return with_length(b"\x22\0\0\0\0" + bytes([depth, root]) + sizes + body)
 
 
+def leaf_list(*all_bits):
+    return len(all_bits), b"".join(leaf(bits) for bits in all_bits)
+
+
+def halves(*numbers):
+    return b"".join(struct.pack(">H", n) for n in numbers)
+
+
+def inner(*records):
+    body = b"".join(records)
+    return len(body) // 2, body
+
+
+def links(*of):
+    """A record: child, code, tag and place of each link."""
+    header = 0
+    body = b""
+    for child, code, tag, place in of:
+        header |= code << (2 * child)
+        body += struct.pack(">H", tag << 13 | place) if code == 1 else struct.pack(">I", tag << 29 | place)
+    return struct.pack(">H", header) + body
+
+
+def deepened(file, depth):
+    """A packed file of something under cells of one child each, up to a depth; proper where it was. The root's mirror becomes a tag."""
+    old = file[5]
+    if depth == old:
+        return file
+    tags = [0] * (depth - old - 1) + [file[6]]
+    above = b"".join(links((5 * n % 8, 1, tag, 0)) for n, tag in enumerate(tags))
+    lists = 7 + 4 * (old - 1)
+    return with_length(file[:5] + bytes([depth, 0]) + u32(2) * len(tags) + file[7:lists] + above + file[lists:])
+
+
 S1 = raw(3, b"\x03" + leaf(1) + leaf(8))
 S1_PACKED = bytes.fromhex("220000001D0300" + "00000003" + "00000001" + "0005" + "0000" + "2000" + "0000000000000001")
 ROOM_P = raw(3, b"\x03" + leaf(0x8001) + leaf(1))
@@ -212,28 +256,63 @@ def chained(capacity, chains_by_height):
     return words
 
 
-def by_hand(capacity, scenes, leaves, cells, spare=2):
-    """A store written word by word, its counts true and its chains right; cells: for each height its cells."""
-    script = fresh(capacity, spare)
-    script += word(1, len(scenes)) + word(2, len(leaves))
+def words_by_hand(capacity, scenes, leaves, cells):
+    """The words of a store, by place, its counts true and its chains right; cells: for each height its cells."""
+    words = {1: len(scenes), 2: len(leaves)}
     for h in cells:
-        script += word(h, len(cells[h]))
+        words[h] = len(cells[h])
     for i, (depth, root) in enumerate(scenes):
-        script += word(32 + 2 * i, depth) + word(33 + 2 * i, root)
+        words[32 + 2 * i], words[33 + 2 * i] = depth, root
     for i, bits in enumerate(leaves):
-        script += word(160 + 2 * i, bits >> 32) + word(161 + 2 * i, bits)
+        words[160 + 2 * i], words[161 + 2 * i] = bits >> 32, bits & MOST
     counts = counts_of(leaves, cells)
     for h in cells:
         for n, pointers in enumerate(cells[h]):
             count = counts[h, n]
             for j, p in enumerate([*pointers, count >> 32, count & MOST]):
                 if p:
-                    script += word(place(capacity, h, n) + j, p)
+                    words[place(capacity, h, n) + j] = p
     chains = {h: [chain_of(pointers) for pointers in cells[h]] for h in cells}
     chains[2] = [bits.bit_count() for bits in leaves]
-    for at, n in chained(capacity, chains).items():
-        script += word(at, n)
-    return script
+    return words | chained(capacity, chains)
+
+
+def by_hand(capacity, scenes, leaves, cells, spare=2):
+    """A store written word by word."""
+    words = words_by_hand(capacity, scenes, leaves, cells)
+    return fresh(capacity, spare) + b"".join(word(at, n) for at, n in words.items())
+
+
+def number(p):
+    """The number of the cell that a pointer names."""
+    return (p & 2**29 - 1) - 1
+
+
+def popular(n, often):
+    return -often[n], n
+
+
+def packed_scene(depth, root, leaves, cells, order=popular):
+    """The packed file of a scene of such a store; each list in an order of the cells' numbers and how often pointers name them."""
+    lists = {depth: [number(root)]}
+    for h in range(depth - 1, 1, -1):
+        often = {}
+        for n in lists[h + 1]:
+            for p in filter(None, cells[h + 1][n]):
+                often[number(p)] = often.get(number(p), 0) + 1
+        lists[h] = sorted(often, key=lambda n: order(n, often))
+    written = {2: leaf_list(*[leaves[n] for n in lists[2]])}
+    below = {n: i for i, n in enumerate(lists[2])}
+    for h in range(3, depth + 1):
+        body = b""
+        starts = {}
+        for n in lists[h]:
+            starts[n] = len(body) // 2
+            named = [(i, p >> 29, below[number(p)]) for i, p in enumerate(cells[h][n]) if p]
+            body += links(*[(i, 1 if at <= 8191 else 2, tag, at) for i, tag, at in named])
+        written[h] = len(body) // 2, body
+        below = starts
+    return packed_file(depth, root >> 29, written)
 
 
 # ---- the scripts
@@ -568,41 +647,22 @@ def changes():
     return script
 
 
-def rules():
-    """A proper file with each rule broken alone; every single-byte change of a file of depth 4."""
-
-    def leaves(*all_bits):
-        return len(all_bits), b"".join(leaf(bits) for bits in all_bits)
-
-    def halves(*numbers):
-        return b"".join(struct.pack(">H", n) for n in numbers)
-
-    def inner(*records):
-        body = b"".join(records)
-        return len(body) // 2, body
-
-    def links(*of):
-        """A record: child, code, tag and place of each link."""
-        header = 0
-        body = b""
-        for child, code, tag, place in of:
-            header |= code << (2 * child)
-            body += struct.pack(">H", tag << 13 | place) if code == 1 else struct.pack(">I", tag << 29 | place)
-        return struct.pack(">H", header) + body
-
+def rule_files():
+    """Two proper files, of depths 3 and 4, then files with each rule broken alone, and some that are proper again."""
     two = links((0, 1, 0, 0), (1, 1, 0, 1))
     one = links((0, 1, 0, 0))
     over = inner(links((0, 1, 0, 0), (1, 1, 0, 2)))
-    good = packed_file(3, 0, {3: inner(two), 2: leaves(1, 3)})
+    good = packed_file(3, 0, {3: inner(two), 2: leaf_list(1, 3)})
     four = packed_file(
         4,
         0,
         {
             4: inner(links((0, 1, 0, 0), (1, 1, 0, 3))),
             3: inner(two, links((0, 1, 0, 0), (3, 1, 1, 0))),
-            2: leaves(1, 3),
+            2: leaf_list(1, 3),
         },
     )
+
     def named(often, twice, all_leaves):
         """Leaf `often` named eight times by one record, `twice` once by each of two, leaf 2 once."""
         top = inner(links((0, 1, 0, 0), (1, 1, 0, 9), (2, 1, 0, 11)))
@@ -610,35 +670,41 @@ def rules():
         below = inner(eight, links((0, 1, 0, twice)), links((0, 1, 0, twice), (1, 1, 0, 2)))
         return packed_file(4, 0, {4: top, 3: below, 2: all_leaves})
 
-    files = [
+    return [
         good,
         four,
-        packed_file(3, 0, {3: inner(one, links((1, 1, 0, 0))), 2: leaves(1)}),  # two records on top
-        packed_file(3, 0, {3: (0, b""), 2: leaves(1)}),  # none
-        packed_file(3, 0, {3: inner(one + b"\0\0"), 2: leaves(1)}),  # zero header after
-        packed_file(3, 0, {3: inner(halves(3, 0)), 2: leaves(1)}),  # code 3
-        packed_file(3, 0, {3: inner(halves(5, 0)), 2: leaves(1)}),  # record past its list
-        packed_file(3, 0, {3: inner(two), 2: leaves(1, 0)}),  # a zero leaf
-        packed_file(3, 0, {3: inner(links((0, 1, 0, 0), (1, 1, 0, 2))), 2: leaves(1, 3)}),  # outside
-        packed_file(3, 0, {3: inner(links((0, 2, 0, 0), (1, 1, 0, 1))), 2: leaves(1, 3)}),  # long to a short place
-        packed_file(4, 0, {4: inner(two), 3: inner(two), 2: leaves(1, 3)}),  # names no start
-        packed_file(3, 0, {3: inner(one), 2: leaves(1, 3)}),  # not named
-        packed_file(3, 0, {3: inner(two), 2: leaves(1, 8)}),  # two leaves that match
-        packed_file(4, 0, {4: over, 3: inner(one, links((1, 1, 1, 0))), 2: leaves(1)}),  # two cells that match
-        packed_file(3, 0, {3: inner(links((0, 1, 3, 0), (1, 1, 0, 1))), 2: leaves(0x8001, 3)}),  # tag 3 means 0
-        packed_file(3, 0, {3: inner(links((0, 1, 2, 0), (1, 1, 0, 1))), 2: leaves(0x8001, 3)}),  # tag 2 means 1
-        packed_file(3, 1, {3: inner(links((0, 1, 0, 0), (1, 1, 1, 0))), 2: leaves(1)}),  # the root's tag
-        packed_file(3, 2, {3: inner(links((0, 1, 0, 0), (1, 1, 1, 0))), 2: leaves(1)}),
-        packed_file(4, 0, {4: over, 3: inner(links((0, 1, 0, 1)), two), 2: leaves(3, 1)}),  # order rises
-        packed_file(4, 0, {4: over, 3: inner(one, two), 2: leaves(3, 1)}),
-        named(0, 1, leaves(7, 1, 3)),  # eight times by one record, once by each of two
-        named(1, 0, leaves(1, 7, 3)),  # order rises
-        packed_file(2, 1, {2: leaves(0x8001)}),
-        packed_file(2, 3, {2: leaves(0x8001)}),
-        packed_file(2, 0, {2: leaves(0x8001)}),
-        packed_file(2, 0, {2: leaves(0)}),
-        packed_file(2, 0, {2: leaves(1, 3)}),
+        packed_file(3, 0, {3: inner(one, links((1, 1, 0, 0))), 2: leaf_list(1)}),  # two records on top
+        packed_file(3, 0, {3: (0, b""), 2: leaf_list(1)}),  # none
+        packed_file(3, 0, {3: inner(one + b"\0\0"), 2: leaf_list(1)}),  # zero header after
+        packed_file(3, 0, {3: inner(halves(3, 0)), 2: leaf_list(1)}),  # code 3
+        packed_file(3, 0, {3: inner(halves(5, 0)), 2: leaf_list(1)}),  # record past its list
+        packed_file(3, 0, {3: inner(two), 2: leaf_list(1, 0)}),  # a zero leaf
+        packed_file(3, 0, {3: inner(links((0, 1, 0, 0), (1, 1, 0, 2))), 2: leaf_list(1, 3)}),  # outside
+        packed_file(3, 0, {3: inner(links((0, 2, 0, 0), (1, 1, 0, 1))), 2: leaf_list(1, 3)}),  # long to a short place
+        packed_file(4, 0, {4: inner(two), 3: inner(two), 2: leaf_list(1, 3)}),  # names no start
+        packed_file(3, 0, {3: inner(one), 2: leaf_list(1, 3)}),  # not named
+        packed_file(3, 0, {3: inner(two), 2: leaf_list(1, 8)}),  # two leaves that match
+        packed_file(4, 0, {4: over, 3: inner(one, links((1, 1, 1, 0))), 2: leaf_list(1)}),  # two cells that match
+        packed_file(3, 0, {3: inner(links((0, 1, 3, 0), (1, 1, 0, 1))), 2: leaf_list(0x8001, 3)}),  # tag 3 means 0
+        packed_file(3, 0, {3: inner(links((0, 1, 2, 0), (1, 1, 0, 1))), 2: leaf_list(0x8001, 3)}),  # tag 2 means 1
+        packed_file(3, 1, {3: inner(links((0, 1, 0, 0), (1, 1, 1, 0))), 2: leaf_list(1)}),  # the root's tag
+        packed_file(3, 2, {3: inner(links((0, 1, 0, 0), (1, 1, 1, 0))), 2: leaf_list(1)}),
+        packed_file(4, 0, {4: over, 3: inner(links((0, 1, 0, 1)), two), 2: leaf_list(3, 1)}),  # order rises
+        packed_file(4, 0, {4: over, 3: inner(one, two), 2: leaf_list(3, 1)}),
+        named(0, 1, leaf_list(7, 1, 3)),  # eight times by one record, once by each of two
+        named(1, 0, leaf_list(1, 7, 3)),  # order rises
+        packed_file(2, 1, {2: leaf_list(0x8001)}),
+        packed_file(2, 3, {2: leaf_list(0x8001)}),
+        packed_file(2, 0, {2: leaf_list(0x8001)}),
+        packed_file(2, 0, {2: leaf_list(0)}),
+        packed_file(2, 0, {2: leaf_list(1, 3)}),
     ]
+
+
+def rules():
+    """A proper file with each rule broken alone; every single-byte change of a file of depth 4."""
+    files = rule_files()
+    four = files[1]
     script = b""
     for file in files:
         n = len(file)
@@ -652,11 +718,231 @@ def rules():
     return script
 
 
+def flipped(file):
+    """Headset check after each change of one bit."""
+    script = load(file)
+    for i, byte in enumerate(file):
+        for bit in range(8):
+            script += change(i, byte ^ 1 << bit) + headset(len(file))
+        script += change(i, byte)
+    return script
+
+
+def headset_small():
+    """Depths around 10, each refusal with those that come after it, damaged stores, broken files."""
+    script = slim(0, 0, 0) + headset(0) + headset(9)
+    # S1: exact, one short, longer; a refusal leaves the current file
+    script += fresh(2) + add(S1) + slim(0, 120, 28) + headset(9) + slim(0, 120, 29) + headset(29) + headset(28) + headset(0) + headset(40)
+    script += slim(0, 119, 29) + slim(0, 119, 28) + slim(0, 130, 40) + slim(0, 0, 0) + slim(1, 120, 29) + slim(1, 0, 0) + headset(29)
+    script += word(31, 5) + slim(0, 120, 29) + slim(7, 0, 0) + headset(29) + STORE_SUM
+
+    # a voxel, and nothing, at each depth: one record a height of 4 bytes and a leaf, or 7 bytes
+    script += fresh(16)
+    for d in range(2, 17):
+        script += add(outline(d, some_voxels(d, 1))) + add(raw(d, b""))
+    for scene in range(30):
+        n = 7 if scene % 2 else 8 * (2 + scene // 2) + 3
+        for scratch, room in ((960, n), (960, n - 1), (959, n), (959, n - 1), (965, n + 4), (960, 0), (0, 0)):
+            script += slim(scene, scratch, room)
+        script += load(S1_PACKED) + slim(scene, 960, n) + headset(29)
+        script += pack(scene, 960, n) + headset(n) + headset(n - 1) + headset(n + 6) + headset(0) + check(n)
+    for scene in (30, 31, 63, 64, 2**31, MOST):
+        script += slim(scene, 960, 99) + slim(scene, 959, 99) + slim(scene, 960, 0) + slim(scene, 0, 0)
+    # rooms of depth 9 to 12, images of theirs and both together
+    for d in (9, 10, 11, 12):
+        voxels = some_voxels(d, 14)
+        script += fresh(30) + add(outline(d, voxels)) + add(outline(d, mirror(voxels, 6, 1 << d)))
+        script += add(outline(d, voxels + mirror(voxels, 3, 1 << d)))
+        for scene in range(4):
+            script += slim(scene, 1800, 3000) + slim(scene, 1800, 300) + pack(scene, 1800, 3000) + headset(3000) + headset(300)
+
+    # stores by hand: a tag that is not the lowest, cells that match; then each of their words wrong, the other refusals behind 2
+    low = [pointer(3, 0), 0, 0, pointer(0, 1), 0, 0, 0, 0]
+    cells = {3: [low, low], 4: [[pointer(1, 0), pointer(2, 1)] + [0] * 6]}
+    for h in range(5, 12):
+        cells[h] = [[0, 0, pointer(h % 8, 0)] + [0] * 5]
+    scenes = [(3, pointer(0, 1)), (4, pointer(0, 0)), (10, pointer(5, 0)), (11, pointer(6, 0)), (10, 0), (11, 0), (16, 0)]
+    scenes += [(2, pointer(2, 1))]
+    leaves = [0x8001, 0x0137]
+    script += by_hand(3, scenes, leaves, cells)
+    for scene in range(9):
+        script += slim(scene, 180, 300) + slim(scene, 180, 6) + slim(scene, 179, 300) + slim(scene, 0, 0)
+        script += pack(scene, 180, 300) + headset(300) + check(300)
+    words = {0: 3} | words_by_hand(3, scenes, leaves, cells)
+    first, last, end = place(3, 3, 0), place(3, 11, 0), used(3)
+    wrong = [(0, 0), (0, 2), (0, 4), (0, 65537), (1, 7), (1, 9), (1, 65), (2, 1), (2, 4), (11, 0), (12, 1), (16, 4), (17, 1), (31, 1)]
+    wrong += [(38, 0), (38, 17), (39, pointer(0, 1)), (39, 0x20000000), (41, pointer(7, 2)), (42, 1), (44, MOST), (48, 2), (159, 1)]
+    wrong += [(161, 0), (163, 0), (164, 1), (first, 0), (first, pointer(0, 2)), (first + 1, 0xE0000000), (first + 9, 7), (first + 8, 1)]
+    wrong += [(first + 20, 1), (first + 29, 1), (last + 2, 0), (last + 2, pointer(0, 1)), (last + 8, 1), (last + 9, 1), (last + 10, 1)]
+    wrong += [(lists(3) - 1, 1), (head(3, 2, 2), 0), (head(3, 2, 3), 2), (head(3, 11, chain_of(cells[11][0])), 0), (head(3, 12, 0), 1)]
+    wrong += [(following(3, 3, 0), 0), (following(3, 3, 1), 1), (following(3, 11, 1), 1), (end - 1, 1)]
+    for at, n in wrong:
+        script += word(at, n) + slim(2, 180, 300) + slim(3, 180, 300) + slim(3, 0, 0) + slim(9, 0, 0) + word(at, words.get(at, 0))
+    # words past the store's are no damage; a slice a word too short is
+    script += word(end, 9) + word(end + 1, 9) + slim(2, 180, 300) + slim(3, 180, 300) + STORE_SUM
+    script += new(3, end - 1) + slim(0, 180, 300) + new(3, 4000) + slim(0, 180, 300) + new(0, 9000) + slim(0, 0, 0)
+
+    # fronts: 0x21 and others, lengths, depths, the root's mirror
+    for depth in (3, 10, 11, 16):
+        file = deepened(S1_PACKED, depth)
+        n = len(file)
+        script += load(file) + headset(n) + headset(n - 1) + headset(n + 1) + headset(65536) + check(n) + headset(0)
+        fronts = [(0, byte) for byte in (0x21, 0x23, 0x11, 0x31, 0)] + [(4, n ^ 1), (1, 1), (3, 0xFF)]
+        fronts += [(5, d) for d in (0, 1, 2, 3, 9, 10, 11, 12, 16, 17, 255)] + [(6, byte) for byte in (1, 7, 8, 9, 255)] + [(7, 1), (10, 0)]
+        for at, byte in fronts:
+            script += change(at, byte) + headset(n) + headset(n - 1) + change(at, file[at])
+        for m in (0, 1, 2, 5, 6, 7, 8, n - 2, n - 1):
+            script += load(file[:m]) + headset(m) + load(with_length(file[:m]) if m > 4 else file[:m]) + headset(m) + headset(max(0, m - 1))
+        script += load(with_length(file + b"\0\0")) + headset(n + 2) + load(file + b"\0\0") + headset(n + 2)
+    for depth in range(0, 18):
+        for byte in (0, 8, 9):
+            file = with_length(b"\x22\0\0\0\0" + bytes([depth, byte]))
+            script += load(file) + headset(7) + headset(6) + load(b"\x21" + file[1:]) + headset(7) + headset(6)
+            script += load(with_length(file + b"\0")) + headset(8) + load(file + b"\0") + headset(8)
+    # each rule broken alone, at depths 10, 11 and 16 too
+    for file in rule_files():
+        for depth in (file[5], 10, 11, 16):
+            deep = deepened(file, depth)
+            script += load(deep) + headset(len(deep)) + headset(len(deep) - 1) + (check(len(deep)) if depth > 10 else b"")
+    # long pointers where no file can have one: in the topmost list, to a place that is short and to one outside; to a leaf that isn't there
+    one = links((3, 1, 0, 0))
+    for depth in (3, 4, 10, 11):
+        for place_named in (0, 1, 8191, 8192, 2**29 - 1):
+            for top, bottom in ((2, 1), (1, 2)):
+                of = {h: inner(one) for h in range(3, depth + 1)}
+                of[3] = inner(links((3, bottom, 0, place_named if bottom == 2 else 0)))
+                if top == 2:
+                    of[depth] = inner(links((3, top, 0, place_named)))
+                of[2] = leaf_list(0x0137)
+                file = packed_file(depth, 0, of)
+                script += load(file) + headset(len(file)) + headset(len(file) - 1)
+    return script + flipped(deepened(S1_PACKED, 10)) + flipped(deepened(S1_PACKED, 11))
+
+
+def kept_once(kept, one):
+    """The pointer to a cell among those kept, with it if it is new. No cell here has an image among the others."""
+    if one not in kept:
+        kept.append(one)
+    return pointer(0, kept.index(one))
+
+
+def grown(cells, row, low, high):
+    """The pointer to the cell of the one height over a row of pointers to cells of the other, eight a cell."""
+    for h in range(low + 1, high + 1):
+        row = [kept_once(cells.setdefault(h, []), tuple(row[i : i + 8] + [0] * (8 - len(row[i : i + 8])))) for i in range(0, len(row), 8)]
+    return row[0]
+
+
+def record_under(leaves, cells, height, p):
+    """The outline record of what a pointer without mirror names."""
+    if height == 2:
+        return leaf(leaves[number(p)])
+    children = cells[height][number(p)]
+    mask = sum(1 << i for i in range(8) if children[i])
+    return bytes([mask]) + b"".join(record_under(leaves, cells, height - 1, q) for q in children if q)
+
+
+def wide_rooms(low):
+    """Two rooms with 912 cells of height `low`: one of a child, 910 of eight, and at the end one of seven, in 8,200 half-words.
+
+    The first room has the last of them twice. So it stands first in the list there, and a record of eight children last, at 8,191. The
+    second has it once, so it stands last, at 8,192.
+    """
+    leaves = [random.getrandbits(64) for _ in range(12)]
+    cells = {}
+    row = [pointer(0, n) for n in range(12)]
+    for h in range(3, low):
+        row = [kept_once(cells.setdefault(h, []), tuple([p] + random.sample(row, 3) + [0] * 4)) for p in row]
+
+    def some(count):
+        return kept_once(cells.setdefault(low, []), tuple(random.choices(row, k=count) + [0] * (8 - count)))
+
+    parts = [some(1)] + [some(8) for _ in range(910)] + [some(7)]
+    first = grown(cells, parts + [parts[-1]], low, low + 4)
+    second = grown(cells, parts, low, low + 4)
+    return leaves, cells, first, second
+
+
+def headset_wide():
+    """Places 8,191 and 8,192: in rooms added, under cells up to depths 10 and 11, in files.
+
+    A script cannot have that many leaves: a store of 262,144 words keeps 1,644, and 65,536 bytes of a file hold fewer than 8,192.
+    """
+    script = b""
+    capacity = 920
+    scratch = 60 * capacity
+    leaves, cells, first, second = wide_rooms(3)
+    files = [packed_scene(7, root, leaves, cells) for root in (first, second)]
+    script += fresh(capacity) + add(raw(7, record_under(leaves, cells, 7, first))) + add(raw(7, record_under(leaves, cells, 7, second)))
+    # a small room of their cells
+    small = grown(cells, [pointer(0, 0), pointer(0, 911)], 3, 4)
+    script += add(raw(4, record_under(leaves, cells, 4, small))) + kept(3) + kept(4) + STORE_SUM
+    # both rooms once more under cells of one child each, in words
+    counts = counts_of(leaves, cells)
+    scenes = [(7, first), (7, second), (4, small)]
+    for h in range(8, 12):
+        cells[h] = [tuple([0] * (h % 8) + [pointer(h % 8, n)] + [0] * (7 - h % 8)) for n in range(2)]
+        script += word(h, 2)
+        for n in range(2):
+            at = place(capacity, h, n)
+            script += word(at + h % 8, pointer(h % 8, n)) + word(at + 9, counts[7, n])
+            script += word(head(capacity, h, chain_of(cells[h][n])), n + 1)
+    scenes += [(depth, pointer(tag, n)) for depth, tag in ((10, 3), (11, 0)) for n in range(2)]
+    for scene, (depth, root) in list(enumerate(scenes))[3:]:
+        script += word(32 + 2 * scene, depth) + word(33 + 2 * scene, root)
+    script += word(1, len(scenes)) + STORE_SUM
+    for scene, (depth, root) in enumerate(scenes):
+        n = len(packed_scene(depth, root, leaves, cells))
+        for words, room in ((scratch, n), (scratch, n - 1), (scratch, 0), (scratch - 1, n), (scratch - 1, 0), (scratch + 9, n + 9)):
+            script += slim(scene, words, room)
+        script += pack(scene, scratch, n) + headset(n) + headset(n - 1) + check(n)
+        # scenes that are not held, and damage: a root that no cell is, a wrong next word
+        script += slim(len(scenes), scratch, n) + slim(len(scenes), 0, 0)
+        for at, wrong, right in ((33 + 2 * scene, pointer(0, 2000), root), (following(capacity, 3, 912), 1, 0)):
+            script += word(at, wrong) + slim(scene, scratch, n) + slim(scene, 0, 0) + word(at, right)
+    # the rooms' own files, changed: the front, the depth, the root's mirror, the sizes; a leaf's bytes, one by one, until it is zero
+    for scene, file in enumerate(files):
+        n = len(file)
+        script += pack(scene, scratch, n) + headset(65536)
+        for at, byte in ((0, 0x21), (4, file[4] ^ 1), (5, 11), (5, 17), (6, 5), (6, 8), (10, 4)):
+            script += change(at, byte) + headset(n) + change(at, file[at])
+        for at in range(n - 8, n):
+            script += change(at, 0) + (headset(n) if (n - at) % 2 else b"")
+    # the long pointer of the second: another place, another tag, and short
+    file = files[1]
+    n = len(file)
+    long = file.rindex(u32(8192))
+    script += pack(1, scratch, n)
+    for at, byte in ((long + 2, 0x1F), (long + 2, 0x21), (long + 3, 9), (long, 0x20), (long, 0xE0)):
+        script += change(at, byte) + headset(n) + change(at, file[at])
+    header = file.rindex(b"\x95\x55")
+    script += change(header, 0x55) + headset(n)
+    # the first room in the order of numbers alone: a record named twice stands last, at 8,192
+    file = packed_scene(7, first, leaves, cells, order=lambda n, often: n)
+    script += load(file) + headset(len(file)) + check(len(file))
+    # a long pointer in the topmost list, to a record; but all others have no name
+    body = b"".join(links(*[(i, 1, 0, number(p)) for i, p in enumerate(cells[3][n]) if p]) for n in range(912))
+    file = packed_file(4, 0, {4: inner(links((0, 1, 0, 0), (7, 2, 0, 8192))), 3: inner(body), 2: leaf_list(*leaves)})
+    script += load(file) + headset(len(file)) + headset(len(file) - 1)
+    # the same two places one height up, at depth 10
+    leaves, cells, first, second = wide_rooms(4)
+    for root in (first, second):
+        file = deepened(packed_scene(8, root, leaves, cells), 10)
+        script += load(file) + headset(len(file)) + headset(len(file) - 1) + check(len(file))
+    return script
+
+
+def headset_edges():
+    """Headset packing and headset check; at the end more scratch than there is."""
+    random.seed(12)
+    return headset_small() + headset_wide() + headset(65536) + headset(65537) + headset(0)
+
+
 def main():
     folder = os.path.join(os.path.dirname(os.path.abspath(__file__)), "../../../crates/replay_scripts/data")
     # one row of random numbers serves all, so their order matters
-    for make in (questions, adding, packing, far, opening, changes, rules):
-        with open(os.path.join(folder, make.__name__ + ".script"), "wb") as file:
+    for make in (questions, adding, packing, far, opening, changes, rules, headset_edges):
+        with open(os.path.join(folder, make.__name__.replace("_", "-") + ".script"), "wb") as file:
             file.write(make())
 
 

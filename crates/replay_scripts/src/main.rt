@@ -44,4 +44,5 @@ fn main() {
     play(b"opening.script");
     play(b"changes.script");
     play(b"rules.script");
+    play(b"edges.script");
 }

@@ -1,4 +1,4 @@
-//! The fifteen calls as C has them: the number returned, values in out parameters. `Twin` is document 01 once more, `library::Library` the
+//! The seventeen calls as C has them: the number returned, values in out parameters. `Twin` is document 01 once more, `library::Library` the
 //! proved library; the tests run both on the same memory.
 
 use crate::twin::{self, Answer};
@@ -14,14 +14,16 @@ pub trait Calls {
     fn kept(&mut self, store: &[u32], height: u32, count: &mut u32) -> u32;
     fn outline(&mut self, store: &[u32], scene: u32, out: &mut [u8], length: &mut u32) -> u32;
     fn pack(&mut self, store: &[u32], scene: u32, scratch: &mut [u32], out: &mut [u8], length: &mut u32) -> u32;
+    fn headset_pack(&mut self, store: &[u32], scene: u32, scratch: &mut [u32], out: &mut [u8], length: &mut u32) -> u32;
     fn check(&mut self, file: &[u8], scratch: &mut [u8], depth: &mut u32) -> u32;
+    fn headset_check(&mut self, file: &[u8], scratch: &mut [u8], depth: &mut u32) -> u32;
     fn packed_voxel(&mut self, file: &[u8], at: [u32; 3], solid: &mut u32, records: &mut u32, height: &mut u32) -> u32;
     fn open(&mut self, file: &[u8], numbers: &mut [u32]) -> u32;
     fn ask(&mut self, file: &[u8], numbers: &[u32], at: [u32; 3], solid: &mut u32, records: &mut u32, height: &mut u32) -> u32;
     fn detail(&mut self, depth: u32, kind: u32, a: f64, b: f64, height: &mut u32) -> u32;
 }
 
-/// The twin; `clause` says which clause of document 01 refused the last call.
+/// The twin; `clause` says which clause of documents 01 and 02 refused the last call.
 #[derive(Default)]
 pub struct Twin {
     pub clause: &'static str,
@@ -94,8 +96,14 @@ impl Calls for Twin {
     fn pack(&mut self, store: &[u32], scene: u32, scratch: &mut [u32], out: &mut [u8], length: &mut u32) -> u32 {
         self.tell(twin::pack(store, scene, scratch, out), length)
     }
+    fn headset_pack(&mut self, store: &[u32], scene: u32, scratch: &mut [u32], out: &mut [u8], length: &mut u32) -> u32 {
+        self.tell(twin::headset_pack(store, scene, scratch, out), length)
+    }
     fn check(&mut self, file: &[u8], scratch: &mut [u8], depth: &mut u32) -> u32 {
         self.tell(twin::check(file, scratch), depth)
+    }
+    fn headset_check(&mut self, file: &[u8], scratch: &mut [u8], depth: &mut u32) -> u32 {
+        self.tell(twin::headset_check(file, scratch), depth)
     }
     fn packed_voxel(&mut self, file: &[u8], [x, y, z]: [u32; 3], solid: &mut u32, records: &mut u32, height: &mut u32) -> u32 {
         self.tell_found(twin::packed_voxel(file, x, y, z), solid, records, height)

@@ -1,9 +1,10 @@
 //! One case of each call: the library and the twin on the same memory, full of noise where the call writes, and the safe function
 //! beside them.
 
-use crate::calls::Calls;
+use crate::calls::{Calls, Twin};
 use crate::generator::stores;
 use crate::lent::{hex, Lent, GUARD};
+use crate::library::Library;
 use crate::Compare;
 use rooms::{Anything, Found, Refusal, Voxel, Wish};
 use std::fmt::Debug;
@@ -16,6 +17,36 @@ fn kind(solid: u32, height: u32) -> &'static str {
         _ => "empty, in an empty cell",
     }
 }
+
+/// A way of packing: the library's call, the twin's and the safe function.
+struct Packing {
+    call: &'static str,
+    library: Pack<Library>,
+    twin: Pack<Twin>,
+    safe: SafePack,
+}
+
+type Pack<T> = fn(&mut T, &[u32], u32, &mut [u32], &mut [u8], &mut u32) -> u32;
+type SafePack = fn(&[u32], u32, &mut [u32], &mut [u8]) -> Result<u32, Refusal>;
+
+const PACK: Packing = Packing { call: "pack", library: Library::pack, twin: Twin::pack, safe: rooms::pack };
+const HEADSET_PACK: Packing =
+    Packing { call: "headset_pack", library: Library::headset_pack, twin: Twin::headset_pack, safe: rooms::headset_pack };
+
+/// A way of checking, likewise.
+struct Checking {
+    call: &'static str,
+    library: Check<Library>,
+    twin: Check<Twin>,
+    safe: SafeCheck,
+}
+
+type Check<T> = fn(&mut T, &[u8], &mut [u8], &mut u32) -> u32;
+type SafeCheck = fn(&[u8], &mut [u8]) -> Result<u32, Refusal>;
+
+const CHECK: Checking = Checking { call: "check", library: Library::check, twin: Twin::check, safe: rooms::check };
+const HEADSET_CHECK: Checking =
+    Checking { call: "headset_check", library: Library::headset_check, twin: Twin::headset_check, safe: rooms::headset_check };
 
 impl Compare {
     pub fn lend_words(&mut self, slice: &[u32]) -> Lent<u32> {
@@ -303,38 +334,55 @@ impl Compare {
 
     /// Answers the bytes written.
     pub fn pack(&mut self, store: &Lent<u32>, scene: u32, words: usize, room: usize) -> Option<Vec<u8>> {
+        self.packing(&PACK, store, scene, words, room)
+    }
+
+    /// Answers the bytes written.
+    pub fn headset_pack(&mut self, store: &Lent<u32>, scene: u32, words: usize, room: usize) -> Option<Vec<u8>> {
+        self.packing(&HEADSET_PACK, store, scene, words, room)
+    }
+
+    fn packing(&mut self, by: &Packing, store: &Lent<u32>, scene: u32, words: usize, room: usize) -> Option<Vec<u8>> {
         let mine = store.clone();
         let mut scratch = self.noise_words(words);
         let mut scratch_mine = scratch.clone();
         let mut out = self.noise_bytes(room);
         let mut out_mine = out.clone();
         let (mut a, mut b) = (self.random.word(), self.random.word());
-        let here = self.library.pack(mine.slice(), scene, scratch_mine.slice_mut(), out_mine.slice_mut(), &mut a);
-        let there = self.twin.pack(store.slice(), scene, scratch.slice_mut(), out.slice_mut(), &mut b);
+        let here = (by.library)(&mut self.library, mine.slice(), scene, scratch_mine.slice_mut(), out_mine.slice_mut(), &mut a);
+        let there = (by.twin)(&mut self.twin, store.slice(), scene, scratch.slice_mut(), out.slice_mut(), &mut b);
         let same = mine == *store && out_mine == out && scratch_mine == scratch;
-        let number = self.judge("pack", (here, a), (there, b), same, || {
+        let number = self.judge(by.call, (here, a), (there, b), same, || {
             format!("store {}\nscene {scene} scratch {words} room {room}", hex(store.slice()))
         });
         if self.random.once_in(4) {
             let mut third = vec![0; room];
-            self.agree("pack", number, a, rooms::pack(store.slice(), scene, &mut vec![9; words], &mut third));
+            self.agree(by.call, number, a, (by.safe)(store.slice(), scene, &mut vec![9; words], &mut third));
             assert!(third[..a as usize] == out.slice()[..a as usize]);
         }
         (number == 0).then(|| out.slice()[..a as usize].to_vec())
     }
 
     pub fn check(&mut self, file: &[u8], room: usize) -> u32 {
+        self.checking(&CHECK, file, room)
+    }
+
+    pub fn headset_check(&mut self, file: &[u8], room: usize) -> u32 {
+        self.checking(&HEADSET_CHECK, file, room)
+    }
+
+    fn checking(&mut self, by: &Checking, file: &[u8], room: usize) -> u32 {
         let file = self.lend_bytes(file);
         let file_mine = file.clone();
         let mut scratch = self.noise_bytes(room);
         let mut scratch_mine = scratch.clone();
         let (mut a, mut b) = (self.random.word(), self.random.word());
-        let here = self.library.check(file_mine.slice(), scratch_mine.slice_mut(), &mut a);
-        let there = self.twin.check(file.slice(), scratch.slice_mut(), &mut b);
+        let here = (by.library)(&mut self.library, file_mine.slice(), scratch_mine.slice_mut(), &mut a);
+        let there = (by.twin)(&mut self.twin, file.slice(), scratch.slice_mut(), &mut b);
         let same = file_mine == file && scratch_mine == scratch;
-        let number = self.judge("check", (here, a), (there, b), same, || format!("file {}\nscratch {room}", hex(file.slice())));
+        let number = self.judge(by.call, (here, a), (there, b), same, || format!("file {}\nscratch {room}", hex(file.slice())));
         if self.random.once_in(4) {
-            self.agree("check", number, a, rooms::check(file.slice(), &mut vec![9; room]));
+            self.agree(by.call, number, a, (by.safe)(file.slice(), &mut vec![9; room]));
         }
         number
     }

@@ -1,7 +1,7 @@
 //! Episodes: each makes a store or a file of some kind and asks it everything that suits it.
 
 use crate::generator::packed::Draft;
-use crate::generator::rooms::{damaged, kin, room, wide, with_length, Room};
+use crate::generator::rooms::{damaged, deeper, kin, room, wide, with_length, Room};
 use crate::generator::{stores, Random};
 use crate::lent::Lent;
 use crate::Compare;
@@ -45,6 +45,7 @@ impl Compare {
                 let points = self.solid(&file);
                 self.ask_packed(&file, 4, &points);
             }
+            self.ask_headset_pack(&store);
         }
     }
 
@@ -76,6 +77,7 @@ impl Compare {
             self.ask_store(&store, 2);
             self.ask_outline(&store);
             self.ask_pack(&store);
+            self.ask_headset_pack(&store);
         }
     }
 
@@ -140,6 +142,7 @@ impl Compare {
             self.ask_kept(&one);
             self.ask_outline(&one);
             self.ask_pack(&one);
+            self.ask_headset_pack(&one);
             self.add(&mut one, &file);
         }
     }
@@ -158,6 +161,7 @@ impl Compare {
             if let Some(file) = self.ask_pack(&store) {
                 self.ask_packed(&file, 3, &[]);
             }
+            self.ask_headset_pack(&store);
             // an outline of the store's own, added again
             let scene = self.some_scene(&store);
             if let Some(file) = self.outline(&store, scene, 3_000) {
@@ -191,6 +195,7 @@ impl Compare {
             if let Some(file) = self.pack(&store, n, 60, room) {
                 self.ask_packed(&file, 3, &[]);
             }
+            self.headset_pack(&store, n, 60, room);
         }
     }
 
@@ -202,6 +207,7 @@ impl Compare {
             self.ask_kept(&store);
             self.ask_outline(&store);
             self.ask_pack(&store);
+            self.ask_headset_pack(&store);
             let file = room(&mut self.random, 3).outline();
             self.add(&mut store, &file);
             let length = self.random.from_to(0, 40);
@@ -263,20 +269,29 @@ impl Compare {
         }
     }
 
-    /// Lists with records at places 8,191 and 8,192 and past them: short and long pointers.
+    /// Lists with records at places 8,191 and 8,192 and past them: short and long pointers. The headset takes short ones only, and some of
+    /// these rooms are too deep for it.
     fn far(&mut self) {
         let last = self.random.pick(&[2, 3]);
         let (before, after) = (908, self.random.below(14));
-        let outline = wide(&mut self.random, before, last, after).outline();
+        let depth = self.random.pick(&[7, 7, 8, 10, 11]);
+        let room = wide(&mut self.random, before, last, after);
+        let outline = deeper(&mut self.random, room, depth).outline();
         let mut store = self.fresh(1_000);
         self.add(&mut store, &outline);
         self.outline(&store, 0, outline.len());
+        self.headset_pack(&store, 0, 60_000, 65_536);
         let Some(file) = self.pack(&store, 0, 60_000, 65_536) else { return };
+        for _ in 0..3 {
+            let (words, room) = (60_000 - self.random.below(2), file.len() - self.random.below(2));
+            self.headset_pack(&store, 0, words, room);
+        }
         self.check(&file, file.len());
+        self.headset_check(&file, file.len());
         let numbers = self.open(&file, 16).unwrap();
         let points = self.solid(&file);
         for _ in 0..200 {
-            let at = self.packed_point(7, &points);
+            let at = self.packed_point(depth, &points);
             self.packed_voxel(&file, at);
             self.ask(&file, &numbers, at);
         }
@@ -285,9 +300,33 @@ impl Compare {
             let mut draft = draft.clone();
             draft.change(&mut self.random);
             let changed = draft.write();
-            let at = self.packed_point(7, &points);
+            let at = self.packed_point(depth, &points);
             self.packed_voxel(&changed, at);
             self.check(&changed, changed.len());
+            let room = changed.len() - self.random.below(4) / 3;
+            self.headset_check(&changed, room);
+        }
+    }
+
+    /// Stores by hand with a list of about that length at some height: what is packed has a long pointer, or just none. Some have as many
+    /// leaves, and so long pointers at two heights.
+    fn long_pointers(&mut self) {
+        let height = if self.random.once_in(6) { 2 } else { self.random.from_to(3, 6) };
+        let mut words = stores::wide_by_hand(&mut self.random, height);
+        let scratch = 60 * words[0] as usize;
+        for n in 0..5 {
+            let store = self.lend_words(&words);
+            let scene = if n == 0 { 0 } else { self.random.below(3) as u32 };
+            let (spare, room) = (self.random.below(3), 120_000);
+            let file = self.pack(&store, scene, scratch + spare, room).unwrap();
+            self.headset_pack(&store, scene, scratch + spare, room);
+            let (less, room) = (self.random.below(2), file.len() - self.random.below(2));
+            self.headset_pack(&store, scene, scratch - less, room);
+            if n < 3 {
+                self.headset_check(&file, file.len());
+            }
+            // a half-word more or less in its list; of a leaf's parent, where the leaves are many
+            stores::resize_a_cell(&mut self.random, &mut words, height.max(3));
         }
     }
 
@@ -352,6 +391,7 @@ impl Compare {
             }
         }
         self.ask_pack(&store);
+        self.ask_headset_pack(&store);
         let file = room(&mut self.random, 2).outline();
         for _ in 0..12 {
             let mut words = store.slice().to_vec();
@@ -363,6 +403,7 @@ impl Compare {
             self.ask_kept(&one);
             self.ask_outline(&one);
             self.ask_pack(&one);
+            self.ask_headset_pack(&one);
             self.add(&mut one, &file);
         }
     }
@@ -463,6 +504,7 @@ impl Compare {
                 let changed = damaged(&mut self.random, &file);
                 self.ask_packed(&changed, 2, &points);
             }
+            self.ask_headset_pack(&store);
         }
     }
 
@@ -519,6 +561,7 @@ impl Compare {
             0 => self.greatest(),
             _ if episode % 300 == 1 => self.far(),
             _ if episode % 300 == 2 => self.long_lines(),
+            _ if episode % 40 == 3 => self.long_pointers(),
             _ => match self.random.below(40) {
                 0..=7 => self.rooms(),
                 8 => self.chains(),

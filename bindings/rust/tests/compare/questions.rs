@@ -251,21 +251,41 @@ impl Compare {
         file
     }
 
+    /// A scene packed for the headset, likewise. What is refused is sometimes asked for once more with too little of something.
+    pub fn ask_headset_pack(&mut self, store: &Lent<u32>) {
+        let scene = self.some_scene(store);
+        let words = 60 * store.slice().first().copied().unwrap_or(0).min(1200) as usize;
+        let spare = self.random.below(5);
+        let file = self.headset_pack(store, scene, words + spare, 20_000);
+        if file.is_some() || self.random.once_in(3) {
+            let enough = words.saturating_sub(self.random.below(3).min(1));
+            let room = file.map_or(1, |file| file.len()) + self.random.below(3) - 1;
+            self.headset_pack(store, scene, enough, room);
+        }
+    }
+
     /// Solid voxels of a proper file.
     pub fn solid(&mut self, file: &[u8]) -> Vec<[u32; 3]> {
         Draft::read(file).map_or(Vec::new(), |draft| draft.solid(&mut self.random, 6))
     }
 
-    /// A packed file: checked, asked, opened and asked; some points to ask at are given.
-    pub fn ask_packed(&mut self, file: &[u8], times: usize, points: &[[u32; 3]]) {
-        let room = match self.random.below(12) {
+    /// Scratch for a file's check: enough most often, just enough, too little.
+    fn some_scratch(&mut self, file: &[u8]) -> usize {
+        match self.random.below(12) {
             0 => file.len().saturating_sub(1),
             1 => self.random.below(file.len() + 1),
             2 => 0,
             3..=6 => file.len() + self.random.below(9),
             _ => file.len(),
-        };
+        }
+    }
+
+    /// A packed file: checked, for the headset too, asked, opened and asked; some points to ask at are given.
+    pub fn ask_packed(&mut self, file: &[u8], times: usize, points: &[[u32; 3]]) {
+        let room = self.some_scratch(file);
         self.check(file, room);
+        let room = self.some_scratch(file);
+        self.headset_check(file, room);
         let depth = file.get(5).map_or(4, |&d| (d as u32).clamp(2, 16));
         for _ in 0..times {
             let at = self.packed_point(depth, points);

@@ -35,8 +35,14 @@ impl Calls for Library {
     fn pack(&mut self, store: &[u32], scene: u32, scratch: &mut [u32], out: &mut [u8], length: &mut u32) -> u32 {
         rooms::c::rooms_pack(store, scene, scratch, out, length)
     }
+    fn headset_pack(&mut self, store: &[u32], scene: u32, scratch: &mut [u32], out: &mut [u8], length: &mut u32) -> u32 {
+        rooms::c::rooms_headset_pack(store, scene, scratch, out, length)
+    }
     fn check(&mut self, file: &[u8], scratch: &mut [u8], depth: &mut u32) -> u32 {
         rooms::c::rooms_check(file, scratch, depth)
+    }
+    fn headset_check(&mut self, file: &[u8], scratch: &mut [u8], depth: &mut u32) -> u32 {
+        rooms::c::rooms_headset_check(file, scratch, depth)
     }
     fn packed_voxel(&mut self, file: &[u8], [x, y, z]: [u32; 3], solid: &mut u32, records: &mut u32, height: &mut u32) -> u32 {
         rooms::c::rooms_packed_voxel(file, x, y, z, solid, records, height)

@@ -126,6 +126,16 @@ fn commands(script: &mut Script, calls: &mut impl Calls, out: &mut String) -> Op
                 }
                 writeln!(out, "pack {number} {value} scratch {} out {}", sum_words(&scratch), sum(&room)).unwrap();
             }
+            b'Q' => {
+                let scene = script.word()?;
+                let mut scratch = filled_words(script.up_to(MOST_SCRATCH)?);
+                let mut room = filled_bytes(script.up_to(MOST_BYTES)?);
+                let number = calls.headset_pack(&store, scene, &mut scratch, &mut room, &mut value);
+                if number == 0 {
+                    file = room[..value as usize].to_vec();
+                }
+                writeln!(out, "slim {number} {value} scratch {} out {}", sum_words(&scratch), sum(&room)).unwrap();
+            }
             b'L' => {
                 let length = script.up_to(MOST_BYTES)? as usize;
                 file = script.take(length)?.to_vec();
@@ -140,6 +150,11 @@ fn commands(script: &mut Script, calls: &mut impl Calls, out: &mut String) -> Op
                 let mut scratch = filled_bytes(script.up_to(MOST_BYTES)?);
                 let number = calls.check(&file, &mut scratch, &mut value);
                 writeln!(out, "check {number} {value} scratch {}", sum(&scratch)).unwrap();
+            }
+            b'h' => {
+                let mut scratch = filled_bytes(script.up_to(MOST_BYTES)?);
+                let number = calls.headset_check(&file, &mut scratch, &mut value);
+                writeln!(out, "headset {number} {value} scratch {}", sum(&scratch)).unwrap();
             }
             b'v' => {
                 let number = calls.packed_voxel(&file, script.point()?, &mut value, &mut records, &mut height);

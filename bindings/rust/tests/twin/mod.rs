@@ -1,11 +1,11 @@
 //! Document 01 written once more, in plain Rust, slow and clear: its thirteen calls on slices, with what document 02 adds to them
 //! (its request 2: the height of the empty cell; its request 3: sight lines; its request 1: the solid count kept with each inner
-//! cell; its request 5: is anything in the way; its request 10: chains, by which equal cells are found). It shares no code with the
-//! proved store; the tests compare the two.
+//! cell; its request 5: is anything in the way; its request 10: chains, by which equal cells are found; its request 4: popularity counts
+//! pointers; its request 12: the headset profile). It shares no code with the proved store; the tests compare the two.
 //!
 //! A call answers its values, or a refusal: its number and which clause of document 01 it was. Lent memory is changed as the
-//! page says. Where the page's words would take for ever (does a cell match itself; has a cell anything in a box), what was found once is
-//! remembered; nothing else is done for speed.
+//! page says. Where the page's words would take for ever (does a cell match itself; is a leaf an image of one before it; has a cell anything
+//! in a box), what was found once is remembered; nothing else is done for speed.
 
 use std::collections::{HashMap, HashSet};
 
@@ -826,18 +826,35 @@ fn packed_scene(w: &Words, d: usize, p: u32) -> Vec<u8> {
     file
 }
 
-/// Pack: 2,9,11,12; the length written.
-pub fn pack(w: &Words, n: u32, scratch: &mut Words, out: &mut Bytes) -> Answer<u32> {
+/// 2, 9, 11, or the packed file of a scene; from there on scratch is zero, whatever else is answered.
+fn packing(w: &Words, n: u32, scratch: &mut Words) -> Answer<Vec<u8>> {
     whole_store(w)?;
     need(n < w[1], 9, "scene")?;
     let size = 60 * w[0] as usize;
     need(scratch.len() >= size, 11, "scratch")?;
     scratch[..size].fill(0);
     let (d, p) = scene(w, n as usize);
-    let file = packed_scene(w, d as usize, p);
+    Ok(packed_scene(w, d as usize, p))
+}
+
+/// 12, or the file put into the output and its length.
+fn put(file: &Bytes, out: &mut Bytes) -> Answer<u32> {
     need(file.len() <= out.len(), 12, "output")?;
-    out[..file.len()].copy_from_slice(&file);
+    out[..file.len()].copy_from_slice(file);
     Ok(file.len() as u32)
+}
+
+/// Pack: 2,9,11,12; the length written.
+pub fn pack(w: &Words, n: u32, scratch: &mut Words, out: &mut Bytes) -> Answer<u32> {
+    let file = packing(w, n, scratch)?;
+    put(&file, out)
+}
+
+/// Headset packing: 2,9,11,14,15,12; the length written. What pack would write is read as any packed file is.
+pub fn headset_pack(w: &Words, n: u32, scratch: &mut Words, out: &mut Bytes) -> Answer<u32> {
+    let file = packing(w, n, scratch)?;
+    Packed::front(&file).expect("what is packed has a front").fits_headset()?;
+    put(&file, out)
 }
 
 // ---- packed bytes
@@ -970,20 +987,20 @@ impl<'a> Packed<'a> {
         if let Some(&b) = known.get(&(h, place, t)) {
             return b;
         }
-        let b = self.records_match(h, place, place, t, known);
+        let b = if h == 2 {
+            self.leaf(place) == mirror_leaf(t, self.leaf(place))
+        } else {
+            let (links, _) = self.record(h, place).unwrap();
+            self.records_match(h, &links, &links, t, known)
+        };
         known.insert((h, place, t), b);
         b
     }
 
-    /// The match rule for two records of height h.
-    fn records_match(&self, h: usize, a: u64, b: u64, t: u32, known: &mut Known) -> bool {
-        if h == 2 {
-            return self.leaf(a) == mirror_leaf(t, self.leaf(b));
-        }
-        let (p, _) = self.record(h, a).unwrap();
-        let (q, _) = self.record(h, b).unwrap();
+    /// The match rule for two records of height h, 3 and up.
+    fn records_match(&self, h: usize, a: &[Link; 8], b: &[Link; 8], t: u32, known: &mut Known) -> bool {
         (0..8).all(|i| {
-            let (x, y) = (p[i], q[i ^ t as usize]);
+            let (x, y) = (a[i], b[i ^ t as usize]);
             (x.code == 0 && y.code == 0)
                 || (x.code != 0 && y.code != 0 && x.place == y.place && self.self_match(h - 1, x.place as u64, x.tag ^ y.tag ^ t, known))
         })
@@ -1024,16 +1041,20 @@ impl<'a> Packed<'a> {
             need(starts[&h].iter().all(|&s| named.contains_key(&(h, s))), 6, "not named")?;
         }
 
+        // the images of the leaves before
+        let mut images = HashSet::new();
+        for &n in &starts[&2] {
+            need(!images.contains(&self.leaf(n)), 6, "two leaves match")?;
+            images.extend((0..8).map(|t| mirror_leaf(t, self.leaf(n))));
+        }
         let mut known = HashMap::new();
-        for h in 2..=self.depth {
-            let list = &starts[&h];
-            for i in 0..list.len() {
-                for j in 0..i {
-                    for t in 0..8 {
-                        let clause = if h == 2 { "two leaves match" } else { "two cells match" };
-                        need(!self.records_match(h, list[i], list[j], t, &mut known), 6, clause)?;
-                    }
-                }
+        for h in 3..=self.depth {
+            let mut before = Vec::new();
+            for &s in &starts[&h] {
+                let (links, _) = self.record(h, s)?;
+                let matched = before.iter().any(|other| (0..8).any(|t| self.records_match(h, &links, other, t, &mut known)));
+                need(!matched, 6, "two cells match")?;
+                before.push(links);
             }
         }
         for h in 3..=self.depth {
@@ -1051,14 +1072,43 @@ impl<'a> Packed<'a> {
         }
         Ok(())
     }
+
+    /// The headset's profile, for a file whose lists divide into whole records: 14, 15. It has room for depth 10 and reads short pointers
+    /// only.
+    fn fits_headset(&self) -> Answer<()> {
+        need(self.depth <= 10, 14, "depth above 10")?;
+        if self.empty() {
+            return Ok(());
+        }
+        for h in 3..=self.depth {
+            for s in self.starts(h)? {
+                let (links, _) = self.record(h, s)?;
+                need(!links.iter().any(|l| l.code == 2), 15, "long pointer")?;
+            }
+        }
+        Ok(())
+    }
 }
 
-/// Packed check: 11,3,4,5,6; the depth.
-pub fn check(file: &Bytes, scratch: &mut Bytes) -> Answer<u32> {
+/// 11,3,4,5,6, or a proper file; from 6 on scratch is zero, whatever else is answered.
+fn checked<'a>(file: &'a Bytes, scratch: &mut Bytes) -> Answer<Packed<'a>> {
     need(scratch.len() >= file.len(), 11, "scratch")?;
     let p = Packed::front(file)?;
     scratch[..file.len()].fill(0);
     p.proper()?;
+    Ok(p)
+}
+
+/// Packed check: 11,3,4,5,6; the depth.
+pub fn check(file: &Bytes, scratch: &mut Bytes) -> Answer<u32> {
+    let p = checked(file, scratch)?;
+    Ok(p.depth as u32)
+}
+
+/// Headset check: 11,3,4,5,6,14,15; the depth.
+pub fn headset_check(file: &Bytes, scratch: &mut Bytes) -> Answer<u32> {
+    let p = checked(file, scratch)?;
+    p.fits_headset()?;
     Ok(p.depth as u32)
 }
 

@@ -241,6 +241,17 @@ pub fn wide(random: &mut Random, before: usize, last: usize, after: usize) -> Ro
     Room { depth: 7, root: Some(row.remove(0)) }
 }
 
+/// A room alone under cells of one child each, up to a depth.
+pub fn deeper(random: &mut Random, room: Room, depth: u32) -> Room {
+    let under = |cell: Rc<Cell>, random: &mut Random| {
+        let mut children: [Option<Rc<Cell>>; 8] = Default::default();
+        children[random.below(8)] = Some(cell);
+        Rc::new(Cell::Inner(children))
+    };
+    let root = room.root.map(|root| (room.depth..depth).fold(root, |cell, _| under(cell, random)));
+    Room { depth, root }
+}
+
 /// A file with some of its bytes wrong, or too few or too many of them.
 pub fn damaged(random: &mut Random, file: &[u8]) -> Vec<u8> {
     let mut file = file.to_vec();

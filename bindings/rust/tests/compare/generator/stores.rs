@@ -291,6 +291,81 @@ pub fn by_hand(random: &mut Random, capacity: usize, spare: usize) -> Vec<u32> {
     w
 }
 
+/// A store with so many cells at a height that in a packed scene's list the last of them stands at 8,190 to 8,196: past 8,191 its pointers
+/// are long. At height 2 the leaves are as many; that never comes alone, since the list of their parents then passes 8,191 too. Above
+/// them stand cells of eight children each, up to a single one, then cells of one child each up to height 12. Scenes are the single
+/// cell and those at depths 10 and 11. Most often what is packed is proper: leaves have no symmetry, and hardly two cells are alike.
+pub fn wide_by_hand(random: &mut Random, height: usize) -> Vec<u32> {
+    let last = random.from_to(8_190, 8_196);
+    // the half-words of the records at that height: almost all have eight children
+    let mut halves = vec![9; 907];
+    for few in [8, 8, 8, last - 9 * 907 - 3 * 8] {
+        halves.insert(random.below(halves.len()), few);
+    }
+    halves.push(random.from_to(2, 9));
+    let (capacity, many) = if height == 2 { (8_200, last + 1) } else { (930, halves.len()) };
+
+    let mut w = vec![0; used(capacity)];
+    w[0] = capacity as u32;
+    let mut row: Vec<usize> = Vec::new();
+    for h in 2..=12 {
+        let count = match h {
+            _ if h < height => random.from_to(2, 6),
+            _ if h == height => many,
+            _ => row.len().div_ceil(8),
+        };
+        w[h] = count as u32;
+        for n in 0..count {
+            let at = place(capacity, h, n);
+            if h == 2 {
+                (w[at], w[at + 1]) = (random.word() | 1, random.word());
+                continue;
+            }
+            // below and at the wide height any cells, above it those of the row in turn
+            let children: Vec<usize> = if h > height {
+                row[8 * n..row.len().min(8 * n + 8)].to_vec()
+            } else {
+                let children = if h == height { halves[n] - 1 } else { random.from_to(1, 8) };
+                (0..children).map(|_| random.below(w[h - 1] as usize)).collect()
+            };
+            let first = if children.len() == 1 { random.below(8) } else { 0 };
+            for (i, number) in children.into_iter().enumerate() {
+                w[at + first + i] = random.mirror() << 29 | (number as u32 + 1);
+            }
+        }
+        row = (0..count).collect();
+        // some are named twice, so they stand first in their list
+        if h == height {
+            for _ in 0..random.below(4) {
+                row.push(random.below(count));
+            }
+        }
+    }
+    sum_counts(&mut w, 3);
+    chain_up(&mut w);
+    let single = (height + 1..=12).find(|&h| w[h] == 1).unwrap();
+    w[1] = 3;
+    for (n, depth) in [single, 10, 11].into_iter().enumerate() {
+        w[32 + 2 * n] = depth as u32;
+        w[33 + 2 * n] = pointer(random, 1);
+    }
+    w
+}
+
+/// A pointer of a kept inner cell of a height taken away, where another is left, or put in, where there is room: its record is a half-word
+/// shorter or longer. Counts and chains follow.
+pub fn resize_a_cell(random: &mut Random, w: &mut [u32], height: usize) {
+    let at = place(w[0] as usize, height, random.below(w[height] as usize));
+    let (full, free): (Vec<usize>, Vec<usize>) = (at..at + 8).partition(|&i| w[i] != 0);
+    if !free.is_empty() && random.once_in(2) {
+        w[random.pick(&free)] = pointer(random, w[height - 1]);
+    } else if full.len() > 1 {
+        w[random.pick(&full)] = 0;
+    }
+    sum_counts(w, 3);
+    chain_up(w);
+}
+
 /// A full room of depth 16 under each of a few mirrors, one cell a height, its counts the greatest that there are.
 pub fn full_by_hand(random: &mut Random) -> Vec<u32> {
     let mut w = vec![0; used(1)];
