@@ -27,8 +27,9 @@
  *     (neither flush-to-zero nor denormals-are-zero set). Only rooms_detail computes with doubles. It may set status flags.
  *     With denormals-are-zero the distance -5e-324 would be taken for 0 where refusal 13 is due.
  *   - The stack suffices: 8 KiB hold every call, by measurement. At depth 16 rooms_any takes most, 5,424 bytes, then
- *     rooms_add 5,264, rooms_box 3,264, rooms_outline 2,240, rooms_check 1,312, any other call less than 700; on files and
- *     stores with a byte or a word changed none took more (docs/STACK.md). No function's frame has more than 512 bytes.
+ *     rooms_add 5,408, rooms_box 3,264, rooms_outline 2,240, rooms_headset_check 1,504, rooms_check 1,360, any other call
+ *     less than 700; on files and stores with a byte or a word changed none took more (docs/STACK.md). No function's frame
+ *     has more than 512 bytes.
  *   Of what stands in the memory nothing is asked: any words and any bytes, of any length, noise, a damaged store, half a
  *   file. A call answers or refuses; it never faults, loops without end or writes outside what it was lent. Not
  *   everything is looked at by every call: one that answers has found what it looked at in order, and no more. rooms_kept looks
