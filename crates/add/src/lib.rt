@@ -1,3 +1,5 @@
+#![tactic(auto)]
+
 // The call: a file's scene added to a store, its cells merged into those that the store keeps, equal cells and mirror images once; or
 // refused with the store as it was.
 ghost use Rattle.std.specs.Prelude.{◌≡◌, [], ◌∷◌};

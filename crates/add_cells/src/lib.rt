@@ -1,3 +1,5 @@
+#![tactic(auto)]
+
 // A cell is sought among those kept at its height, and kept if it is nowhere and there is room.
 ghost use Rattle.std.specs.Prelude.{◌≡◌, not, ◌++◌, ◌≤◌, ◌<◌, T, ltb};
 ghost use Rattle.paper.specs.Store.{heights, chains, capacity_of, kept_count, kept_of, two_words, header_ok, pointer as paperPointer};
@@ -12,7 +14,7 @@ use store::{capacity, kept_count};
 use store_pointers::{cell_chain, pointer};
 
 // Where a cell is: its pointer, with its symmetry, the mirrors under which it matches itself; or its height is full.
-#[derive(Drop)]
+#[derive(Clone, Copy)]
 pub enum CellAdded {
     At(u32, u8),
     Full,

@@ -1,3 +1,5 @@
+#![tactic(auto)]
+
 // Writing: one more cell, one more scene, and the lists cut back to counts taken before.
 ghost use Rattle.std.specs.Prelude.{◌≡◌, [], ◌∷◌, ◌++◌, ℕ, ◌+◌, ◌≤◌, ◌<◌, T, length, get_or, set};
 ghost use Rattle.std.proofs.lemmas.List.Edits.{sets};

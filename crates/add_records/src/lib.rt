@@ -1,3 +1,5 @@
+#![tactic(auto)]
+
 // A file's records added to the store, each cell sought or kept: the function for a record calls itself for each child
 // ('calls for'), one height down, to the cells over leaves. The file was read before, so nothing is tested again.
 ghost use Rattle.std.specs.Prelude.{◌≡◌, List, ℕ, ◌-◌};
@@ -13,7 +15,7 @@ use numbers::be64;
 const OVER_LEAVES: u32 = LEAF_HEIGHT + 1;
 
 // What adding a record answers: the position after it, the cell's pointer, its symmetry, and how many solid voxels it has; or its height is full.
-#[derive(Drop)]
+#[derive(Clone, Copy)]
 pub enum RecordAdded {
     At(usize, u32, u8, u64),
     Full,

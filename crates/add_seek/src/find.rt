@@ -16,7 +16,7 @@ use store::{HIGH_WORD, cell_at, head_at, leaf_exchanged_at, next_at};
 use store_pointers::{cell_chain, cell_key, numbers_differ, pointer};
 
 // The pointer found; or none, with the last cell of the chain, its number plus 1, or 0 where the chain is empty.
-#[derive(Drop)]
+#[derive(Clone, Copy)]
 pub enum Sought {
     At(u32),
     Nowhere(u32),

@@ -1,3 +1,5 @@
+#![tactic(auto)]
+
 // A cell sought among those that the store keeps at its height, as it is or mirrored.
 mod find; // the lowest number and, for it, the lowest mirror
 mod symmetries; // the mirrors under which a cell matches itself

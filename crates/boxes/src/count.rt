@@ -22,7 +22,7 @@ use store_pointers::{bad_pointer, cell_number, tag};
 const FAR: u32 = 65535;
 
 // Where a box is counted, once it lies in no single child.
-#[derive(Drop)]
+#[derive(Clone, Copy)]
 pub enum Ended {
     // A pointer on the way is none.
     Absent,

@@ -1,3 +1,5 @@
+#![tactic(auto)]
+
 // A leaf's solid voxels in a box: a mask for each axis, and the ones of what is left. No store.
 ghost use Rattle.std.specs.Prelude.{◌≡◌, ◌/◌, ◌%◌, ◌<◌};
 ghost use Rattle.paper.specs.Rooms.{Inside, mirrored, in_child, box_count};

@@ -1,3 +1,5 @@
+#![tactic(auto)]
+
 // Where a box lies: in its room, in a cell, and in a cell's children. It is given by two corners, or by its first voxel and its last, whose
 // coordinates are never reduced: in a cell of edge S they lie at their remainders by S. No store.
 ghost use Rattle.std.specs.Prelude.{◌≡◌, cond, ◌||◌, ◌+◌, ◌%◌, ◌^◌, ◌<◌, ◌≤◌, eqb};

@@ -1,3 +1,5 @@
+#![tactic(auto)]
+
 // Cell, with its whole outcome as `paper` defines it: refused by 2 (header), 9, 2 (the scene's two words), 10, 2 (walk), in this order. From height 2 up
 // the cell's pointer decides, below that the leaf's bits.
 ghost use Rattle.std.specs.Prelude.{◌≡◌, [], ◌-◌, ◌^◌, ◌<◌, ◌≤◌};

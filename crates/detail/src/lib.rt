@@ -1,3 +1,5 @@
+#![tactic(auto)]
+
 // Document 01, 'Questions', Detail, on f64. Distance and factor travel as one pair; a height is found by doubling the
 // factor, which loses nothing in these ranges (proofs/Claims.antt).
 ghost use Rattle.std.specs.Prelude.{◌≡◌, ◌&&◌, [], ◌≤◌, T};

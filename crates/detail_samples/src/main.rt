@@ -1,3 +1,5 @@
+#![tactic(auto)]
+
 // Samples of the detail rule through the public call: a line for each, with the refusal's number (0 where accepted) and the
 // height. A number beside an end of a range is the next f64 there, written with as many digits as tell it apart.
 use rooms::{Chosen, DistanceFactor, Wish};

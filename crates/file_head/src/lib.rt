@@ -1,3 +1,5 @@
+#![tactic(auto)]
+
 // The first bytes of a file of either kind: version byte, length and depth. Read and tested, refusals 3, 4 and 5 in this order, and written.
 ghost use Rattle.std.specs.Prelude.{◌≡◌, not, ◌≤◌, ◌<◌, length};
 ghost use Rattle.paper.specs.Outline.{version_ok, length_ok, file_depth};

@@ -1,3 +1,5 @@
+#![tactic(auto)]
+
 // A leaf as a number: its mirror image, and the mirrors under which it is its own image. The one function that mirrors a
 // leaf; its contract is by voxels.
 ghost use Rattle.std.specs.Prelude.{◌≡◌, ◌*◌, ◌<◌, T, eqb};

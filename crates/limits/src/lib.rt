@@ -1,3 +1,5 @@
+#![tactic(auto)]
+
 // The numbers of document 01 that more than one crate needs, each under its one name. What a number means to a contract is said where a function
 // uses it; here is no function.
 

@@ -1,3 +1,5 @@
+#![tactic(auto)]
+
 // A line from the centre of one voxel to that of another, by steps: how many faces it crosses on each axis, which voxel lies so many steps on, how far a
 // cell reaches, and with which steps the line leaves it. Whole numbers only, and no store: coordinates are below 65,536, so no product passes 64 bits.
 ghost use Rattle.std.specs.Prelude.{◌≡◌, ◌^◌, ◌≤◌, ◌<◌};
@@ -10,7 +12,7 @@ ghost use Rattle.lines.specs.Cells.{Along, Small, Stepped, Timely, moment_of, la
 use points::{Point, edge_of};
 
 // How far along the line: halves / (2 * parts) of the way.
-#[derive(Drop)]
+#[derive(Clone, Copy)]
 pub struct Moment {
     pub halves: u64,
     pub parts: u64,

@@ -1,3 +1,5 @@
+#![tactic(auto)]
+
 // 'big-endian': the numbers that a file's bytes write, and numbers laid over an output.
 ghost use Rattle.std.specs.Prelude.{◌≡◌, ◌+◌, ◌^◌, ◌≤◌, ◌<◌, length, drop};
 ghost use Rattle.paper.specs.Numbers.{num, bytes};

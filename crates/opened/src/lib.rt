@@ -1,3 +1,5 @@
+#![tactic(auto)]
+
 // Opened packed scenes: a scene's bytes beside the numbers of its header, for many questions. The structs hold a slice; the work is done by
 // functions over plain slices and numbers, and these are straight lines above them.
 ghost use Rattle.std.specs.Prelude.{◌≡◌, []};
@@ -19,12 +21,13 @@ pub fn open<'a>(file: &'a [u8]) -> Opening<'a>
 {
     let header = read_header(file);
     let bytes = part(file, header.number);
+    let starts = header.starts;
     Opening {
         number: header.number,
         scene: Opened {
             bytes,
             depth: header.depth,
-            starts: header.starts,
+            starts,
         },
     }
 }

@@ -1,3 +1,5 @@
+#![tactic(auto)]
+
 // A question on the bytes of a packed scene held beside the numbers of its header, over plain slices and numbers.
 ghost use Rattle.std.specs.Prelude.{◌≡◌, not, ◌∷◌};
 ghost use Rattle.paper.specs.Numbers.{same_list};
@@ -15,7 +17,7 @@ use paper::{Found, Refusal};
 use points::Point;
 
 // The numbers that bytes open to, side by side: all sixteen are compared at once.
-#[derive(Drop)]
+#[derive(Clone, Copy)]
 pub struct Numbers {
     pub depth: u32,
     pub starts: [u32; 15],

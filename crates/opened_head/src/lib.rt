@@ -1,3 +1,5 @@
+#![tactic(auto)]
+
 // Opening a packed file, over plain slices and numbers: its refusal, the numbers of its header, and the part of it that is held.
 ghost use Rattle.std.specs.Prelude.{◌≡◌};
 ghost use Rattle.paper.specs.Order.{first_number};
@@ -9,7 +11,7 @@ use limits::{PACKED_HEAD, PACKED_VERSION};
 use packed_lists::{head_bad, starts};
 
 // What an opening reads: the refusal's number or 0, the depth, and where each list starts; zeros where it is refused.
-#[derive(Drop)]
+#[derive(Clone, Copy)]
 pub struct Header {
     pub number: u32,
     pub depth: u32,

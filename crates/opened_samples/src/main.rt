@@ -1,3 +1,5 @@
+#![tactic(auto)]
+
 // Samples of opened scenes: a line for each question on a scene opened for it, with the refusal's number (0 where accepted),
 // 1 for solid or 0 for empty, the records read, and the height of the emptiness.
 ghost use Rattle.std.specs.Prelude.{◌<◌};

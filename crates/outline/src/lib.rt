@@ -1,3 +1,5 @@
+#![tactic(auto)]
+
 // Document 01, 'The outline file': the records by position, and the refusals of a file by itself. The readers
 // of a record and of its children call each other: height and children left fall.
 ghost use Rattle.std.specs.Prelude.{◌≡◌, not, ◌-◌, ◌≤◌};
@@ -12,7 +14,7 @@ use limits::{CHILDREN, LEAF_BYTES, LEAF_HEIGHT, OUTLINE_HEAD, OUTLINE_VERSION};
 use numbers::be64;
 
 // What reading a record answers: it breaks the rules, or the position after it.
-#[derive(Drop)]
+#[derive(Clone, Copy)]
 pub enum Reading {
     Broken,
     EndsAt(usize),

@@ -1,3 +1,5 @@
+#![tactic(auto)]
+
 // How long a cell's record in an outline is, up to a limit. Each record counts at least a byte, and none is entered where the
 // limit is passed: so no more are read than the limit has bytes, and one, however long the file is that shared cells stand for.
 ghost use Rattle.std.specs.Prelude.{◌≡◌, ◌^◌, ◌<◌};

@@ -1,3 +1,5 @@
+#![tactic(auto)]
+
 // A scene written as an outline: measured first, up to the output's length, then written.
 ghost use Rattle.std.specs.Prelude.{◌≡◌, [], ◌∷◌, ◌+◌, ◌^◌, ◌≤◌, ◌<◌, min, length};
 ghost use Rattle.paper.specs.Outline.{longest};

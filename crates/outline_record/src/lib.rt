@@ -1,3 +1,5 @@
+#![tactic(auto)]
+
 // A cell's record written into an outline: a leaf's eight bytes, or a mask byte and the children's records. The cell is seen
 // under a mirror: a child's number is mirrored by the mirror in force, and its tag joins that mirror.
 ghost use Rattle.std.specs.Prelude.{◌≡◌, ◌+◌, ◌≤◌, ◌<◌, length};

@@ -1,3 +1,5 @@
+#![tactic(auto)]
+
 // A file's parts written over an output, each behind the other: pointers, records, lists, sizes.
 ghost use Rattle.std.specs.Prelude.{◌≡◌, map, ℕ, suc, ◌+◌, ◌≤◌, ◌<◌, T, length, get_or};
 ghost use Rattle.paper.specs.Numbers.{flatten};

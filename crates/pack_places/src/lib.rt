@@ -1,3 +1,5 @@
+#![tactic(auto)]
+
 // Where each record lies in its list: half-words from the list's start, or the leaf's number. From the leaves up, so
 // that a record's size is known from the places of the records that it points to.
 ghost use Rattle.std.specs.Prelude.{◌≡◌, ℕ, ◌+◌, ◌≤◌, ◌<◌, T, get_or};

@@ -1,3 +1,5 @@
+#![tactic(auto)]
+
 // Packed voxel: a question on the bytes of a packed file, with its whole outcome as `paper` defines it.
 ghost use Rattle.std.specs.Prelude.{◌≡◌, false, []};
 ghost use Rattle.paper.specs.Packed.{file_walk};

@@ -1,3 +1,5 @@
+#![tactic(auto)]
+
 // The lists of a packed file, by the sizes in its header: whether they add up, where each list starts and ends, and what a place counts.
 ghost use Rattle.std.specs.Prelude.{◌≡◌, false, not, ◌+◌, ◌≤◌, ◌<◌, length, replicate};
 ghost use Rattle.paper.specs.Store.{heights};

@@ -1,3 +1,5 @@
+#![tactic(auto)]
+
 // One record of a packed file, read by its header: whether it keeps the rules, its width, its pointers and where they lead; and one leaf.
 ghost use Rattle.std.specs.Prelude.{◌≡◌, not, ◌+◌, ◌*◌, ◌%◌, ◌^◌, ◌≤◌, ◌<◌, T, length, drop, get_or};
 ghost use Rattle.paper.specs.Numbers.{num};
@@ -15,7 +17,7 @@ const LOW_BITS: u32 = 0x5555;
 const LONGEST: usize = 34;
 
 // A child's pointer: its code (0 none, 1 of 2 bytes, 2 of 4), its mirror, and the child's place.
-#[derive(Drop)]
+#[derive(Clone, Copy)]
 pub struct Pointer {
     pub code: u32,
     pub tag: u32,
@@ -23,14 +25,14 @@ pub struct Pointer {
 }
 
 // Where a pointer's bytes begin in its list, and its code.
-#[derive(Drop)]
+#[derive(Clone, Copy)]
 struct PointerBytes {
     from: usize,
     code: u32,
 }
 
 // What a pointer leads to: nothing; a place that calls for the other width; with this tag, this place one list down.
-#[derive(Drop)]
+#[derive(Clone, Copy)]
 pub enum Taken {
     None,
     Wrong,

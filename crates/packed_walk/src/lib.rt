@@ -1,3 +1,5 @@
+#![tactic(auto)]
+
 // The walk of a packed voxel question, list by list from the top record, counting the records read.
 ghost use Rattle.std.specs.Prelude.{◌≡◌, ◌%◌, ◌<◌, length};
 ghost use Rattle.std.specs.Int.Bits.{bit_xor};
@@ -11,7 +13,7 @@ use packed_records::{Taken, child, leaf, record_bad};
 use points::{Point, child_number};
 
 // How a walk ends.
-#[derive(Drop)]
+#[derive(Clone, Copy)]
 pub enum Ended {
     // What was entered or taken is broken.
     Broken,

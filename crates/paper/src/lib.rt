@@ -1,3 +1,5 @@
+#![tactic(auto)]
+
 // The documents' public types: what the calls take and answer. Their reading as this paper's number and values is
 // specs/Answers.antt; the calls themselves are those of the crate `rooms`.
 
@@ -5,7 +7,7 @@ ghost use Rattle.std.specs.Prelude.{◌≡◌, get_or};
 ghost use Rattle.paper.specs.Answers.{number_of, started, added, seen, occupied, counted, kept, written, checked, found, chosen, sighted, searched};
 
 // The refusals of document 01's table, in its order, 1 to 13; then those that document 02 adds.
-#[derive(Drop)]
+#[derive(Clone, Copy)]
 pub enum Refusal {
     BadSize,
     DamagedStore,
@@ -50,7 +52,7 @@ impl Refusal {
 }
 
 // New store.
-#[derive(Drop)]
+#[derive(Clone, Copy)]
 pub enum Started {
     Ready,
     Refused(Refusal),
@@ -69,7 +71,7 @@ impl Started {
 }
 
 // Add: the scene's number.
-#[derive(Drop)]
+#[derive(Clone, Copy)]
 pub enum Added {
     Scene(u32),
     Refused(Refusal),
@@ -98,7 +100,7 @@ impl Added {
 }
 
 // Voxel: an empty one with the height of its emptiness: of the child that isn't there, 0 in a leaf.
-#[derive(Drop)]
+#[derive(Clone, Copy)]
 pub enum Seen {
     Solid,
     Empty(u32),
@@ -141,7 +143,7 @@ impl Seen {
 }
 
 // Sight line: clear, or the first voxel that blocks it.
-#[derive(Drop)]
+#[derive(Clone, Copy)]
 pub enum Sighted {
     Clear,
     Blocked(u32, u32, u32),
@@ -204,7 +206,7 @@ impl Sighted {
 }
 
 // Cell.
-#[derive(Drop)]
+#[derive(Clone, Copy)]
 pub enum Occupied {
     NonEmpty,
     Empty,
@@ -236,7 +238,7 @@ impl Occupied {
 }
 
 // Box: the solid voxels in it, up to 2^48.
-#[derive(Drop)]
+#[derive(Clone, Copy)]
 pub enum Counted {
     Solid(u64),
     Refused(Refusal),
@@ -265,14 +267,14 @@ impl Counted {
 }
 
 // What a walk over a box finds: so many solid voxels, or damage.
-#[derive(Drop)]
+#[derive(Clone, Copy)]
 pub enum Tally {
     Solid(u64),
     Damaged,
 }
 
 // What a search through a box finds: a solid voxel in the last of so many cells entered, none in so many, or damage.
-#[derive(Drop)]
+#[derive(Clone, Copy)]
 pub enum Search {
     Met(u64),
     Passed(u64),
@@ -280,7 +282,7 @@ pub enum Search {
 }
 
 // Anything in the way: whether a box holds a solid voxel, with the cells entered.
-#[derive(Drop)]
+#[derive(Clone, Copy)]
 pub enum Searched {
     Solid(u64),
     Empty(u64),
@@ -323,7 +325,7 @@ impl Searched {
 }
 
 // Kept: the cells kept at a height.
-#[derive(Drop)]
+#[derive(Clone, Copy)]
 pub enum Kept {
     Cells(u32),
     Refused(Refusal),
@@ -352,7 +354,7 @@ impl Kept {
 }
 
 // Outline out and pack: the length written.
-#[derive(Drop)]
+#[derive(Clone, Copy)]
 pub enum Written {
     Length(u32),
     Refused(Refusal),
@@ -381,7 +383,7 @@ impl Written {
 }
 
 // Packed check: the depth.
-#[derive(Drop)]
+#[derive(Clone, Copy)]
 pub enum Checked {
     Depth(u32),
     Refused(Refusal),
@@ -411,7 +413,7 @@ impl Checked {
 
 // Packed voxel, and a question on an opened scene: with the number of records read and, of an empty one, the height of its
 // emptiness: of the child that isn't there, 0 in a leaf.
-#[derive(Drop)]
+#[derive(Clone, Copy)]
 pub enum Found {
     Solid(u32),
     Empty(u32, u32),
@@ -465,14 +467,14 @@ impl Found {
 }
 
 // A distance with the factor that goes with it.
-#[derive(Drop)]
+#[derive(Clone, Copy)]
 pub struct DistanceFactor {
     pub distance: f64,
     pub factor: f64,
 }
 
 // What is wished for, in one of three ways.
-#[derive(Drop)]
+#[derive(Clone, Copy)]
 pub enum Wish {
     EveryVoxel,
     WidestEdge(f64),
@@ -480,7 +482,7 @@ pub enum Wish {
 }
 
 // Detail: the height at which to draw.
-#[derive(Drop)]
+#[derive(Clone, Copy)]
 pub enum Chosen {
     Height(u32),
     Refused(Refusal),
@@ -510,7 +512,7 @@ impl Chosen {
 
 // A packed scene opened for many questions: the file itself, its depth, and where its lists begin. starts[k] is the
 // position in the bytes at which the list of height k + 2 begins, 0 above the depth.
-#[derive(Drop)]
+#[derive(Clone, Copy)]
 pub struct Opened<'a> {
     pub bytes: &'a [u8],
     pub depth: u32,
@@ -518,7 +520,7 @@ pub struct Opened<'a> {
 }
 
 // Opening: the refusal's number, 0 where it is accepted, beside the scene. (An enum can't hold a reference.)
-#[derive(Drop)]
+#[derive(Clone, Copy)]
 pub struct Opening<'a> {
     pub number: u32,
     pub scene: Opened<'a>,

@@ -1,3 +1,5 @@
+#![tactic(auto)]
+
 // Points by their coordinates, as questions on a store and on a packed file ask of them: whether a depth is one, whether a point lies outside,
 // which child of a cell holds it, and whether it is solid in a leaf.
 ghost use Rattle.std.specs.Prelude.{◌≡◌, not, ◌^◌, ◌≤◌, ◌<◌, eqb};
@@ -10,7 +12,7 @@ ghost use Rattle.points.specs.Seeing.{child_no_at, seen_at};
 use limits::{DEEPEST, LEAF_HEIGHT, LEAST_DEPTH};
 
 // A number for each axis: a voxel, a corner of a box, or steps along a line.
-#[derive(Drop)]
+#[derive(Clone, Copy)]
 pub struct Point {
     pub x: u32,
     pub y: u32,

@@ -1,3 +1,5 @@
+#![tactic(auto)]
+
 // The check of untrusted packed bytes: refusals 11, 3, 4 and 5, then all rules, by places and symmetries, in a scratch of as many bytes as the file. Phase 1,
 // in the crate `proper_lists`, goes from the leaves up and leaves in the scratch, at the first byte of each record, its mark; phase 2, in the crate
 // `proper_popular`, counts there the pointers that name it. The headset check comes after: depth, and long pointers, which the crate `proper_long` finds.

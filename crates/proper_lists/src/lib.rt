@@ -1,3 +1,5 @@
+#![tactic(auto)]
+
 // Phase 1 of a check: the lists of a file tested from the leaves up, each marked once it is found good.
 ghost use Rattle.std.specs.Prelude.{◌≡◌, false, cond, not, suc, ◌≤◌, ◌<◌, length, drop, replicate};
 ghost use Rattle.paper.specs.Numbers.{all_in, all_below};

@@ -1,3 +1,5 @@
+#![tactic(auto)]
+
 // Whether a pointer of a packed file is long, of 4 bytes: the codes of every record above the leaves, list by list, in a file that keeps its rules. No scratch.
 ghost use Rattle.std.specs.Prelude.{◌≡◌, not, ◌<◌, T};
 ghost use Rattle.paper.specs.Numbers.{all_in, all_below};

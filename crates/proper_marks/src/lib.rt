@@ -1,3 +1,5 @@
+#![tactic(auto)]
+
 // What the parts of a check have in common: the places of a list one after the other, and marks. A list's share is the part of the check's scratch that
 // lies there as the list does in the file; a record's mark is its symmetry, at the record's first byte in that share, and 0 stands where no record starts.
 ghost use Rattle.std.specs.Prelude.{◌≡◌, not, ◌≤◌, ◌<◌, T, length, replicate};

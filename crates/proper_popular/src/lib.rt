@@ -1,3 +1,5 @@
+#![tactic(auto)]
+
 // Popularity: how many pointers one height up name each record. They are counted in a scratch as long as the file, in the four bytes
 // that lie there as the record's first four do in the file, and the counters are tested along each list. The lists are whole and every
 // pointer names the start of a record.

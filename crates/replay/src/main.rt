@@ -1,3 +1,5 @@
+#![tactic(auto)]
+
 // Plays the script on standard input: see `script`.
 fn main() {
     script::run(0);

@@ -1,48 +1,52 @@
+#![tactic(auto)]
+
 // Plays the scripts of its data, each from the start: see `script`.
 
+use std::fs;
+use std::rt::Files;
+
 // Plays the script in a file.
-fn play(name: &[u8]) {
-    let fd = os::open_read(name);
-    if fd < 0 {
-        io::write_all(1, b"no script\n");
-        return;
+fn play<R: Files + AllocGlobal>(rt: &R, name: &str) {
+    match fs::read(rt, name) {
+        Ok(script) => script::start(&script),
+        Err(_) => {
+            io::write_all(1, b"no script\n");
+        }
     }
-    script::run(fd);
-    libc::close(fd);
 }
 
 // Every script, one after the other.
-fn main() {
-    play(b"samples.script");
-    play(b"orders.script");
-    play(b"store.script");
-    play(b"capacity.script");
-    play(b"outlines.script");
-    play(b"damage.script");
-    play(b"handmade.script");
-    play(b"noise.script");
-    play(b"pack.script");
-    play(b"packed.script");
-    play(b"check.script");
-    play(b"opened.script");
-    play(b"detail.script");
-    play(b"deep.script");
-    play(b"wide.script");
-    play(b"long.script");
-    play(b"stop.script");
-    play(b"emptiness.script");
-    play(b"sight.script");
-    play(b"counts.script");
-    play(b"any.script");
-    play(b"chains.script");
-    play(b"pointers.script");
-    play(b"headset.script");
-    play(b"questions.script");
-    play(b"adding.script");
-    play(b"packing.script");
-    play(b"far.script");
-    play(b"opening.script");
-    play(b"changes.script");
-    play(b"rules.script");
-    play(b"edges.script");
+fn main(rt: HostRuntime) {
+    play(&rt, "samples.script");
+    play(&rt, "orders.script");
+    play(&rt, "store.script");
+    play(&rt, "capacity.script");
+    play(&rt, "outlines.script");
+    play(&rt, "damage.script");
+    play(&rt, "handmade.script");
+    play(&rt, "noise.script");
+    play(&rt, "pack.script");
+    play(&rt, "packed.script");
+    play(&rt, "check.script");
+    play(&rt, "opened.script");
+    play(&rt, "detail.script");
+    play(&rt, "deep.script");
+    play(&rt, "wide.script");
+    play(&rt, "long.script");
+    play(&rt, "stop.script");
+    play(&rt, "emptiness.script");
+    play(&rt, "sight.script");
+    play(&rt, "counts.script");
+    play(&rt, "any.script");
+    play(&rt, "chains.script");
+    play(&rt, "pointers.script");
+    play(&rt, "headset.script");
+    play(&rt, "questions.script");
+    play(&rt, "adding.script");
+    play(&rt, "packing.script");
+    play(&rt, "far.script");
+    play(&rt, "opening.script");
+    play(&rt, "changes.script");
+    play(&rt, "rules.script");
+    play(&rt, "edges.script");
 }

@@ -1,3 +1,5 @@
+#![tactic(auto)]
+
 // Scripts that end in `stop`, each played from the start: see `script`.
 ghost use Rattle.std.specs.Prelude.{◌≤◌};
 

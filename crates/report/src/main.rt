@@ -1,3 +1,5 @@
+#![tactic(auto)]
+
 // Document 01's program, on an outline from standard input.
 fn main() {
     let mut input = [0u8; 8193];

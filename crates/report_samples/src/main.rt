@@ -1,3 +1,5 @@
+#![tactic(auto)]
+
 // Document 01's program on many inputs: each stands on standard input behind its length, two bytes, high first.
 use numbers::wide;
 

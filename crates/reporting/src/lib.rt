@@ -1,3 +1,5 @@
+#![tactic(auto)]
+
 // Document 01's program: an outline is added to a store of capacity 32, and its answer, the cells kept at each height, the solid
 // voxels of the whole room and the packed length are printed.
 ghost use Rattle.std.specs.Prelude.{◌≤◌};

@@ -1,3 +1,5 @@
+#![tactic(auto)]
+
 // The public calls of the room store. Each promise stands in `paper`, by name, as one equation: the outcome read from the answer
 // is the documents'. No call asks anything of its caller.
 ghost use Rattle.points.specs.Points.{at};

@@ -1,3 +1,5 @@
+#![tactic(auto)]
+
 // The public calls for C. A slice is a pointer and a length, the answer is document 01's number, 0 where the call is accepted, and the
 // values are written through the last parameters, zeros on a refusal. Each promise stands in specs/Exports.antt, by name, as one equation,
 // on the same outcome as the call of `rooms`; where C passes numbers in the place of a struct or of a wish, that file says which. No

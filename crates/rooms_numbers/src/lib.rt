@@ -1,3 +1,5 @@
+#![tactic(auto)]
+
 // The calls that C makes with numbers in the place of a struct or of a wish: an opened scene by sixteen numbers, a wish by its kind and two numbers.
 ghost use Rattle.std.specs.Prelude.{◌≡◌, [], ◌∷◌, ◌≤◌, length};
 ghost use Rattle.paper.specs.Answers.{told, outcome, found, chosen};

@@ -1,3 +1,5 @@
+#![tactic(auto)]
+
 // A script of calls, played: each command makes one public call of `rooms` and says its answer in a line of text. All of it
 // works on lent slices; `run` alone has the memory, and reads it in.
 mod asks; // what a command asks for

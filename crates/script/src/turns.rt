@@ -10,7 +10,7 @@ use crate::text::{put, say};
 
 // How far a script is played: the place of the next command, the words of the store, the bytes of the current packed file,
 // and the bytes of text not written yet.
-#[derive(Drop)]
+#[derive(Clone, Copy)]
 pub struct Played {
     pub at: usize,
     pub words: usize,

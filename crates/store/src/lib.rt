@@ -1,3 +1,5 @@
+#![tactic(auto)]
+
 // The lent words of a store, by named places: only this crate, `add_keep`, which writes them, and new store, which sets word 0, know a
 // word's position. Heights are counted from 2, as in `paper`: list k has the cells of height k + 2, so list 0 has the leaves.
 mod cells; // one kept cell, read

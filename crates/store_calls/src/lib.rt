@@ -1,3 +1,5 @@
+#![tactic(auto)]
+
 // New store and kept, each with its whole outcome as `paper` defines it.
 ghost use Rattle.std.specs.Prelude.{◌≡◌, [], ◌∷◌};
 ghost use Rattle.paper.specs.Answers.{outcome, started, kept as kept-told};

@@ -1,3 +1,5 @@
+#![tactic(auto)]
+
 // What every question on a scene tests first: the header (2), the scene's number (9), the scene's two words (2).
 ghost use Rattle.std.specs.Prelude.{◌≡◌};
 ghost use Rattle.store_entry.specs.Entry.{entry_of};
@@ -6,7 +8,7 @@ use paper::Refusal;
 use store::{header_bad, not_held, scene_bad, scene_depth, scene_root};
 
 // A scene that can be asked, by its depth and root pointer; or the refusal.
-#[derive(Drop)]
+#[derive(Clone, Copy)]
 pub enum Entry {
     Root(u32, u32),
     Refused(Refusal),

@@ -1,3 +1,5 @@
+#![tactic(auto)]
+
 // Pointers, and the eight of a cell, as values: nothing here reads a store's words.
 mod keys; // a cell's key, and its chain
 mod mirrors; // a pointer of a mirrored cell

@@ -1,3 +1,5 @@
+#![tactic(auto)]
+
 // The whole store's tests: every place of a scene, every cell kept, the unused words, every count, and every chain.
 ghost use Rattle.std.specs.Prelude.{◌≡◌, false, not, ◌≤◌, ◌<◌, T};
 ghost use Rattle.paper.specs.Numbers.{all_below};

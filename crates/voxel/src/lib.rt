@@ -1,3 +1,5 @@
+#![tactic(auto)]
+
 // Voxel, with its whole outcome as `paper` defines it: refused by 2 (header), 9, 2 (the scene's two words), 10, 2 (walk), in this order.
 ghost use Rattle.std.specs.Prelude.{◌≡◌, []};
 ghost use Rattle.paper.specs.Store.{kept_of};

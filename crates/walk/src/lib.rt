@@ -1,3 +1,5 @@
+#![tactic(auto)]
+
 // The walk on a store's words, list by list: from a cell down to a list, from a scene's root to a voxel, and the voxel at its end. A list is named by k:
 // that of height k + 2. Coordinates are never reduced; the number of a child is mirrored by the mirror in force, and its tag joins that mirror.
 ghost use Rattle.std.specs.Prelude.{◌≡◌, ◌-◌, ◌^◌, T};
@@ -15,14 +17,14 @@ use store::{cell_at, kept_count, leaf_at};
 use store_pointers::{any_bad, cell_number, tag};
 
 // A cell of a list, seen under a mirror.
-#[derive(Drop)]
+#[derive(Clone, Copy)]
 pub struct Image {
     pub number: u32,
     pub mirror: u32,
 }
 
 // How a walk from a cell down to a list ends.
-#[derive(Drop)]
+#[derive(Clone, Copy)]
 pub enum Ended {
     // The child of this height is absent.
     Absent(u32),
