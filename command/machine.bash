@@ -4,7 +4,7 @@
 # shellcheck shell=bash
 
 machine=$(uname -m)
-library=target/staticlib/librooms_c.a
+library=crates/rooms_c/out/librooms_c.a
 table=$PWD/command/main.c
 
 # By what C programs are compiled and run: `means` is native, cross or kit; `cc` the compiler, `runner` what stands in front of a program,
@@ -32,18 +32,18 @@ find_kit() {
     [ -d "$kit" ] || fail "the Rattle kit at $home has nothing for this machine, $machine"
 }
 
-# Proves and builds a file under target/ where it is missing or a source is newer.
-build() { # FILE MINUTES COMMAND..
-    local file=$1 minutes=$2
-    shift 2
-    if [ -e "$file" ] && { [ ! -d crates ] || [ -z "$(find crates crates.txt -newer "$file" -print -quit)" ]; }; then
+# Proves and builds a library or a program, crates/NAME/out/FILE, where it is missing or a source is newer.
+build() { # FILE MINUTES
+    local file=$1 minutes=$2 how=run
+    case $file in *.a) how=lib ;; esac
+    if [ -e "$file" ] && { [ ! -d crates ] || [ -z "$(find crates crates.txt -name out -prune -o -type f -newer "$file" -print -quit)" ]; }; then
         return
     fi
-    find_kit
+    command -v rt >/dev/null || fail "the Rattle kit is missing: no rt on the PATH"
     echo "rooms: proving and building $file; from nothing that takes about $minutes minutes on two processors" >&2
-    # what rt has proved it does not build again, so it must forget a program that is gone
-    [ -e "$file" ] || rm -f "target/stamp/${file##*/}"
-    "$@" >&2 || fail "$file was not built; rt says why above"
+    # rt builds a program to run it: here on nothing
+    (cd "${file%/out/*}" && rt "$how" </dev/null) >&2 || fail "$file was not built; rt says why above"
+    [ -e "$file" ] || fail "$file was not built; rt says why above"
     touch "$file"
 }
 
@@ -52,7 +52,7 @@ compile() { # PROGRAM FILE..
     local program=$1 word
     shift
     command -v "${cc[0]}" >/dev/null || fail "a C compiler and the headers of a C library are missing: no ${cc[0]} on the PATH"
-    build "$library" 4 rt staticlib rooms_c
+    build "$library" 4
     if [ $means = kit ]; then
         compile_by_kit "$program" "$@"
         return

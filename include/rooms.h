@@ -1,5 +1,5 @@
 /*
- * rooms.h: the room store, for C. Link target/staticlib/librooms_c.a: x86-64 Linux, and no other machine. Of the C library it
+ * rooms.h: the room store, for C. Link crates/rooms_c/out/librooms_c.a: x86-64 Linux, and no other machine. Of the C library it
  * needs memset alone.
  *
  * A room is a cube of voxels; its depth D, from 2 to 16, gives its edge, 2^D voxels. A store keeps up to 64 scenes and each

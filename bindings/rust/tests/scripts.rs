@@ -46,5 +46,5 @@ fn compare(printed: &str) {
 /// The scripts in the order in which the proved program plays them.
 fn names(folder: &Path) -> Vec<String> {
     let main = fs::read_to_string(folder.join("src/main.rt")).unwrap();
-    main.lines().filter_map(|line| Some(line.trim().strip_prefix("play(b\"")?.strip_suffix("\");")?.to_string())).collect()
+    main.lines().filter_map(|line| Some(line.trim().strip_prefix("play(&rt, \"")?.strip_suffix("\");")?.to_string())).collect()
 }

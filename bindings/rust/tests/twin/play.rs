@@ -6,7 +6,7 @@
 //!
 //! What crates/replay_scripts must print:
 //!
-//!     sed -n 's|.*play(b"\(.*\)");|crates/replay_scripts/data/\1|p' crates/replay_scripts/src/main.rt | xargs target/twin
+//!     sed -n 's|.*play(&rt, "\(.*\)");|crates/replay_scripts/data/\1|p' crates/replay_scripts/src/main.rt | xargs target/twin
 
 #[path = "../calls/mod.rs"]
 mod calls;
