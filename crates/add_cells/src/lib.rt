@@ -2,7 +2,7 @@
 
 // A cell is sought among those kept at its height, and kept if it is nowhere and there is room.
 ghost use Rattle.std.specs.Prelude.{◌≡◌, not, ◌++◌, ◌≤◌, ◌<◌, T, ltb};
-ghost use Rattle.paper.specs.Store.{heights, chains, capacity_of, kept_count, kept_of, two_words, header_ok, pointer as paperPointer};
+ghost use Rattle.paper.specs.Store.{heights, chains, capacity_of, kept_count, kept_of, two_words, header_ok, pointer as paper_pointer};
 ghost use Rattle.laws.specs.Chains.{last_of, NamesCells};
 ghost use Rattle.laws.specs.InOrder.{InOrder};
 ghost use Rattle.add_cells.specs.CellAdding.{cell_adding, kept_with, add_leaf_in, add_cell_in};
@@ -33,7 +33,7 @@ fn no_room(store: &[u32], k: u32) -> bool
 fn next_pointer(store: &[u32], k: u32) -> u32
     requires t { T (header_ok store.now) }
     requires k_lt_heights { k < heights }
-    ensures { result ≡ paperPointer 0 (kept_count store.now k) }
+    ensures { result ≡ paper_pointer 0 (kept_count store.now k) }
 {
     pointer(0, kept_count(store, k))
 }

@@ -2,8 +2,7 @@
 -- answered names a cell or is none. By what taking a record comes to on the words of lists. Assumes nothing.
 use mathlib.Core.Path.{◌≡◌, sym, subst}
 use mathlib.Core.List.{List}
-use mathlib.Core.Logic.{inl, inr}
-use Prim.Native.Nat.{ℕ, suc, ◌+◌, ◌-◌, ◌<◌, ◌≤◌}
+use Prim.Native.Nat.{ℕ, ◌-◌, ◌<◌, ◌≤◌}
 use native.Mathlib.Decide.{ℕ_discrete}
 use native.Mathlib.Omega.{arith}
 use lib.ListN.{length, drop, get_or, set}
@@ -20,7 +19,7 @@ use Rattle.outline.specs.Positions.{record_at, Agrees}
 use Rattle.outline.specs.declared.Reading.{Reading}
 use Rattle.outline.specs.declared.Reading.TheVariants.{Broken, EndsAt}
 use Rattle.outline.proofs.Agreeing.{record-agrees}
-use Rattle.add_records.specs.declared.RecordAdded.TheVariants.{At, Full}
+use Rattle.add_records.specs.declared.RecordAdded.TheVariants.{At}
 use Rattle.add_records.specs.RecordAdding.{RecordAdding, record_adding, add_record, Whole}
 use Rattle.add_records.proofs.Settings.{Setting, words_with, Good}
 use Rattle.add_records.proofs.Standing.{Stands, After}

@@ -1,15 +1,13 @@
 -- A box question past the scene's tests, and the whole outcome of a scene that can be asked.
 -- By cases on the tests. Assumes nothing.
-use mathlib.Core.Path.{◌≡◌, refl, ap, ◌∙◌, subst}
-use mathlib.Core.Bool.{Bool, true, false, not, ◌||◌}
+use mathlib.Core.Path.{◌≡◌, refl, ap, ◌∙◌}
+use mathlib.Core.Bool.{true, false, not}
 use mathlib.Core.List.{List, [], ◌∷◌}
-use Prim.Native.Nat.{ℕ, ◌≤◌}
-use borrow.Author.Tests.{ltb-false}
-use lib.Dec.{T, ltb}
+use Prim.Native.Nat.{ℕ}
 use Rattle.paper.specs.Rooms.{Point}
 use Rattle.paper.specs.Answers.{told, outcome, number_of}
 use Rattle.paper.specs.Questions.{tally_damaged, tally_solid}
-use Rattle.paper.specs.Calls.{axis_outside, box_outside, scene_tally, box_damaged, box_outcome}
+use Rattle.paper.specs.Calls.{box_outside, scene_tally, box_damaged, box_outcome}
 use Rattle.paper.specs.declared.Refusal.{Refusal}
 use Rattle.paper.specs.declared.Tally.{Tally}
 use Rattle.paper.specs.declared.Tally.TheVariants.{Solid, Damaged}

@@ -1,19 +1,18 @@
 -- A scene's box is its root pointer's: from the box's first voxel to its last, which lie in the room and so are their own remainders by its edge. By the
 -- depth's range. Assumes nothing.
 use mathlib.Core.Path.{◌≡◌, refl, sym, ap₂, ◌∙◌, subst⁻¹}
-use mathlib.Core.Bool.{Bool, true, false, not, ◌&&◌}
+use mathlib.Core.Bool.{true, false, not}
 use mathlib.Core.List.{List}
-use Prim.Native.Nat.{ℕ, suc, ◌+◌, ◌-◌, ◌%◌, ◌^◌, ◌<◌, ◌≤◌}
-use native.Mathlib.Nat.{mod-eq_of_lt}
+use Prim.Native.Nat.{ℕ, suc, ◌-◌, ◌^◌, ◌≤◌}
 use native.Mathlib.Omega.{arith}
-use lib.Dec.{T, leb, ltb, leb→le, ltb→lt}
-use Rattle.paper.specs.Rooms.{Point, point, depth_ok, in_child, has_voxel}
+use lib.Dec.{T, leb, leb→le}
+use Rattle.paper.specs.Rooms.{Point, depth_ok, has_voxel}
 use Rattle.paper.specs.Outline.{edge}
 use Rattle.paper.specs.Store.{kept_count, bad_pointer, scene_depth, scene_root, scene_ok}
 use Rattle.paper.specs.Questions.{box_tally}
 use Rattle.paper.specs.Calls.{scene_tally}
 use Rattle.paper.specs.declared.Tally.TheVariants.{Solid}
-use Rattle.laws.proofs.Tests.{true-T, and_left, and_right}
+use Rattle.laws.proofs.Tests.{and_left, and_right}
 use Rattle.boxes_parts.specs.Parts.{InCell, last_of, Upto}
 use Rattle.boxes_parts.proofs.Corners.{first-stays, last-ends, box-spans}
 use Rattle.boxes.specs.Box.{pointer_in, pointer_part}

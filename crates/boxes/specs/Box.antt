@@ -3,7 +3,7 @@ use Rattle.std.specs.Prelude.{List, [], ◌∷◌, ℕ, suc, ◌<◌, ◌≤◌,
 use Rattle.std.specs.Int.Bits.{bit_xor}
 use Rattle.paper.specs.Rooms.{Point, in_child, clipped}
 use Rattle.paper.specs.Outline.{edge}
-use Rattle.paper.specs.Store.{Cell, cells_at, cell_at, heights, kept_count, kept_of, count_of}
+use Rattle.paper.specs.Store.{Cell, cells_at, cell_at, kept_count, kept_of, count_of}
 use Rattle.paper.specs.Questions.{pointer_tally, cell_tally, total, tally_solid}
 use Rattle.paper.specs.Calls.{box_outside, scene_tally, box_damaged}
 use Rattle.paper.specs.Answers.{Told, told}

@@ -1,7 +1,7 @@
 // How many solid voxels a box of a cell holds. The cell is seen under a mirror. The box is given by its first voxel and its last, whose coordinates
 // are never reduced: what lies in a cell of edge S is counted from their remainders by S.
 ghost use Rattle.std.specs.Prelude.{◌≡◌, suc, ◌^◌, ◌<◌, T};
-ghost use Rattle.paper.specs.Outline.{edge as Edge-of};
+ghost use Rattle.paper.specs.Outline.{edge as edge-of};
 ghost use Rattle.paper.specs.Rooms.{in_child};
 ghost use Rattle.paper.specs.Questions.{count_taken};
 ghost use Rattle.paper.specs.Calls.{scene_tally};
@@ -133,7 +133,7 @@ fn count_children(
 ) -> Tally
     requires t { T (header_ok store.now) }
     requires in_cell { InCell (suc k) mirror (at low) (at last) }
-    ensures { result ≡ children_in store.now k cell mirror 8 (in_child (Edge-of (suc k)) (at low)) (past_in (Edge-of (suc k)) (at last)) }
+    ensures { result ≡ children_in store.now k cell mirror 8 (in_child (edge-of (suc k)) (at low)) (past_in (edge-of (suc k)) (at last)) }
 {
     let first = child_number(k, low);
     let past = child_number(k, last);

@@ -5,11 +5,11 @@
 ghost use Rattle.std.specs.Prelude.{◌≡◌, cond, ◌||◌, ◌+◌, ◌%◌, ◌^◌, ◌<◌, ◌≤◌, eqb};
 ghost use Rattle.std.specs.Int.Bits.{bit_xor};
 ghost use Rattle.paper.specs.Calls.{axis_outside};
-ghost use Rattle.paper.specs.Outline.{edge as Edge-of};
+ghost use Rattle.paper.specs.Outline.{edge as edge-of};
 ghost use Rattle.paper.specs.Rooms.{deepest, in_child, has_voxel, is_whole, whole_side};
 ghost use Rattle.paper.specs.Store.{heights};
 ghost use Rattle.points.specs.Points.{at};
-ghost use Rattle.boxes_parts.specs.Parts.{Children, Positive, last_of, shares_in, spreads_over, chosen as Chosen-of, past_in};
+ghost use Rattle.boxes_parts.specs.Parts.{Children, Positive, last_of, shares_in, spreads_over, chosen as chosen-of, past_in};
 
 use limits::LEAF_HEIGHT;
 use points::{Point, child_number, edge_of};
@@ -62,7 +62,7 @@ fn whole_side(edge: u32, low: u32, last: u32) -> bool
 // Whether a box is all of its cell of list k.
 pub fn is_whole(k: u32, low: Point, last: Point) -> bool
     requires { k < heights }
-    ensures { result ≡ is_whole (Edge-of k) (in_child (Edge-of k) (at low)) (past_in (Edge-of k) (at last)) }
+    ensures { result ≡ is_whole (edge-of k) (in_child (edge-of k) (at low)) (past_in (edge-of k) (at last)) }
 {
     let side = edge_of(k + LEAF_HEIGHT);
     whole_side(side, low.x, last.x)
@@ -106,7 +106,7 @@ fn one_of(bit: u32, plain: u32, marked: u32) -> u32
 
 // A point of two others' coordinates: on the axes that the three bits of `marks` mark the second's, on the others the first's.
 pub fn chosen(marks: u32, plain: Point, marked: Point) -> Point
-    ensures { at result ≡ Chosen-of marks (at plain) (at marked) }
+    ensures { at result ≡ chosen-of marks (at plain) (at marked) }
 {
     let x = one_of(marks % 2, plain.x, marked.x);
     let y = one_of(marks / 2 % 2, plain.y, marked.y);

@@ -1,19 +1,19 @@
 -- The words of chains: how many they are, which stands where, and that they are right exactly where each head and each next word is what the cells determine.
 -- By the place of each word. Assumes nothing.
 use mathlib.Core.Path.{◌≡◌, refl, sym, ◌∙◌, ap, ap₂, subst}
-use mathlib.Core.Bool.{Bool, true, false, cond, false≢true}
-use mathlib.Core.List.{List, [], ◌∷◌, ◌++◌}
-use Prim.Native.Nat.{ℕ, zero, suc, ◌+◌, ◌-◌, ◌*◌, ◌/◌, ◌%◌, ◌<◌, ◌≤◌}
-use native.Mathlib.Nat.{zero-add, add-zero, mul_comm, mul-add-div, div-eq_of_lt, mod-eq_of_lt, mod-lt, div-add-mod, div-lt_iff_lt-mul, mul-add-mod_self_left, mul-le-mul_left}
+use mathlib.Core.Bool.{Bool, true, false, cond}
+use mathlib.Core.List.{List, [], ◌∷◌}
+use Prim.Native.Nat.{ℕ, suc, ◌+◌, ◌-◌, ◌*◌, ◌/◌, ◌%◌, ◌<◌, ◌≤◌}
+use native.Mathlib.Nat.{zero-add, add-zero, mul-add-div, div-eq_of_lt, mod-eq_of_lt, mod-lt, div-add-mod, div-lt_iff_lt-mul, mul-add-mod_self_left, mul-le-mul_left}
 use native.Mathlib.Omega.{arith}
 use borrow.Author.Tests.{eqb-true, eq-eqb}
 use lib.Dec.{T, eqb, ltb}
 use lib.ListN.{length, take, drop, get_or, length-append, length-drop, drop_of_length-le, get_or-append}
 use lib.Seq.{ext_get_or, get_or-take, get_or-drop, get_or-append-add, length-take-le}
 use borrow.Author.Tests.{ltb-true, ltb-false}
-use Rattle.paper.specs.Numbers.{tabulate, same_list}
-use Rattle.paper.specs.Store.{Cell, cells_at, cell_at, heights, chains, used, capacity_of, kept_count, first_head, head_position, first_next, next_position, kept_of, chain_of, first_in, head_of, next_of, head_words, next_words, chain_words, capacity_ok, header_ok, chains_ok}
-use Rattle.laws.specs.Chains.{head_word, next_word, ChainRight, ListRight}
+use Rattle.paper.specs.Numbers.{same_list}
+use Rattle.paper.specs.Store.{Cell, cells_at, cell_at, heights, chains, used, capacity_of, kept_count, first_head, head_position, next_position, kept_of, chain_of, first_in, head_of, next_of, head_words, next_words, chain_words, chains_ok}
+use Rattle.laws.specs.Chains.{head_word, next_word, ListRight}
 use Rattle.laws.proofs.Lists.{get_or-tabulate, length-tabulate}
 use Rattle.laws.proofs.Kept.{kept-length}
 use Rattle.laws.proofs.Chains.{chain-few}

@@ -1,15 +1,14 @@
 -- A store in order: one that passes the whole store's test is, and so are the words of lists whose cells are ok; its chains are right, its kept cells'
 -- pointers name cells, and the laws of adding hold of it. By what a store's words give back. Assumes nothing.
 use mathlib.Core.Path.{◌≡◌, sym, ◌∙◌, ap, ap₂, subst}
-use mathlib.Core.Bool.{Bool, true, false, not, ◌&&◌}
+use mathlib.Core.Bool.{Bool, false, not, ◌&&◌}
 use mathlib.Core.List.{List, ◌++◌}
 use Prim.Native.Nat.{ℕ, suc, ◌^◌, ◌<◌, ◌≤◌}
-use native.Mathlib.Omega.{arith}
 use borrow.Author.Tests.{ne_eqb, not-false}
 use lib.Dec.{T, eqb, leb, leb→le}
 use lib.ListN.{length, drop, get_or}
 use lib.Seq.{drop_at}
-use Rattle.paper.specs.Store.{Cell, Store, cells_at, cell_at, leaf_no, low_of, bad_pointer, any_bad, heights, used, capacity_of, scenes_held, kept_count, kept_of, store_of, words_of, capacity_ok, header_ok, chains_ok, store_ok}
+use Rattle.paper.specs.Store.{Cell, cells_at, cell_at, leaf_no, low_of, bad_pointer, any_bad, used, capacity_of, scenes_held, kept_of, store_of, words_of, capacity_ok, chains_ok, store_ok}
 use Rattle.laws.specs.Chains.{NamesCells}
 use Rattle.laws.specs.InOrder.{InOrder}
 use Rattle.laws.proofs.Tests.{true-T, and_left, none-at}

@@ -1,16 +1,15 @@
 -- Cells that match are in one chain: a cell and its image have one key, since the same cell numbers are added up in another order; a leaf and its image
 -- have as many voxels. A pointer with a tag and no number must be excluded. Assumes nothing.
-use mathlib.Core.Path.{◌≡◌, refl, sym, ◌∙◌, ap}
-use mathlib.Core.Bool.{Bool, true, false, cond}
+use mathlib.Core.Path.{◌≡◌, sym, ◌∙◌, ap}
+use mathlib.Core.Bool.{Bool, true, false}
 use mathlib.Core.List.{List, []}
 use mathlib.Core.Logic.{inl, inr}
 use Prim.Native.Nat.{ℕ, zero, suc, ◌*◌, ◌/◌, ◌%◌, ◌^◌, ◌<◌, ◌≤◌}
 use native.Mathlib.Omega.{arith}
-use borrow.Author.Tests.{eqb-true, eqb-false}
 use lib.Bits.{bit_xor}
-use lib.Dec.{T, eqb}
+use lib.Dec.{T}
 use lib.ListN.{length, get_or}
-use Rattle.paper.specs.Store.{Cell, cells_at, cell_at, tag_of, low_of, cell_no, pointer, bad_pointer, any_bad, solid_of, key_factor, key_of, chain_of, list_usable}
+use Rattle.paper.specs.Store.{Cell, cells_at, cell_at, low_of, cell_no, bad_pointer, any_bad, solid_of, key_factor, key_of, chain_of, list_usable}
 use Rattle.paper.specs.Match.{pointer_match, matches}
 use Rattle.laws.specs.Chains.{NamesCells}
 use Rattle.laws.specs.Symmetries.{marked, symmetry_match}

@@ -14,7 +14,7 @@ use Rattle.paper.specs.Store.{Cell, cells_at, cell_at, leaf_no, bad_pointer, any
 use Rattle.laws.proofs.Tests.{none-at}
 use Rattle.laws.proofs.Kept.{kept-length}
 use Rattle.laws.proofs.Kept.{kept-cell, kept-tall}
-use Rattle.laws.proofs.Invariant.{OkCell, OkCells, not-bad-ok}
+use Rattle.laws.proofs.Invariant.{OkCells, not-bad-ok}
 use Rattle.laws.proofs.Adding.{Sound}
 use Rattle.laws.proofs.TrueCounts.{usable-sound}
 use Rattle.laws.proofs.Undamaged.{Undamaged}

@@ -6,11 +6,11 @@ use mathlib.Core.List.{List, [], ◌∷◌}
 use mathlib.Core.Logic.{◌↔◌}
 use mathlib.Core.Option.{Option, some}
 use mathlib.Core.Option as O
-use Prim.Native.Nat.{ℕ, ◌-◌, ◌^◌}
+use Prim.Native.Nat.{ℕ, ◌^◌}
 use native.Mathlib.Nat.{suc-ne-zero}
 use lib.ListN.{get_or}
 use Rattle.paper.specs.Numbers.{bit_for}
-use Rattle.paper.specs.Rooms.{Point, point, Room, Inside, inside, empty_at}
+use Rattle.paper.specs.Rooms.{Point, point, Room, Inside, empty_at}
 use Rattle.paper.specs.Store.{scene_depth}
 use Rattle.paper.specs.Answers.{Outcome, told, outcome}
 use Rattle.paper.specs.Order.{first_number}

@@ -31,7 +31,7 @@ fn mask(cell: &[u32; 8], mirror: u32) -> u8
 // Writes the record of leaf n seen under a mirror; answers the position after it.
 fn write_leaf(store: &[u32], n: u32, mirror: u32, out: &mut [u8], at: usize) -> usize
     requires kept { Kept store.now 0 n }
-    requires mirror_in_bounds { at + length (record_at (kept_of store.now) 0 n mirror) ≤ length out.old }
+    requires out_in_bounds { at + length (record_at (kept_of store.now) 0 n mirror) ≤ length out.old }
     ensures { reached result out.new ≡ writing (record_at (kept_of store.now) 0 n mirror) at out.old }
 {
     write_number(out, at, LEAF_BYTES, mirror_leaf(leaf_at(store, n), mirror))
@@ -41,7 +41,7 @@ fn write_leaf(store: &[u32], n: u32, mirror: u32, out: &mut [u8], at: usize) -> 
 pub fn write_record(store: &[u32], k: u32, n: u32, mirror: u32, out: &mut [u8], at: usize) -> usize
     requires kept { Kept store.now k n }
     requires mirror_bound { mirror < 8 }
-    requires mirror_in_bounds { at + length (record_at (kept_of store.now) k n mirror) ≤ length out.old }
+    requires out_in_bounds { at + length (record_at (kept_of store.now) k n mirror) ≤ length out.old }
     ensures { reached result out.new ≡ writing (record_at (kept_of store.now) k n mirror) at out.old }
 {
     if k == 0 {

@@ -92,7 +92,7 @@ fn pack_root(
 ) -> Written
     requires t { T (store_ok store.now) }
     requires scene_root { SceneRoot store.now top root }
-    requires store_in_bounds { pack_scratch (capacity_of store.now) ≤ length scratch.old }
+    requires scratch_in_bounds { pack_scratch (capacity_of store.now) ≤ length scratch.old }
     requires scratch_value { take (pack_scratch (capacity_of store.now)) scratch.old ≡ replicate (pack_scratch (capacity_of store.now)) 0 }
     ensures out_after { outcome (written result) (out.new ∷ []) ≡ profiled headset (packed_file (kept_of store.now) (top + 2) root) out.old }
     ensures scratch_len_unchanged { (length scratch.new ≡ length scratch.old) × (drop (pack_scratch (capacity_of store.now)) scratch.new ≡ drop (pack_scratch (capacity_of store.now)) scratch.old) }

@@ -109,7 +109,7 @@ fn write_list(store: &[u32], k: u32, n: u32, scratch: &[u32], out: &mut [u8], at
     requires t { T (store_ok store.now) }
     requires room { Room (capacity_of store.now) k scratch.now }
     requires kept { Kept store.now k n scratch.now }
-    requires scratch_in_bounds { at + length (list_in (kept_of store.now) (capacity_of store.now) k n scratch.now) ≤ length out.old }
+    requires out_in_bounds { at + length (list_in (kept_of store.now) (capacity_of store.now) k n scratch.now) ≤ length out.old }
     ensures { reached result out.new ≡ writing (list_in (kept_of store.now) (capacity_of store.now) k n scratch.now) at out.old }
 {
     let c = capacity(store);
@@ -134,7 +134,7 @@ pub fn write_lists(
     requires t { T (store_ok store.now) }
     requires room { Room (capacity_of store.now) top scratch.now }
     requires by_index { (j : ℕ) → j ≤ top → Kept store.now j (get_or counts j 0) scratch.now }
-    requires scratch_in_bounds { at + length (body_in (kept_of store.now) (capacity_of store.now) counts (suc top) scratch.now) ≤ length out.old }
+    requires out_in_bounds { at + length (body_in (kept_of store.now) (capacity_of store.now) counts (suc top) scratch.now) ≤ length out.old }
     ensures { reached result out.new ≡ writing (body_in (kept_of store.now) (capacity_of store.now) counts (suc top) scratch.now) at out.old }
 {
     let mut k = top + 1;

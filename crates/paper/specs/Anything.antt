@@ -7,7 +7,7 @@ use Rattle.paper.specs.Numbers.{any_below, sum, bit_for}
 use Rattle.paper.specs.Rooms.{Point, Room, mirrored, cell_of, sum3, box_count, has_voxel, clipped, non_empty}
 use Rattle.paper.specs.Leaf.{leaf_voxel}
 use Rattle.paper.specs.Outline.{edge}
-use Rattle.paper.specs.Store.{Cell, kept_of, cells_at, cell_at, leaf_no, tag_of, cell_no, bad_pointer}
+use Rattle.paper.specs.Store.{Cell, cells_at, cell_at, leaf_no, tag_of, cell_no, bad_pointer}
 use Rattle.paper.specs.Answers.{Outcome}
 use Rattle.paper.specs.Order.{first_number, settled}
 use Rattle.paper.specs.Calls.{question_order, box_outside, of_scene}

@@ -1,7 +1,7 @@
 -- The calls of document 01, as document 02 changes them (detail is in Detail): for each its refusals in their order, and its whole outcome: number, values, and every slice lent for
 -- writing, to its last element, as the call leaves it. Definitions only. Slices lent for reading only never change.
 -- Words (ws, scratch of pack) and bytes (files, out, scratch of check) are lists of numbers.
-use Rattle.std.specs.Prelude.{Bool, true, false, cond, not, ◌&&◌, ◌||◌, List, [], ◌∷◌, ◌++◌, ℕ, suc, ◌+◌, ◌-◌, ◌*◌, ◌^◌, eqb, leb, ltb, length, drop, replicate, set}
+use Rattle.std.specs.Prelude.{Bool, true, false, cond, not, ◌&&◌, ◌||◌, List, [], ◌∷◌, ◌++◌, ℕ, suc, ◌-◌, ◌*◌, ◌^◌, eqb, leb, ltb, length, drop, replicate, set}
 use Rattle.paper.specs.Numbers.{bit_for, same_list}
 use Rattle.paper.specs.Rooms.{Point, depth_ok, inside}
 use Rattle.paper.specs.Outline.{outline_version, outline_head, longest, outline_of, version_ok, length_ok, file_depth, outline_rules, outline_tree}

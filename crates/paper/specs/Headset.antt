@@ -1,5 +1,5 @@
 -- Document 02, request 12, 'The headset profile': a check and a packing for readers of 16-bit pointers with room for depth 10. Definitions only.
-use Rattle.std.specs.Prelude.{Bool, cond, not, ◌&&◌, List, [], ◌∷◌, ℕ, leb, ltb, length}
+use Rattle.std.specs.Prelude.{Bool, cond, not, ◌&&◌, List, [], ◌∷◌, ℕ, ltb, length}
 use Rattle.paper.specs.Numbers.{is_in}
 use Rattle.paper.specs.Outline.{file_depth}
 use Rattle.paper.specs.Store.{scene_depth, store_ok}

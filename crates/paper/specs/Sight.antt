@@ -1,6 +1,6 @@
 -- Document 02, request 3 ('Sight lines'): the line from one voxel's centre to another's through a scene of a store: what blocks it, its refusals in
 -- their order, and its whole outcome. Definitions only. Which voxels are tested, in which order, is said by Lines.
-use Rattle.std.specs.Prelude.{Bool, true, false, ◌&&◌, ◌||◌, List, [], ◌∷◌, ℕ, eqb, get_or}
+use Rattle.std.specs.Prelude.{Bool, false, ◌&&◌, ◌||◌, List, [], ◌∷◌, ℕ, eqb, get_or}
 use Rattle.std.proofs.Math.Option.{Option, some}
 use Rattle.std.proofs.Math.Option as O
 use Rattle.paper.specs.Rooms.{Point}

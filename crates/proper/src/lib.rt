@@ -76,7 +76,7 @@ fn marked_broken(file: &[u8], scratch: &mut [u8], starts: [u32; 15], top: u32) -
 // Whether the file of a scene that is not empty breaks a rule past the sizes, 2 to 8. The scratch is left as the last test has it.
 fn records_broken(file: &[u8], scratch: &mut [u8]) -> bool
     requires opens { Opens file.now }
-    requires file_value { is_empty file.now ≡ false }
+    requires not_empty { is_empty file.now ≡ false }
     requires scratch_len { length scratch.old ≡ length file.now }
     ensures { result ≡ not (rules_by file.now) }
 {

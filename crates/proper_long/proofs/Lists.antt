@@ -8,9 +8,9 @@ use native.Mathlib.Omega.{arith}
 use lib.Dec.{T}
 use lib.ListN.{length, get_or, take, drop}
 use Rattle.paper.specs.Numbers.{all_in, all_below}
-use Rattle.paper.specs.Packed.{top_of, root_tag, is_empty, start_at, list_at, record_ok, places_at, whole_at, graph_of, graph_ok, sizes_ok, lists_ok, head_ok, packed_rules, short_at, short_list, all_short}
+use Rattle.paper.specs.Packed.{top_of, root_tag, is_empty, start_at, list_at, record_ok, whole_at, graph_of, graph_ok, lists_ok, head_ok, packed_rules, short_at, short_list, all_short}
 use Rattle.laws.proofs.Tests.{and_left, and_right}
-use Rattle.laws.proofs.PackedWalk.{SoundLists, lists_of}
+use Rattle.laws.proofs.PackedWalk.{lists_of}
 use Rattle.packed_lists.specs.Header.{Tested, Opens}
 use Rattle.packed_lists.specs.Ends.{Listed}
 use Rattle.proper_marks.specs.Places.{places_in, WholeList}

@@ -4,14 +4,14 @@ use mathlib.Core.Path.{◌≡◌, sym, ◌∙◌, ap}
 use mathlib.Core.Bool.{Bool, not}
 use mathlib.Core.List.{List, map}
 use mathlib.Core.Logic.{inl, inr}
-use Prim.Native.Nat.{ℕ, suc, ◌+◌, ◌<◌, ◌≤◌}
+use Prim.Native.Nat.{ℕ, suc, ◌<◌, ◌≤◌}
 use native.Mathlib.Omega.{arith}
 use borrow.Author.Tests.{eq-eqb, ne_eqb, lt-ltb}
 use lib.Bits.{bit_xor}
 use lib.Dec.{T}
 use lib.ListN.{length, get_or, get_or-map}
 use Rattle.paper.specs.Numbers.{all_below, all_in, is_in, index_in}
-use Rattle.paper.specs.Store.{Cell, pointer, cells_at, cell_at}
+use Rattle.paper.specs.Store.{Cell, cells_at, cell_at}
 use Rattle.paper.specs.Packed.{top_of, root_tag, list_at, PackedPointer, no_pointer, pointers_at, record_ok, code_for, places_at, by_number, graph_of, whole_at, tag_low, pointer_low, tags_ok}
 use Rattle.laws.proofs.Tests.{T_true, true-T, and_right, and_T, all-at, all-T, all_same}
 use Rattle.laws.proofs.Lists.{all_in-at, all_in-in, all_in-T, is_in-get_or, index-get_or}

@@ -2,7 +2,7 @@
 -- The promise is the one that the call's `ensures` cites. An answer can be read back from its number and values, so that equal outcomes come from
 -- equal answers; the theorems follow in the order of the calls. Assumes nothing.
 use mathlib.Core.Path.{◌≡◌, refl, sym, ap, ◌∙◌}
-use mathlib.Core.List.{List, [], ◌∷◌}
+use mathlib.Core.List.{List, []}
 use Prim.Native.Nat.{ℕ, zero, suc}
 use lib.ListN.{get_or}
 use Rattle.paper.specs.declared.Started.{Started}

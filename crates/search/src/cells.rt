@@ -1,7 +1,7 @@
 // Cells entered one after the other, until a leaf has a solid voxel in the box. A cell is seen under a mirror; the box is given by its first voxel and its last, whose
 // coordinates are never reduced.
 ghost use Rattle.std.specs.Prelude.{◌≡◌, false, suc, ◌<◌, T};
-ghost use Rattle.paper.specs.Outline.{edge as Edge-of};
+ghost use Rattle.paper.specs.Outline.{edge as edge-of};
 ghost use Rattle.paper.specs.Rooms.{in_child};
 ghost use Rattle.paper.specs.Store.{kept_count, header_ok};
 ghost use Rattle.points.specs.Points.{at};
@@ -33,7 +33,7 @@ fn leaf_search(solid: u64) -> Search
 // Whether a child of list k that shares a voxel with the box has a bad pointer, in a cell seen under a mirror.
 fn shared_bad(count: u32, k: u32, cell: [u32; 8], mirror: u32, low: Point, last: Point) -> bool
     requires { InCell (suc k) mirror (at low) (at last) }
-    ensures { result ≡ cell_bad count k cell mirror (in_child (Edge-of (suc k)) (at low)) (past_in (Edge-of (suc k)) (at last)) }
+    ensures { result ≡ cell_bad count k cell mirror (in_child (edge-of (suc k)) (at low)) (past_in (edge-of (suc k)) (at last)) }
 {
     let first = child_number(k, low);
     let past = child_number(k, last);
@@ -145,8 +145,8 @@ fn search_children(
 ) -> Search
     requires t { T (header_ok store.now) }
     requires in_cell { InCell (suc k) mirror (at low) (at last) }
-    requires last_value { cell_bad (kept_count store.now k) k cell mirror (in_child (Edge-of (suc k)) (at low)) (past_in (Edge-of (suc k)) (at last)) ≡ false }
-    ensures { result ≡ children_search store.now k cell mirror (in_child (Edge-of (suc k)) (at low)) (past_in (Edge-of (suc k)) (at last)) }
+    requires not_bad { cell_bad (kept_count store.now k) k cell mirror (in_child (edge-of (suc k)) (at low)) (past_in (edge-of (suc k)) (at last)) ≡ false }
+    ensures { result ≡ children_search store.now k cell mirror (in_child (edge-of (suc k)) (at low)) (past_in (edge-of (suc k)) (at last)) }
 {
     let first = child_number(k, low);
     let past = child_number(k, last);

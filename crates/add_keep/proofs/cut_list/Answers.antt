@@ -8,7 +8,7 @@ use Rattle.add_keep.proofs.Headers.{Unchanged, chains-unchanged, same_count, sam
 use Rattle.add_keep.proofs.Ways.{list-cut}
 use Rattle.add_keep.proofs.cut_list.Goals as goal
 
--- ---- the needs
+-- ---- the goals
 pub capacity-units-requires : goal.capacity-units-requires
 capacity-units-requires c =
     let words : List ℕ = c.cut_chains.new.store in

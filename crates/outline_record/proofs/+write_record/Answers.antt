@@ -25,7 +25,7 @@ bounds-out-at t c =
     let rest : ℕ → List ℕ = λ i. from part c.cell_at-cell.result c.args.mirror i in
     let both : whole c.args.k ≡ (c.mask.result ∷ []) ++ rest 0 = let a = c.args in
     record-cell (kept_of a.store.now) a.k a.n a.mirror c.mask.result c.cell_at-cell.result c.if-k-eq0.false c.cell_at-cell.ensures c.mask.ensures in
-    omega (arith, c.requires.mirror_in_bounds, ap length both)
+    omega (arith, c.requires.out_in_bounds, ap length both)
 
 pub loop-i-init : goal.loop-i-init
 loop-i-init t c =
@@ -34,9 +34,9 @@ loop-i-init t c =
     let whole : ℕ → List ℕ = λ k. record_at (kept_of c.args.store.now) k c.args.n c.args.mirror in
     let both : whole c.args.k ≡ (c.mask.result ∷ []) ++ rest 0 = let a = c.args in
     record-cell (kept_of a.store.now) a.k a.n a.mirror c.mask.result c.cell_at-cell.result c.if-k-eq0.false c.cell_at-cell.ensures c.mask.ensures in
-    let room : c.args.at < length c.args.out.now = omega (arith, c.requires.mirror_in_bounds, ap length both) in
+    let room : c.args.at < length c.args.out.now = omega (arith, c.requires.out_in_bounds, ap length both) in
     let masked : (let a = c.args in Going (rest 0) (a.at + 1) (set a.out.now a.at c.mask.result) (whole a.k) a.at a.out.now) = let a = c.args in
-    going_on (going-first (whole a.k) a.at a.out.now c.requires.mirror_in_bounds) (c.mask.result ∷ []) (rest 0) both
+    going_on (going-first (whole a.k) a.at a.out.now c.requires.out_in_bounds) (c.mask.result ∷ []) (rest 0) both
     (a.at + 1) (set a.out.now a.at c.mask.result) (writing-one c.mask.result a.at a.out.now room) in
     let a = c.args in (omega arith, going-first (rest 0) (a.at + 1) (set a.out.now a.at c.mask.result) masked.room)
 
@@ -87,8 +87,8 @@ returns t c =
     let whole : ℕ → List ℕ = λ k. record_at (kept_of c.args.store.now) k c.args.n c.args.mirror in
     let both : whole c.args.k ≡ (c.mask.result ∷ []) ++ rest 0 = let a = c.args in
     record-cell (kept_of a.store.now) a.k a.n a.mirror c.mask.result c.cell_at-cell.result c.if-k-eq0.false c.cell_at-cell.ensures c.mask.ensures in
-    let room : c.args.at < length c.args.out.now = omega (arith, c.requires.mirror_in_bounds, ap length both) in
+    let room : c.args.at < length c.args.out.now = omega (arith, c.requires.out_in_bounds, ap length both) in
     let masked : (let a = c.args in Going (rest 0) (a.at + 1) (set a.out.now a.at c.mask.result) (whole a.k) a.at a.out.now) = let a = c.args in
-    going_on (going-first (whole a.k) a.at a.out.now c.requires.mirror_in_bounds) (c.mask.result ∷ []) (rest 0) both
+    going_on (going-first (whole a.k) a.at a.out.now c.requires.out_in_bounds) (c.mask.result ∷ []) (rest 0) both
     (a.at + 1) (set a.out.now a.at c.mask.result) (writing-one c.mask.result a.at a.out.now room) in
     going-none c.loop-i.invariant.1 (from_last part c.cell_at-cell.result c.args.mirror c.loop-i.i (omega (arith, c.loop-i-test.false))) ∙ masked.same

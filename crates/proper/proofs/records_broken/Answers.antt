@@ -16,7 +16,7 @@ pub marked_broken-requires-clause-marked : goal.marked_broken-requires-clause-ma
 marked_broken-requires-clause-marked c =
     let file : List ℕ = c.args.file.now in
     let begins : List ℕ = c.starts-begins.result in
-    let listed : Listed file begins = record { opens = c.requires.opens; solid = c.requires.file_value; is = c.starts-begins.ensures } in
+    let listed : Listed file begins = record { opens = c.requires.opens; solid = c.requires.not_empty; is = c.starts-begins.ensures } in
     let top-is : c.wide-top.result - 2 ≡ top_of file = ap (λ (n : ℕ). n - 2) c.wide-top.ensures.0 in
     record { listed = listed; rules = tt; is = scratch-start file _ _ c.clear.ensures c.requires.scratch_len }
 
@@ -31,7 +31,7 @@ popular_lists_bad-requires-clause-uncounted c =
     let long : length c.marked_broken.new.scratch ≡ length file = let e : length c.marked_broken.new.scratch ≡ length c.clear.new.scratch = search rules in
     e ∙ ap length c.clear.ensures ∙ length-replicate (length c.args.scratch.now) 0 ∙ c.requires.scratch_len in
     let begins : List ℕ = c.starts-begins.result in
-    let listed : Listed file begins = record { opens = c.requires.opens; solid = c.requires.file_value; is = c.starts-begins.ensures } in
+    let listed : Listed file begins = record { opens = c.requires.opens; solid = c.requires.not_empty; is = c.starts-begins.ensures } in
     let good : marked_by file ≡ true = not-false (marked_by file) (sym c.marked_broken.ensures ∙ c.if-marked_broken.false) in
     let top-is : c.wide-top.result - 2 ≡ top_of file = ap (λ (n : ℕ). n - 2) c.wide-top.ensures.0 in
     let z : c.clear-2.new.scratch ≡ replicate (length file) 0 = zeros-to _ (length c.marked_broken.new.scratch) (length file) c.clear-2.ensures long in record {

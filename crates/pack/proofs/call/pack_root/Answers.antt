@@ -17,14 +17,14 @@ use Rattle.pack.proofs.call.pack_root.Goals as goal
 pub place_lists-sizes-requires-clause-room : goal.place_lists-sizes-requires-clause-room
 place_lists-sizes-requires-clause-room c =
     let by_order : List ℕ = c.order_lists-counts.new.scratch in
-    let lent : Lent (capacity_of c.args.store.now) by_order = record { most = capacity-most c.args.store.now c.requires.t c.args.top c.args.root c.requires.scene_root.listed c.requires.scene_root.some c.requires.scene_root.sound; long = omega (arith, c.order_lists-counts.ensures.1, c.requires.store_in_bounds) } in
+    let lent : Lent (capacity_of c.args.store.now) by_order = record { most = capacity-most c.args.store.now c.requires.t c.args.top c.args.root c.requires.scene_root.listed c.requires.scene_root.some c.requires.scene_root.sound; long = omega (arith, c.order_lists-counts.ensures.1, c.requires.scratch_in_bounds) } in
     let a = c.args in
     record { lent = lent; list = c.requires.scene_root.listed }
 
 pub place_lists-sizes-requires-clause-by_index : goal.place_lists-sizes-requires-clause-by_index
 place_lists-sizes-requires-clause-by_index c =
     let by_order : List ℕ = c.order_lists-counts.new.scratch in
-    let lent : Lent (capacity_of c.args.store.now) by_order = record { most = capacity-most c.args.store.now c.requires.t c.args.top c.args.root c.requires.scene_root.listed c.requires.scene_root.some c.requires.scene_root.sound; long = omega (arith, c.order_lists-counts.ensures.1, c.requires.store_in_bounds) } in
+    let lent : Lent (capacity_of c.args.store.now) by_order = record { most = capacity-most c.args.store.now c.requires.t c.args.top c.args.root c.requires.scene_root.listed c.requires.scene_root.some c.requires.scene_root.sound; long = omega (arith, c.order_lists-counts.ensures.1, c.requires.scratch_in_bounds) } in
     let a = c.args in
     all-kept a.store.now c.requires.t a.top a.root c.requires.scene_root.listed c.requires.scene_root.some c.requires.scene_root.sound c.order_lists-counts.result by_order c.order_lists-counts.ensures.0 lent
 
@@ -33,7 +33,7 @@ pub all_near-requires-clause-room : goal.all_near-requires-clause-room
 all_near-requires-clause-room c =
     let by_place : List ℕ = c.place_lists-sizes.new.scratch in
     let by_order : List ℕ = c.order_lists-counts.new.scratch in
-    let lent : Lent (capacity_of c.args.store.now) by_order = record { most = capacity-most c.args.store.now c.requires.t c.args.top c.args.root c.requires.scene_root.listed c.requires.scene_root.some c.requires.scene_root.sound; long = omega (arith, c.order_lists-counts.ensures.1, c.requires.store_in_bounds) } in
+    let lent : Lent (capacity_of c.args.store.now) by_order = record { most = capacity-most c.args.store.now c.requires.t c.args.top c.args.root c.requires.scene_root.listed c.requires.scene_root.some c.requires.scene_root.sound; long = omega (arith, c.order_lists-counts.ensures.1, c.requires.scratch_in_bounds) } in
     let prepared : (let a = c.args in
     Ready a.store.now a.top a.root c.order_lists-counts.result c.place_lists-sizes.result c.file_length-total.result by_place) = let a = c.args in
     ready a.store.now c.requires.t a.top a.root c.requires.scene_root.listed c.requires.scene_root.some c.requires.scene_root.sound c.order_lists-counts.result by_order c.order_lists-counts.ensures.0 lent
@@ -45,7 +45,7 @@ pub all_near-requires-clause-by_index : goal.all_near-requires-clause-by_index
 all_near-requires-clause-by_index c =
     let by_place : List ℕ = c.place_lists-sizes.new.scratch in
     let by_order : List ℕ = c.order_lists-counts.new.scratch in
-    let lent : Lent (capacity_of c.args.store.now) by_order = record { most = capacity-most c.args.store.now c.requires.t c.args.top c.args.root c.requires.scene_root.listed c.requires.scene_root.some c.requires.scene_root.sound; long = omega (arith, c.order_lists-counts.ensures.1, c.requires.store_in_bounds) } in
+    let lent : Lent (capacity_of c.args.store.now) by_order = record { most = capacity-most c.args.store.now c.requires.t c.args.top c.args.root c.requires.scene_root.listed c.requires.scene_root.some c.requires.scene_root.sound; long = omega (arith, c.order_lists-counts.ensures.1, c.requires.scratch_in_bounds) } in
     let prepared : (let a = c.args in
     Ready a.store.now a.top a.root c.order_lists-counts.result c.place_lists-sizes.result c.file_length-total.result by_place) = let a = c.args in
     ready a.store.now c.requires.t a.top a.root c.requires.scene_root.listed c.requires.scene_root.some c.requires.scene_root.sound c.order_lists-counts.result by_order c.order_lists-counts.ensures.0 lent
@@ -57,7 +57,7 @@ returns-then-out-total-clause-out_after c =
     let file : List ℕ = packed_file (kept_of c.args.store.now) (c.args.top + 2) c.args.root in
     let by_place : List ℕ = c.place_lists-sizes.new.scratch in
     let by_order : List ℕ = c.order_lists-counts.new.scratch in
-    let lent : Lent (capacity_of c.args.store.now) by_order = record { most = capacity-most c.args.store.now c.requires.t c.args.top c.args.root c.requires.scene_root.listed c.requires.scene_root.some c.requires.scene_root.sound; long = omega (arith, c.order_lists-counts.ensures.1, c.requires.store_in_bounds) } in
+    let lent : Lent (capacity_of c.args.store.now) by_order = record { most = capacity-most c.args.store.now c.requires.t c.args.top c.args.root c.requires.scene_root.listed c.requires.scene_root.some c.requires.scene_root.sound; long = omega (arith, c.order_lists-counts.ensures.1, c.requires.scratch_in_bounds) } in
     let prepared : (let a = c.args in
     Ready a.store.now a.top a.root c.order_lists-counts.result c.place_lists-sizes.result c.file_length-total.result by_place) = let a = c.args in
     ready a.store.now c.requires.t a.top a.root c.requires.scene_root.listed c.requires.scene_root.some c.requires.scene_root.sound c.order_lists-counts.result by_order c.order_lists-counts.ensures.0 lent
@@ -78,7 +78,7 @@ pub write_prepared-requires-clause-ready : goal.write_prepared-requires-clause-r
 write_prepared-requires-clause-ready c =
     let by_place : List ℕ = c.place_lists-sizes.new.scratch in
     let by_order : List ℕ = c.order_lists-counts.new.scratch in
-    let lent : Lent (capacity_of c.args.store.now) by_order = record { most = capacity-most c.args.store.now c.requires.t c.args.top c.args.root c.requires.scene_root.listed c.requires.scene_root.some c.requires.scene_root.sound; long = omega (arith, c.order_lists-counts.ensures.1, c.requires.store_in_bounds) } in
+    let lent : Lent (capacity_of c.args.store.now) by_order = record { most = capacity-most c.args.store.now c.requires.t c.args.top c.args.root c.requires.scene_root.listed c.requires.scene_root.some c.requires.scene_root.sound; long = omega (arith, c.order_lists-counts.ensures.1, c.requires.scratch_in_bounds) } in
     let prepared : (let a = c.args in
     Ready a.store.now a.top a.root c.order_lists-counts.result c.place_lists-sizes.result c.file_length-total.result by_place) = let a = c.args in
     ready a.store.now c.requires.t a.top a.root c.requires.scene_root.listed c.requires.scene_root.some c.requires.scene_root.sound c.order_lists-counts.result by_order c.order_lists-counts.ensures.0 lent
@@ -89,7 +89,7 @@ pub overflow_cast-result : goal.overflow_cast-result
 overflow_cast-result c =
     let by_place : List ℕ = c.place_lists-sizes.new.scratch in
     let by_order : List ℕ = c.order_lists-counts.new.scratch in
-    let lent : Lent (capacity_of c.args.store.now) by_order = record { most = capacity-most c.args.store.now c.requires.t c.args.top c.args.root c.requires.scene_root.listed c.requires.scene_root.some c.requires.scene_root.sound; long = omega (arith, c.order_lists-counts.ensures.1, c.requires.store_in_bounds) } in
+    let lent : Lent (capacity_of c.args.store.now) by_order = record { most = capacity-most c.args.store.now c.requires.t c.args.top c.args.root c.requires.scene_root.listed c.requires.scene_root.some c.requires.scene_root.sound; long = omega (arith, c.order_lists-counts.ensures.1, c.requires.scratch_in_bounds) } in
     let prepared : (let a = c.args in
     Ready a.store.now a.top a.root c.order_lists-counts.result c.place_lists-sizes.result c.file_length-total.result by_place) = let a = c.args in
     ready a.store.now c.requires.t a.top a.root c.requires.scene_root.listed c.requires.scene_root.some c.requires.scene_root.sound c.order_lists-counts.result by_order c.order_lists-counts.ensures.0 lent
@@ -101,7 +101,7 @@ returns-clause-out_after c =
     let file : List ℕ = packed_file (kept_of c.args.store.now) (c.args.top + 2) c.args.root in
     let by_place : List ℕ = c.place_lists-sizes.new.scratch in
     let by_order : List ℕ = c.order_lists-counts.new.scratch in
-    let lent : Lent (capacity_of c.args.store.now) by_order = record { most = capacity-most c.args.store.now c.requires.t c.args.top c.args.root c.requires.scene_root.listed c.requires.scene_root.some c.requires.scene_root.sound; long = omega (arith, c.order_lists-counts.ensures.1, c.requires.store_in_bounds) } in
+    let lent : Lent (capacity_of c.args.store.now) by_order = record { most = capacity-most c.args.store.now c.requires.t c.args.top c.args.root c.requires.scene_root.listed c.requires.scene_root.some c.requires.scene_root.sound; long = omega (arith, c.order_lists-counts.ensures.1, c.requires.scratch_in_bounds) } in
     let prepared : (let a = c.args in
     Ready a.store.now a.top a.root c.order_lists-counts.result c.place_lists-sizes.result c.file_length-total.result by_place) = let a = c.args in
     ready a.store.now c.requires.t a.top a.root c.requires.scene_root.listed c.requires.scene_root.some c.requires.scene_root.sound c.order_lists-counts.result by_order c.order_lists-counts.ensures.0 lent
@@ -123,7 +123,7 @@ returns-clause-scratch_len_unchanged c =
     let file : List ℕ = packed_file (kept_of c.args.store.now) (c.args.top + 2) c.args.root in
     let by_place : List ℕ = c.place_lists-sizes.new.scratch in
     let by_order : List ℕ = c.order_lists-counts.new.scratch in
-    let lent : Lent (capacity_of c.args.store.now) by_order = record { most = capacity-most c.args.store.now c.requires.t c.args.top c.args.root c.requires.scene_root.listed c.requires.scene_root.some c.requires.scene_root.sound; long = omega (arith, c.order_lists-counts.ensures.1, c.requires.store_in_bounds) } in
+    let lent : Lent (capacity_of c.args.store.now) by_order = record { most = capacity-most c.args.store.now c.requires.t c.args.top c.args.root c.requires.scene_root.listed c.requires.scene_root.some c.requires.scene_root.sound; long = omega (arith, c.order_lists-counts.ensures.1, c.requires.scratch_in_bounds) } in
     let prepared : (let a = c.args in
     Ready a.store.now a.top a.root c.order_lists-counts.result c.place_lists-sizes.result c.file_length-total.result by_place) = let a = c.args in
     ready a.store.now c.requires.t a.top a.root c.requires.scene_root.listed c.requires.scene_root.some c.requires.scene_root.sound c.order_lists-counts.result by_order c.order_lists-counts.ensures.0 lent
@@ -144,7 +144,7 @@ returns-then-headset-all_near-clause-out_after c =
     let file : List ℕ = packed_file (kept_of c.args.store.now) (c.args.top + 2) c.args.root in
     let by_place : List ℕ = c.place_lists-sizes.new.scratch in
     let by_order : List ℕ = c.order_lists-counts.new.scratch in
-    let lent : Lent (capacity_of c.args.store.now) by_order = record { most = capacity-most c.args.store.now c.requires.t c.args.top c.args.root c.requires.scene_root.listed c.requires.scene_root.some c.requires.scene_root.sound; long = omega (arith, c.order_lists-counts.ensures.1, c.requires.store_in_bounds) } in
+    let lent : Lent (capacity_of c.args.store.now) by_order = record { most = capacity-most c.args.store.now c.requires.t c.args.top c.args.root c.requires.scene_root.listed c.requires.scene_root.some c.requires.scene_root.sound; long = omega (arith, c.order_lists-counts.ensures.1, c.requires.scratch_in_bounds) } in
     let prepared : (let a = c.args in
     Ready a.store.now a.top a.root c.order_lists-counts.result c.place_lists-sizes.result c.file_length-total.result by_place) = let a = c.args in
     ready a.store.now c.requires.t a.top a.root c.requires.scene_root.listed c.requires.scene_root.some c.requires.scene_root.sound c.order_lists-counts.result by_order c.order_lists-counts.ensures.0 lent
@@ -164,7 +164,7 @@ returns-then-headset-all_near-clause-scratch_len_unchanged c =
     let file : List ℕ = packed_file (kept_of c.args.store.now) (c.args.top + 2) c.args.root in
     let by_place : List ℕ = c.place_lists-sizes.new.scratch in
     let by_order : List ℕ = c.order_lists-counts.new.scratch in
-    let lent : Lent (capacity_of c.args.store.now) by_order = record { most = capacity-most c.args.store.now c.requires.t c.args.top c.args.root c.requires.scene_root.listed c.requires.scene_root.some c.requires.scene_root.sound; long = omega (arith, c.order_lists-counts.ensures.1, c.requires.store_in_bounds) } in
+    let lent : Lent (capacity_of c.args.store.now) by_order = record { most = capacity-most c.args.store.now c.requires.t c.args.top c.args.root c.requires.scene_root.listed c.requires.scene_root.some c.requires.scene_root.sound; long = omega (arith, c.order_lists-counts.ensures.1, c.requires.scratch_in_bounds) } in
     let prepared : (let a = c.args in
     Ready a.store.now a.top a.root c.order_lists-counts.result c.place_lists-sizes.result c.file_length-total.result by_place) = let a = c.args in
     ready a.store.now c.requires.t a.top a.root c.requires.scene_root.listed c.requires.scene_root.some c.requires.scene_root.sound c.order_lists-counts.result by_order c.order_lists-counts.ensures.0 lent
@@ -184,7 +184,7 @@ returns-then-out-total-clause-scratch_len_unchanged c =
     let file : List ℕ = packed_file (kept_of c.args.store.now) (c.args.top + 2) c.args.root in
     let by_place : List ℕ = c.place_lists-sizes.new.scratch in
     let by_order : List ℕ = c.order_lists-counts.new.scratch in
-    let lent : Lent (capacity_of c.args.store.now) by_order = record { most = capacity-most c.args.store.now c.requires.t c.args.top c.args.root c.requires.scene_root.listed c.requires.scene_root.some c.requires.scene_root.sound; long = omega (arith, c.order_lists-counts.ensures.1, c.requires.store_in_bounds) } in
+    let lent : Lent (capacity_of c.args.store.now) by_order = record { most = capacity-most c.args.store.now c.requires.t c.args.top c.args.root c.requires.scene_root.listed c.requires.scene_root.some c.requires.scene_root.sound; long = omega (arith, c.order_lists-counts.ensures.1, c.requires.scratch_in_bounds) } in
     let prepared : (let a = c.args in
     Ready a.store.now a.top a.root c.order_lists-counts.result c.place_lists-sizes.result c.file_length-total.result by_place) = let a = c.args in
     ready a.store.now c.requires.t a.top a.root c.requires.scene_root.listed c.requires.scene_root.some c.requires.scene_root.sound c.order_lists-counts.result by_order c.order_lists-counts.ensures.0 lent
