@@ -1,7 +1,7 @@
 -- `write_record` meets its contract, using its own one list down: a leaf by its writer; of a cell the mask, then the child that comes, and what is left
 -- to write comes to the same as from the start. The measure: the list. By the laws of a record's parts. Assumes nothing.
-use Rattle.std.proofs.Common.{◌≡◌, ap, ◌∙◌, List, [], ◌∷◌, ◌++◌, ℕ, ◌+◌, ◌-◌, ◌<◌, arith, bit_xor, length, set}
-use Rattle.paper.specs.Store.{kept_of}
+use Rattle.std.proofs.Common.{◌≡◌, ap, ◌∙◌, List, [], ◌∷◌, ◌++◌, ℕ, ◌+◌, ◌-◌, ◌<◌, ◌≤◌, arith, bit_xor, length, set}
+use Rattle.paper.specs.Store.{Cell, kept_of}
 use Rattle.laws.proofs.Eight.{xor8-lt}
 use Rattle.laws.proofs.Matching.{tag-lt}
 use Rattle.laws.proofs.Undamaged.{store-header}
@@ -9,6 +9,7 @@ use Rattle.numbers.proofs.Laying.{writing-one}
 use Rattle.outline_measure.proofs.KeptCells.{child-kept}
 use Rattle.outline_record.specs.Record.{record_at}
 use Rattle.outline_record.proofs.Behind.{Going, going-first, going-none, going-past, going-room, going_on}
+use Rattle.outline_record.proofs.Lengths.{record-length}
 use Rattle.outline_record.proofs.Parts.{from, from_last, record-cell, next-absent, next-there}
 use Rattle.outline_record.proofs.+write_record.Goals as goal
 
@@ -43,7 +44,7 @@ loop-i-init t c =
 -- ---- its children
 -- the number of the pointer that is read
 pub bounds-cell-i : goal.bounds-cell-i
-bounds-cell-i t c = xor8-lt c.loop-i.i c.args.mirror c.loop-i-test.true c.requires.mirror_bound
+bounds-cell-i t c = xor8-lt c.loop-i.i _ c.loop-i-test.true (omega arith)
 
 pub loop-i-preserved-then-p-eq0 : goal.loop-i-preserved-then-p-eq0
 loop-i-preserved-then-p-eq0 t c =
@@ -53,6 +54,10 @@ loop-i-preserved-then-p-eq0 t c =
       going-past c.loop-i.invariant.1 (rest (c.loop-i.i + 1))
           (next-absent part c.cell_at-cell.result c.args.mirror c.loop-i.i c.loop-i-test.true c.if-p-eq0.true),
     )
+
+-- a record is as long under another mirror
+as_long : (K : List (List Cell)) (k n t m m' at size : ℕ) → t < 8 → m < 8 → m' < 8 → at + length (record_at K k n (bit_xor t m)) ≤ size → at + length (record_at K k n (bit_xor t m')) ≤ size
+as_long K k n t m m' at size ht hm hm' h = omega (arith, record-length K k n (bit_xor t m) (xor8-lt t m ht hm), record-length K k n (bit_xor t m') (xor8-lt t m' ht hm'), h)
 
 pub write_record-next-requires : goal.write_record-next-requires
 write_record-next-requires t c =
@@ -66,8 +71,11 @@ write_record-next-requires t c =
     let kept =
     child-kept a.store.now a.k a.n c.cell_at-cell.result (bit_xor c.loop-i.i a.mirror) c.cell_number.result c.requires.kept c.if-k-eq0.false
     c.cell_at-cell.ensures number_lt c.if-p-eq0.false c.cell_number.ensures in
-    let joined = xor8-lt c.tag.result a.mirror (rw c.tag.ensures (tag-lt _)) c.requires.mirror_bound in
-    (omega (arith, c.decreases, c.if-k-eq0.false), (kept, (joined, going-room c.loop-i.invariant.1 here (rest (c.loop-i.i + 1)) ahead)))
+    let tag_bound : c.tag.result < 8 = rw c.tag.ensures (tag-lt _) in
+    let room = going-room c.loop-i.invariant.1 here (rest (c.loop-i.i + 1)) ahead in (
+      omega (arith, c.decreases, c.if-k-eq0.false),
+      (kept, (xor8-lt c.tag.result _ tag_bound (omega arith), as_long (kept_of a.store.now) (a.k - 1) c.cell_number.result c.tag.result a.mirror _ _ _ tag_bound c.requires.mirror_bound (omega arith) room)),
+    )
 
 pub loop-i-preserved : goal.loop-i-preserved
 loop-i-preserved t c =
