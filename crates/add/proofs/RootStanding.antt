@@ -20,8 +20,7 @@ use Rattle.laws.specs.InOrder.{InOrder}
 use Rattle.laws.proofs.Undamaged.{depth_low}
 use Rattle.laws.proofs.InOrder.{in_order}
 use Rattle.laws.proofs.Growing.{ext_refl}
-use Rattle.add_records.specs.declared.RecordAdded.TheVariants.{At}
-use Rattle.add_records.specs.RecordAdding.{RecordAdding, record_adding, add_record}
+use Rattle.add_records.specs.RecordAdding.{RecordAdding, record_added, add_record}
 use Rattle.add_records.proofs.Settings.{Setting, words_with, Good}
 use Rattle.add_records.proofs.Standing.{Stands, After}
 use Rattle.add_records.proofs.Lasting as lasting
@@ -93,10 +92,10 @@ module _ (ws file : List ℕ) (lent : Lent ws file) where
   unfolding read_root
   nothing_read e = rw (drop_of_length-le file {i = outline_head} (omega arith))
 
-  none-stands : length file ≡ outline_head → Standing (add_tree (capacity_of ws) (tree_read (outline_read file)) (D - 2) K) (record_adding (At outline_head 0 0 0) ws)
+  none-stands : length file ≡ outline_head → Standing (add_tree (capacity_of ws) (tree_read (outline_read file)) (D - 2) K) (record_added outline_head 0 0 0 ws)
   unfolding add_tree
   none-stands e =
-      subst (λ (r : Read Tree). Standing (add_tree (capacity_of ws) (tree_read r) (D - 2) K) (record_adding (At outline_head 0 0 0) ws)) (sym (nothing_read e))
+      subst (λ (r : Read Tree). Standing (add_tree (capacity_of ws) (tree_read r) (D - 2) K) (record_added outline_head 0 0 0 ws)) (sym (nothing_read e))
       (record {
         same = refl;
         words = sym again;
@@ -116,7 +115,7 @@ module _ (ws file : List ℕ) (lent : Lent ws file) where
   root_stands = go (eqb (length file) outline_head) refl
     where
       go : (b : Bool) → eqb (length file) outline_head ≡ b
-          → Standing (add_tree (capacity_of ws) (tree_read (outline_read file)) (D - 2) K) (cond b (record_adding (At outline_head 0 0 0) ws) (add_record file (D - 2) outline_head ws))
+          → Standing (add_tree (capacity_of ws) (tree_read (outline_read file)) (D - 2) K) (cond b (record_added outline_head 0 0 0 ws) (add_record file (D - 2) outline_head ws))
       go true e = none-stands (eqb-true (length file) outline_head e)
       go false e = some-stands (omega (arith, file-long file lent.ready.fair, eqb-false (length file) outline_head e))
 

@@ -15,12 +15,11 @@ use Rattle.paper.specs.Calls.{outline_order}
 use Rattle.laws.proofs.Tests.{T_true, and_left, and_right}
 use Rattle.laws.proofs.Outlines.{Accepted}
 use Rattle.laws.proofs.OutlineClaim.{file-accepted}
-use Rattle.outline.specs.declared.Reading.{Reading}
-use Rattle.outline.specs.declared.Reading.TheVariants.{Broken, EndsAt}
+use Rattle.outline.specs.Positions.{Reading}
+use Rattle.outline.specs.Positions.{Broken, EndsAt}
 use Rattle.outline.specs.Positions.{record_at}
 use Rattle.outline.proofs.Refusals.{rules-broken}
-use Rattle.add_records.specs.declared.RecordAdded.TheVariants.{At}
-use Rattle.add_records.specs.RecordAdding.{record_adding, add_record, Whole}
+use Rattle.add_records.specs.RecordAdding.{record_added, add_record, Whole}
 use Rattle.add.specs.SceneAdding.{add_root}
 
 module _ (file : List ℕ) (fair : first_number (outline_order file) ≡ 0) where
@@ -46,7 +45,7 @@ module _ (file : List ℕ) (fair : first_number (outline_order file) ≡ 0) wher
 -- ---- the two ways
 
 module _ (file ws : List ℕ) where
-  pub root_none : length file ≡ outline_head → add_root file ws ≡ record_adding (At outline_head 0 0 0) ws
+  pub root_none : length file ≡ outline_head → add_root file ws ≡ record_added outline_head 0 0 0 ws
   unfolding add_root
   root_none e = rw e
 

@@ -13,7 +13,7 @@ use Rattle.paper.specs.Outline.{file_depth}
 use Rattle.paper.specs.Store.{Cell, cells_at, most_scenes, heights, scenes_held, kept_count, kept_of, store_of, words_of, header_ok}
 use Rattle.paper.specs.Match.{Adding, full, added}
 use Rattle.paper.specs.Answers.{told, outcome, added as added-told}
-use Rattle.paper.specs.declared.Added.TheVariants.{Scene, Refused}
+use Rattle.std.specs.Prelude.{Ok, Err}
 use Rattle.paper.specs.declared.Refusal.TheVariants.{CellsFull}
 use Rattle.paper.specs.Order.{first_number}
 use Rattle.paper.specs.Calls.{over, next_scene, adding, is_full, cells_full, add_order, with_scene, add_words, add_outcome}
@@ -22,8 +22,7 @@ use Rattle.laws.proofs.Words.{stored, store_with, words_of-length, scene-fine}
 use Rattle.add_keep.specs.Keeping.{hold_in, cut_back}
 use Rattle.add_keep.proofs.Stored.{hold-stored}
 use Rattle.add_keep.proofs.Cutting.{cut-stored, cut-counts, counts-taken}
-use Rattle.add_records.specs.declared.RecordAdded.TheVariants.{At, Full}
-use Rattle.add_records.specs.RecordAdding.{record_adding}
+use Rattle.add_records.specs.RecordAdding.{record_added, record_full}
 use Rattle.add_records.proofs.Settings.{Setting, Fitting}
 use Rattle.add_records.proofs.SettingWords.{held-is, header-in-order}
 use Rattle.add.specs.SceneAdding.{add_root}
@@ -67,8 +66,8 @@ module _ (ws file : List ℕ) (lent : Lent ws file) where
       ap (λ (a : Adding ℕ). over (words_of (with_scene (store_of ws) (next_scene ws) D a)) ws) e
       ∙ ap (λ (n : ℕ). words_of (store_with C (suc N) (more p) K') ++ drop n ws) (words_of-length C (suc N) (more p) K' (scene-fine C N g.places K' f (next_scene ws) (D ∷ p ∷ []) refl room))
 
-  module _ (next p m n : ℕ) (v : List ℕ) (told-so : add_root file ws ≡ record_adding (At next p m n) v) where
-    taken_as : (a : Adding ℕ) → adding ws file ≡ a → Standing ws file lent a (record_adding (At next p m n) v) → outcome (added-told (Scene (scenes_held ws))) (hold_in (D ∷ p ∷ []) v ∷ []) ≡ add_outcome ws file
+  module _ (next p m n : ℕ) (v : List ℕ) (told-so : add_root file ws ≡ record_added next p m n v) where
+    taken_as : (a : Adding ℕ) → adding ws file ≡ a → Standing ws file lent a (record_added next p m n v) → outcome (added-told (Ok (scenes_held ws))) (hold_in (D ∷ p ∷ []) v ∷ []) ≡ add_outcome ws file
     unfolding add_outcome
     taken_as full e s = absurd s
     taken_as (added q K') e s =
@@ -77,10 +76,10 @@ module _ (ws file : List ℕ) (lent : Lent ws file) where
         (ap₂ (λ (r : ℕ) (w : List ℕ). hold_in (D ∷ r ∷ []) w) s.same s.words ∙ hold-stored C N g.places K' f g.behind (D ∷ q ∷ []) refl room ∙ sym (words-added q K' e f))
         ∙ sym (settled-accepted (first_number (add_order ws file)) (next_scene ws ∷ []) (add_words ws file ∷ []) (ws ∷ []) (number (added q K') e))
 
-    pub taken-outcome : outcome (added-told (Scene (scenes_held ws))) (hold_in (D ∷ p ∷ []) v ∷ []) ≡ add_outcome ws file
+    pub taken-outcome : outcome (added-told (Ok (scenes_held ws))) (hold_in (D ∷ p ∷ []) v ∷ []) ≡ add_outcome ws file
     taken-outcome = taken_as (adding ws file) refl (stands-as ws file lent _ told-so)
 
-    ready-as : (a : Adding ℕ) → Standing ws file lent a (record_adding (At next p m n) v) → T (header_ok v) × (scenes_held v < most_scenes)
+    ready-as : (a : Adding ℕ) → Standing ws file lent a (record_added next p m n v) → T (header_ok v) × (scenes_held v < most_scenes)
     ready-as full s = absurd s
     ready-as (added q K') s =
         let f = s.good.fine in
@@ -91,7 +90,7 @@ module _ (ws file : List ℕ) (lent : Lent ws file) where
 
   -- ---- full: cut back
 
-  module _ (v : List ℕ) (told-so : add_root file ws ≡ record_adding Full v) where
+  module _ (v : List ℕ) (told-so : add_root file ws ≡ record_full v) where
     abbrev ns : List ℕ
     ns = tabulate 0 heights (kept_count ws)
 
@@ -100,7 +99,7 @@ module _ (ws file : List ℕ) (lent : Lent ws file) where
         subst (λ (w : List ℕ). get_or (tabulate 0 heights (kept_count w)) k 0 ≡ length (cells_at K k)) (again ws file lent)
         (counts-taken C N g.places K (good ws file lent).fine g.behind k h)
 
-    full-as : (a : Adding ℕ) → adding ws file ≡ a → Standing ws file lent a (record_adding Full v) → outcome (added-told (Refused CellsFull)) (cut_back ns v ∷ []) ≡ add_outcome ws file
+    full-as : (a : Adding ℕ) → adding ws file ≡ a → Standing ws file lent a (record_full v) → outcome (added-told (Err CellsFull)) (cut_back ns v ∷ []) ≡ add_outcome ws file
     unfolding add_outcome
     full-as (added q K') e s = absurd s
     full-as full e s =
@@ -111,10 +110,10 @@ module _ (ws file : List ℕ) (lent : Lent ws file) where
         (sym eight)
         ∙ sym (settled-refused (first_number (add_order ws file)) (next_scene ws ∷ []) (add_words ws file ∷ []) (ws ∷ []) (λ z. omega arith))
 
-    pub full-outcome : outcome (added-told (Refused CellsFull)) (cut_back (tabulate 0 heights (kept_count ws)) v ∷ []) ≡ add_outcome ws file
+    pub full-outcome : outcome (added-told (Err CellsFull)) (cut_back (tabulate 0 heights (kept_count ws)) v ∷ []) ≡ add_outcome ws file
     full-outcome = full-as (adding ws file) refl (stands-as ws file lent _ told-so)
 
-    cut_as : (a : Adding ℕ) → Standing ws file lent a (record_adding Full v) → T (header_ok v) × ((k : ℕ) → k < heights → get_or ns k 0 ≤ kept_count v k)
+    cut_as : (a : Adding ℕ) → Standing ws file lent a (record_full v) → T (header_ok v) × ((k : ℕ) → k < heights → get_or ns k 0 ≤ kept_count v k)
     cut_as (added q K') s = absurd s
     cut_as full s =
         rw s.words

@@ -4,8 +4,7 @@ use Rattle.paper.specs.Outline.{outline_head, file_depth}
 use Rattle.paper.specs.Store.{most_scenes, scenes_held, store_ok}
 use Rattle.paper.specs.Order.{first_number}
 use Rattle.paper.specs.Calls.{outline_order}
-use Rattle.add_records.specs.declared.RecordAdded.TheVariants.{At}
-use Rattle.add_records.specs.RecordAdding.{RecordAdding, record_adding, add_record}
+use Rattle.add_records.specs.RecordAdding.{RecordAdding, record_added, add_record}
 
 -- the file breaks no rule, the store is not damaged, and it can hold one scene more
 pub record Ready (ws file : List ℕ) : Type 0 where
@@ -17,4 +16,4 @@ pub record Ready (ws file : List ℕ) : Type 0 where
 unfoldable pub add_root : List ℕ → List ℕ → RecordAdding
 add_root file ws =
     let r = add_record file (file_depth file - 2) outline_head ws in
-    cond (eqb (length file) outline_head) (record_adding (At outline_head 0 0 0) ws) r
+    cond (eqb (length file) outline_head) (record_added outline_head 0 0 0 ws) r

@@ -5,17 +5,15 @@ use mathlib.Core.Bool.{Bool, true, false, not}
 use mathlib.Core.List.{List, ◌++◌}
 use mathlib.Core.Option.{Option, some}
 use mathlib.Core.Option as O
-use Prim.Native.Nat.{ℕ, zero, suc, ◌+◌, ◌/◌, ◌^◌, ◌<◌, ◌≤◌}
+use Prim.Native.Nat.{ℕ, zero, suc, ◌*◌, ◌/◌, ◌^◌, ◌<◌, ◌≤◌}
 use native.Mathlib.Omega.{arith}
 use native.Mathlib.Decide.{dec_lt}
-use lib.Dec.{T, eqb, leb, ltb, leb→le}
+use lib.Dec.{eqb, leb, ltb}
 use borrow.Author.Tests.{lt-ltb, le-ltb, le-leb, lt-leb, ltb-true, not-true, not-false}
 use Rattle.paper.specs.Leaf.{mirror_leaf}
-use Rattle.paper.specs.Store.{Cell, cells_at, pointer, most_capacity, heights, chains, capacity_of, kept_count, two_words, kept_of, leaf_solid, key_of, chain_of, header_ok}
+use Rattle.paper.specs.Store.{Cell, cells_at, pointer, chains, capacity_of, kept_count, two_words, kept_of, stride, leaf_solid, key_of, chain_of}
 use Rattle.paper.specs.Match.{matches, find, leaf_cell}
 use Rattle.laws.specs.Symmetries.{symmetry_for, symmetry_match}
-use Rattle.laws.proofs.Tests.{and_right}
-use Rattle.laws.proofs.Undamaged.{FineHeader, fine-header}
 use Rattle.laws.specs.Chains.{last_of}
 use Rattle.laws.proofs.Kept.{kept-length}
 use Rattle.laws.proofs.AddingTrees.{leaf-words}
@@ -24,8 +22,7 @@ use Rattle.add_keep.specs.Keeping.{Room, Behind, link_in, keep_in}
 use Rattle.add_seek.specs.declared.find.Sought.{Sought}
 use Rattle.add_seek.specs.declared.find.Sought.TheVariants.{Nowhere}
 use Rattle.add_seek.specs.Sought.{EndsAt}
-use Rattle.add_cells.specs.declared.CellAdded.TheVariants as cell_added
-use Rattle.add_cells.specs.CellAdding.{cell_adding, kept_behind, kept_with, found_or, add_leaf_in, add_cell_in}
+use Rattle.add_cells.specs.CellAdding.{cell_added, cell_full, kept_behind, kept_with, found_or, add_leaf_in, add_cell_in}
 
 -- ---- keeping, and seeking
 
@@ -42,20 +39,20 @@ some-room n C b e t = ltb-true n C (not-false (ltb n C) (sym e ∙ t))
 
 -- a cell or a leaf that is nowhere, of the words c and in chain j, by the test of room
 module _ (symmetry k j : ℕ) (c ws : List ℕ) (b : Bool) (e : b ≡ not (ltb (kept_count ws k) (capacity_of ws))) where
-  pub keep-full : b ≡ true → cell_adding cell_added.Full ws ≡ kept_with symmetry k j c ws
+  pub keep-full : b ≡ true → cell_full ws ≡ kept_with symmetry k j c ws
   unfolding kept_with
   keep-full t = rw (not-true (ltb (kept_count ws k) (capacity_of ws)) (sym e ∙ t)) refl
 
   pub keep-next : b ≡ false → {p last : ℕ} {l : List ℕ} → p ≡ pointer 0 (kept_count ws k) → last ≡ last_of (kept_of ws) k j → l ≡ keep_in k c (link_in k j last ws)
-      → cell_adding (cell_added.At p symmetry) l ≡ kept_with symmetry k j c ws
+      → cell_added p symmetry l ≡ kept_with symmetry k j c ws
   unfolding kept_with kept_behind
   keep-next t f h g =
       rw (not-false (ltb (kept_count ws k) (capacity_of ws)) (sym e ∙ t))
-      (ap₂ (λ (q : ℕ) (m : List ℕ). cell_adding (cell_added.At q symmetry) m) f (g ∙ ap (λ (n : ℕ). keep_in k c (link_in k j n ws)) h))
+      (ap₂ (λ (q : ℕ) (m : List ℕ). cell_added q symmetry m) f (g ∙ ap (λ (n : ℕ). keep_in k c (link_in k j n ws)) h))
 
 module _ (symmetry k j : ℕ) (c ws : List ℕ) where
   -- found, as the search says
-  pub found_at : (o : Option ℕ) (p : ℕ) → o ≡ some p → found_or o symmetry k j c ws ≡ cell_adding (cell_added.At p symmetry) ws
+  pub found_at : (o : Option ℕ) (p : ℕ) → o ≡ some p → found_or o symmetry k j c ws ≡ cell_added p symmetry ws
   unfolding found_or
   found_at o p e = rw e
 
@@ -96,10 +93,12 @@ last-behind ws k j last room few e = record {
   kept = omega (arith, e, last-most k j (cells_at (kept_of ws) k), kept-length ws k room.list);
 }
 
--- ---- the next number of a list fits a pointer
+-- a cell above the leaves has ten words
+pub inner-stride : (k : ℕ) → 1 ≤ k → 10 ≡ stride k
+inner-stride zero h = absurd (omega arith)
+inner-stride (suc k) h = refl
 
-pub next_small : (ws : List ℕ) (k n : ℕ) → T (header_ok ws) → k < heights → n ≡ kept_count ws k → n + 1 < 2 ^ 29
-next_small ws k n t hk e =
-    let h : FineHeader ws = fine-header ws t in
-    let C : ℕ = capacity_of ws in
-    omega (arith, h.few k hk, leb→le C most_capacity (and_right (leb 1 C) (leb C most_capacity) h.capacity))
+-- and any cell few enough for memory
+pub words-few : (n k : ℕ) → n ≡ stride k → n * 4 < 9223372036854775808
+words-few n zero e = omega (arith, e)
+words-few n (suc k) e = omega (arith, e)

@@ -13,7 +13,8 @@ use Rattle.paper.specs.Store.{Cell, heights, chains, first_scene, zeros_position
 use Rattle.laws.specs.Chains.{link_position, cut_link, cut_links}
 use Rattle.laws.proofs.Undamaged.{FineHeader, fine-header, fine-header-ok}
 use Rattle.laws.proofs.ChainLinks.{link-past}
-use Rattle.add_keep.specs.Keeping.{Room, link_in, keep_in, cut_chains, cut_cells, cut_list, cut_lists}
+use Rattle.store.proofs.HeaderFacts.{header}
+use Rattle.add_keep.specs.Keeping.{Room, Keeps, link_in, keep_in, cut_chains, cut_cells, cut_list, cut_lists}
 
 -- ---- words stored in the header, or past it
 
@@ -163,6 +164,20 @@ chains-unchanged k n ws =
     (links-unchanged n (next_position C k 0) (kept_count ws k) (cut_links n (head_position C k 0) chains ws) (omega arith))
 
 -- ---- a cell more, a list cut back
+
+-- the chains of list k cut back to its first n cells: the words have their header, and the list its cells, still
+module _ {k n : ℕ} {ws vs : List ℕ} (keeps : Keeps k n ws) (cut : vs ≡ cut_chains k n ws) where
+  cut-unchanged : Unchanged ws vs
+  cut-unchanged = subst (Unchanged ws) (sym cut) (chains-unchanged k n ws)
+
+  pub cut-in-order : T (header_ok vs)
+  cut-in-order = same-header cut-unchanged keeps.header
+
+  pub cut-enough : n ≤ kept_count vs k
+  cut-enough = omega (arith, keeps.enough, same_count cut-unchanged k keeps.list)
+
+  pub cut-few : kept_count vs k ≤ capacity_of vs
+  cut-few = (header _ cut-in-order).counts k keeps.list
 
 pub past-header : (C k n : ℕ) → first_scene ≤ cell_position C k n
 past-header C zero n = omega arith

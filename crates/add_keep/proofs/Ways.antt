@@ -1,21 +1,41 @@
 -- The ways through keeping a cell, holding a scene and cutting lists back, in the code's words.
 -- Each by the values of the words read before, which the definition reads. Assumes nothing.
 use mathlib.Core.Path.{◌≡◌, refl, sym, ap, ap₂, ◌∙◌}
-use mathlib.Core.List.{List, [], ◌∷◌, ◌++◌, map}
+use mathlib.Core.List.{List, [], ◌∷◌, ◌++◌, map, append-nil}
 use Prim.Native.Nat.{ℕ, zero, suc, ◌+◌, ◌-◌, ◌*◌, ◌<◌, ◌≤◌}
-use native.Mathlib.Nat.{not-suc-le-zero, add-zero, mul-le-mul_left}
+use native.Mathlib.Nat.{not-suc-le-zero, zero-add, mul-le-mul_left}
 use native.Mathlib.Numerals.{add-one}
 use native.Mathlib.Omega.{arith}
-use lib.ListN.{length, take, drop, get_or, set, replicate, length-append}
-use lib.Seq.{sets, set-get_or, get_or-drop, paste, length-paste, drop-paste, take_all}
+use lib.ListN.{length, take, drop, get_or, set, replicate, length-append, length-map, drop_of_length-le}
+use lib.Seq.{sets, sets-eq, get_or-drop, paste, paste-suc, drop-paste, take_all, ext_get_or}
+use borrow.Rule.Slice.PartMut.{put_mid}
+use Rattle.std.proofs.lemmas.Slice.{put_mid-paste}
+use Rattle.std.proofs.lemmas.List.{get_or-map}
+use Rattle.paper.specs.Numbers.{tabulate}
+use Rattle.laws.proofs.Lists.{get_or-tabulate, length-tabulate}
 use Rattle.paper.specs.Store.{Cell, heights, chains, used, capacity_of, scenes_held, kept_count, scene_position, stride, cell_position, head_position, next_position, two_words}
 use Rattle.laws.specs.Chains.{link_position, cut_link, cut_links}
 use Rattle.laws.proofs.Rows.{list-in}
 use Rattle.laws.proofs.Chains.{cut-kept, cut-gone}
-use Rattle.laws.proofs.ChainLinks.{link-head, link-next, links-long, link_at}
+use Rattle.laws.proofs.ChainLinks.{link-head, link-next, links-long}
 use Rattle.add_keep.specs.Keeping.{link_in, keep_in, hold_in, cut_chains, cut_cells, cut_list, cut_lists, cut_back}
 use Rattle.store.proofs.Positions.{position-between, eight-words}
-use Rattle.store.proofs.InPlace.{none-stored, one-stored, all-stored}
+
+-- ---- a part of the store written over at once
+
+pub part-put : (a k : ℕ) (xs ys zs : List ℕ) → ys ≡ zs → k ≡ length zs → a + length zs ≤ length xs → put_mid a k xs ys ≡ sets xs a zs
+part-put a k xs ys zs e f room =
+    put_mid-paste a k xs ys zs (length zs) e (sym f) refl
+    ∙ ap (λ (l : List ℕ). take a xs ++ l ++ drop (a + length zs) xs) (take_all (length zs) zs (omega arith)) ∙ sym (sets-eq zs xs a room)
+
+-- ---- the counts of all lists
+
+pub counts-all : (ws r : List ℕ) → length r ≡ heights → ((j : ℕ) → j < heights → get_or r j 0 ≡ kept_count ws j) → r ≡ tabulate 0 heights (kept_count ws)
+counts-all ws r e h =
+    ext_get_or 0 r (tabulate 0 heights (kept_count ws)) (e ∙ sym (length-tabulate heights 0 (kept_count ws)))
+    (λ j g.
+    let l : j < heights = omega arith in
+    h j l ∙ sym (get_or-tabulate heights 0 j (kept_count ws) 0 l ∙ ap (kept_count ws) (zero-add j)))
 
 -- ---- a cell more: its list has n cells, and its words go to `at`
 
@@ -66,43 +86,47 @@ module _ (ws : List ℕ) (k j last C at v : ℕ) (sized : C ≡ capacity_of ws) 
       let e : last ≡ suc (last - 1) = omega (arith, z) in
       link_set (placed ∙ sym (ap (link_position C k j) e ∙ link-next C k j (last - 1)))
 
--- ---- a loop that cuts link after link of m, with words l that are ws with the first i of them cut
+-- ---- a loop that cuts link after link of some, that are l when the first i of them are cut
 
-module _ (n at m : ℕ) (ws : List ℕ) (room : at + m ≤ length ws) where
-  abbrev links : List ℕ
-  links = map (cut_link n) (take m (drop at ws))
+module _ (n : ℕ) (links l : List ℕ) (i : ℕ) (so : l ≡ paste links 0 (map (cut_link n) links) i) where
+  abbrev cut : List ℕ
+  cut = map (cut_link n) links
 
-  links-fit : at + length links ≤ length ws
-  links-fit = omega (arith, links-long n at m ws room)
+  cut-many : length cut ≡ length links
+  cut-many = length-map links (cut_link n)
 
-  pub no-link-cut : ws ≡ paste ws at (map (cut_link n) (take m (drop at ws))) 0
-  no-link-cut = none-stored ws at links links-fit
+  module _ (h : i < length links) where
+    link-there : get_or l i 0 ≡ get_or links i 0
+    link-there =
+        let first : (w : List ℕ) → get_or w i 0 ≡ get_or (drop (0 + i) w) 0 0 = λ w. sym (get_or-drop (0 + i) w 0 0 ∙ ap (λ (p : ℕ). get_or w p 0) (omega arith)) in
+        ap (λ (w : List ℕ). get_or w i 0) so ∙ first (paste links 0 cut i)
+        ∙ ap (λ (w : List ℕ). get_or w 0 0) (drop-paste links 0 cut i (omega arith) (omega (arith, cut-many))) ∙ sym (first links)
 
-  module _ (l : List ℕ) (i : ℕ) (so : l ≡ paste ws at (map (cut_link n) (take m (drop at ws))) i) where
-    module _ (h : i < m) where
-      word-there : get_or l (at + i) 0 ≡ get_or ws (at + i) 0
-      word-there =
-          let first : (w : List ℕ) → get_or w (at + i) 0 ≡ get_or (drop (at + i) w) 0 0 = λ w. sym (get_or-drop (at + i) w 0 0 ∙ ap (λ (p : ℕ). get_or w p 0) (add-zero (at + i))) in
-          ap (λ (w : List ℕ). get_or w (at + i) 0) so ∙ first (paste ws at links i)
-          ∙ ap (λ (w : List ℕ). get_or w 0 0) (drop-paste ws at links i (omega arith) (omega (arith, links-long n at m ws room))) ∙ sym (first ws)
+    link-stored : (v : ℕ) → v ≡ cut_link n (get_or l i 0) → set l i v ≡ paste links 0 cut (i + 1)
+    link-stored v e =
+        let word : v ≡ get_or cut i 0 = e ∙ ap (cut_link n) link-there ∙ sym (get_or-map (cut_link n) links i 0 0 h) in
+        ap₂ (λ (m : List ℕ) (w : ℕ). set m i w) so word ∙ ap (λ (p : ℕ). set (paste links 0 cut i) p (get_or cut i 0)) (sym (zero-add i))
+        ∙ paste-suc links 0 cut i 0 (omega arith) (omega (arith, cut-many)) ∙ ap (paste links 0 cut) (sym (add-one i))
 
-      link-stored : (v : ℕ) → v ≡ cut_link n (get_or l (at + i) 0) → set l (at + i) v ≡ paste ws at links (i + 1)
-      link-stored v e =
-          one-stored ws at links links-fit l i v so (omega (arith, links-long n at m ws room)) (e ∙ ap (cut_link n) word-there ∙ sym (link_at n at m ws room i h))
+    -- one to a cell that goes, one to a cell that stays
+    pub link-goes : n < get_or l i 0 → set l i 0 ≡ paste links 0 (map (cut_link n) links) (i + 1)
+    link-goes g = link-stored 0 (sym (cut-gone n (get_or l i 0) g))
 
-      -- one to a cell that goes, one to a cell that stays
-      pub link-goes : n < get_or l (at + i) 0 → set l (at + i) 0 ≡ paste ws at (map (cut_link n) (take m (drop at ws))) (i + 1)
-      link-goes g = link-stored 0 (sym (cut-gone n (get_or l (at + i) 0) g))
+    pub link_stays : get_or l i 0 ≤ n → set l i (get_or l i 0) ≡ paste links 0 (map (cut_link n) links) (i + 1)
+    link_stays g = link-stored (get_or l i 0) (sym (cut-kept n (get_or l i 0) g))
 
-      pub link_stays : get_or l (at + i) 0 ≤ n → l ≡ paste ws at (map (cut_link n) (take m (drop at ws))) (i + 1)
-      link_stays g = sym (set-get_or l (at + i) 0) ∙ link-stored (get_or l (at + i) 0) (sym (cut-kept n (get_or l (at + i) 0) g))
+  links-over : length links ≤ i → l ≡ cut
+  links-over h =
+      so ∙ ap₂ (λ (x y : List ℕ). x ++ y) (take_all i cut (omega (arith, cut-many))) (drop_of_length-le links (omega arith)) ∙ append-nil cut
 
-    pub cut-length : i ≤ m → length l ≡ length ws
-    cut-length h = ap length so ∙ length-paste ws at links i (omega arith) (omega (arith, links-long n at m ws room))
-
-    pub all-links-cut : i ≡ m → l ≡ cut_links n at m ws
-    unfolding cut_links
-    all-links-cut e = all-stored ws at links links-fit l i so (e ∙ sym (links-long n at m ws room))
+-- all of them, which are m words of a store from a place on
+pub all-links-cut : (n at m k : ℕ) (ws l : List ℕ) (i : ℕ) → at + m ≤ length ws → k ≡ m → l ≡ paste (take k (drop at ws)) 0 (map (cut_link n) (take k (drop at ws))) i
+    → length (take k (drop at ws)) ≤ i → put_mid at k ws l ≡ cut_links n at m ws
+unfolding cut_links
+all-links-cut n at m k ws l i room e so over =
+    part-put at k ws l (map (cut_link n) (take k (drop at ws))) (links-over n (take k (drop at ws)) l i so over)
+    (rw e (sym (links-long n at m ws room))) (rw e (omega (arith, links-long n at m ws room)))
+    ∙ ap (λ (q : ℕ). sets ws at (map (cut_link n) (take q (drop at ws)))) e
 
 -- ---- list k back to n of its m cells, which end at `end`: its chains first, then its cells
 

@@ -9,8 +9,8 @@ ghost use Rattle.laws.specs.Chains.{cut_links};
 ghost use Rattle.add_keep.specs.Keeping.{Room, Behind, Keeps, keep_in, link_in, hold_in, cut_chains, cut_list, cut_back};
 
 use store::{
-    CHAINS, FIRST_COUNT, HEIGHTS, HIGH_WORD, capacity, cell_position, head_position, kept_count,
-    next_position, put_zeros, scene_position, scenes_held,
+    CHAINS, FIRST_COUNT, HEIGHTS, HIGH_WORD, Store, cell_position, head_position, next_position,
+    put_zeros, scene_position,
 };
 
 // The place of the count of scenes.
@@ -30,11 +30,7 @@ fn put_words(store: &mut [u32], at: usize, words: &[u32])
     requires { at + length words.now ≤ length store.old }
     ensures { store.new ≡ sets store.old at words.now }
 {
-    let mut i = 0;
-    while i < words.len() {
-        store[at + i] = words[i];
-        i += 1;
-    }
+    store[at..at + words.len()].copy_from_slice(words);
 }
 
 // The next cell of list k is linked behind cell `last` of chain j, its number plus 1, or to the chain's head where that is 0.
@@ -42,8 +38,9 @@ fn link(store: &mut [u32], k: u32, j: u32, last: u32)
     requires { Behind k j last store.old }
     ensures { store.new ≡ link_in k j last store.old }
 {
-    let c = capacity(store);
-    let number = kept_count(store, k) + 1;
+    let before = Store::of(store);
+    let c = before.capacity();
+    let number = before.kept_count(k) + 1;
     if last == 0 {
         store[head_position(c, k, j)] = number;
     } else {
@@ -57,40 +54,31 @@ fn keep(store: &mut [u32], k: u32, words: &[u32])
     requires words_len { length words.now ≡ stride k }
     ensures { store.new ≡ keep_in k words.now store.old }
 {
-    let count = kept_count(store, k);
-    let at = cell_position(capacity(store), k, count);
+    let before = Store::of(store);
+    let count = before.kept_count(k);
+    let at = cell_position(before.capacity(), k, count);
     set_count(store, k, count + 1);
     put_words(store, at, words);
 }
 
-// One more leaf, of its two words, behind cell `last` of chain j.
-pub fn keep_leaf(store: &mut [u32], leaf: [u32; 2], j: u32, last: u32)
-    requires { Behind 0 j last store.old }
-    ensures { store.new ≡ keep_in 0 leaf (link_in 0 j last store.old) }
+// One more cell in list k, of these words, behind cell `last` of chain j, its number plus 1, or first in the chain where that is 0.
+pub fn keep_behind<const N: usize>(store: &mut [u32], k: u32, words: [u32; N], j: u32, last: u32)
+    requires behind { Behind k j last store.old }
+    requires words_len { N ≡ stride k }
+    ensures { store.new ≡ keep_in k words.entry (link_in k j last store.old) }
 {
-    link(store, 0, j, last);
-    keep(store, 0, &leaf);
+    link(store, k, j, last);
+    keep(store, k, &words);
 }
 
-// A cell's words: its pointers, then how many solid voxels it has.
-fn cell_words(cell: [u32; 8], solid: u64) -> [u32; 10]
+// The words of a cell above the leaves: its pointers, then how many solid voxels it has.
+pub fn cell_words(cell: [u32; 8], solid: u64) -> [u32; 10]
     ensures { result ≡ cell ++ two_words solid }
 {
     let count = two_words(solid);
     [
         cell[0], cell[1], cell[2], cell[3], cell[4], cell[5], cell[6], cell[7], count[0], count[1],
     ]
-}
-
-// One more cell of eight pointers, with so many solid voxels, in list k, k not 0, behind cell `last` of chain j.
-pub fn keep_cell(store: &mut [u32], k: u32, cell: [u32; 8], solid: u64, j: u32, last: u32)
-    requires le_k { 1 ≤ k }
-    requires behind { Behind k j last store.old }
-    ensures { store.new ≡ keep_in k (cell ++ two_words solid) (link_in k j last store.old) }
-{
-    link(store, k, j, last);
-    let words = cell_words(cell, solid);
-    keep(store, k, &words);
 }
 
 // A number's two words, the high one first: a leaf's, or a count's.
@@ -102,11 +90,11 @@ pub fn two_words(n: u64) -> [u32; 2]
 
 // One more scene.
 pub fn hold_scene(store: &mut [u32], depth: u32, root: u32)
-    requires t { T (header_ok store.old) }
+    requires header { T (header_ok store.old) }
     requires store_bound { scenes_held store.old < most_scenes }
     ensures { store.new ≡ hold_in (depth ∷ root ∷ []) store.old }
 {
-    let held = scenes_held(store);
+    let held = Store::of(store).scenes_held();
     let at = scene_position(held);
     store[SCENES_HELD] = held + 1;
     let words = [depth, root];
@@ -114,17 +102,10 @@ pub fn hold_scene(store: &mut [u32], depth: u32, root: u32)
 }
 
 // How many cells each list keeps.
-pub fn counts(store: &[u32]) -> [u32; 15]
-    requires { T (header_ok store.now) }
-    ensures { result ≡ tabulate 0 heights (kept_count store.now) }
+pub fn counts(store: Store) -> [u32; 15]
+    ensures { result ≡ tabulate 0 heights (kept_count store.entry.words.now) }
 {
-    let mut all = [0u32; 15];
-    let mut k = 0u32;
-    while k < HEIGHTS {
-        all[k as usize] = kept_count(store, k);
-        k += 1;
-    }
-    all
+    std::array::from_fn(|k| store.kept_count(k as u32))
 }
 
 // So many links from `at` on: one to any of the first `count` cells stays, any other becomes none.
@@ -132,12 +113,10 @@ fn cut_links(store: &mut [u32], at: usize, many: usize, count: u32)
     requires { at + many ≤ length store.old }
     ensures { store.new ≡ cut_links count at many store.old }
 {
-    let mut i = 0;
-    while i < many {
-        if count < store[at + i] {
-            store[at + i] = 0;
+    for link in &mut store[at..at + many] {
+        if count < *link {
+            *link = 0;
         }
-        i += 1;
     }
 }
 
@@ -146,8 +125,9 @@ fn cut_chains(store: &mut [u32], k: u32, count: u32)
     requires { Keeps k count store.old }
     ensures { store.new ≡ cut_chains k count store.old }
 {
-    let units = capacity(store);
-    let kept = kept_count(store, k);
+    let before = Store::of(store);
+    let units = before.capacity();
+    let kept = before.kept_count(k);
     cut_links(store, head_position(units, k, 0), CHAINS, count);
     cut_links(store, next_position(units, k, 0), kept as usize, count);
 }
@@ -158,8 +138,9 @@ fn cut_list(store: &mut [u32], k: u32, count: u32)
     ensures { store.new ≡ cut_list k count store.old }
 {
     cut_chains(store, k, count);
-    let units = capacity(store);
-    let end = cell_position(units, k, kept_count(store, k));
+    let cut = Store::of(store);
+    let units = cut.capacity();
+    let end = cell_position(units, k, cut.kept_count(k));
     let at = cell_position(units, k, count);
     put_zeros(store, at, end - at);
     set_count(store, k, count);
@@ -167,13 +148,11 @@ fn cut_list(store: &mut [u32], k: u32, count: u32)
 
 // Each list back to so many cells as it kept when `counts` was taken.
 pub fn cut_back(store: &mut [u32], counts: [u32; 15])
-    requires t { T (header_ok store.old) }
+    requires header { T (header_ok store.old) }
     requires by_index { (k : ℕ) → k < heights → get_or counts k 0 ≤ kept_count store.old k }
     ensures { store.new ≡ cut_back counts store.old }
 {
-    let mut k = 0u32;
-    while k < HEIGHTS {
+    for k in 0..HEIGHTS {
         cut_list(store, k, counts[k as usize]);
-        k += 1;
     }
 }

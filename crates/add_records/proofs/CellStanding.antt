@@ -24,8 +24,7 @@ use Rattle.laws.proofs.Occurring.{Occurs}
 use Rattle.laws.proofs.Counts.{add_cell-solid}
 use Rattle.laws.proofs.AddingTrees.{leaf-words}
 use Rattle.laws.proofs.Capacity.{grown-refl}
-use Rattle.add_cells.specs.declared.CellAdded.TheVariants as cell_added
-use Rattle.add_cells.specs.CellAdding.{CellAdding, cell_adding, kept_behind, kept_with, found_or, add_leaf_in, add_cell_in}
+use Rattle.add_cells.specs.CellAdding.{CellAdding, cell_added, cell_full, kept_behind, kept_with, found_or, add_leaf_in, add_cell_in}
 use Rattle.add_seek.proofs.SymmetryImage.{leaf-symmetry-of}
 use Rattle.add_seek.proofs.FindSymmetries.{find-symmetries}
 use Rattle.add_records.specs.RecordAdding.{ending_at}
@@ -72,7 +71,7 @@ module _ (g : Setting) (K : List (List Cell)) (good : Good g K) (at : ℕ) (with
     right = add_cell-done C few K good.sound k in-lists c okc ⊥ (λ z. absurd z) (λ z. absurd z) (λ z. absurd z)
 
     taken : (p : ℕ) (K' : List (List Cell)) (u : List ℕ) → Fitting g K' → u ≡ words_with g K' → (p ≡ 0 → ⊥) → Right (added p K') → Masked (added p K') → Counted (added p K')
-        → Standing (added p K') (cell_adding (cell_added.At p symmetry) u)
+        → Standing (added p K') (cell_added p symmetry u)
     unfolding ending_at
     taken p K' u f e ne d m s = record {
       same = refl;
@@ -88,12 +87,12 @@ module _ (g : Setting) (K : List (List Cell)) (good : Good g K) (at : ℕ) (with
 
     -- kept, by the words: its list's count against the capacity
     abbrev kept_or : Bool → CellAdding
-    kept_or b = cond b (cell_adding (cell_added.At (pointer 0 (length (cells_at K k))) symmetry) (kept_behind k (chain_of k c) row ws)) (cell_adding cell_added.Full ws)
+    kept_or b = cond b (cell_added (pointer 0 (length (cells_at K k))) symmetry (kept_behind k (chain_of k c) row ws)) (cell_full ws)
 
     kept-words : kept_with symmetry k (chain_of k c) row ws ≡ kept_or (ltb (length (cells_at K k)) C)
     unfolding kept_with
     kept-words =
-        ap₂ (λ (n D : ℕ). cond (ltb n D) (cell_adding (cell_added.At (pointer 0 n) symmetry) (kept_behind k (chain_of k c) row ws)) (cell_adding cell_added.Full ws))
+        ap₂ (λ (n D : ℕ). cond (ltb n D) (cell_added (pointer 0 n) symmetry (kept_behind k (chain_of k c) row ws)) (cell_full ws))
         (count-is g K good.fine k hk) (capacity-is g K good.fine)
 
     kept-stands : Right (keep C k c K) → Masked (keep C k c K) → Counted (keep C k c K) → Standing (keep C k c K) (kept_or (ltb (length (cells_at K k)) C))

@@ -14,8 +14,7 @@ use Rattle.paper.specs.Store.{Cell, heights, over_children, solid_of}
 use Rattle.paper.specs.Match.{Adding, full, added, add_cell, in_turn, add_tree}
 use Rattle.laws.proofs.Capacity.{Grown, grown-refl}
 use Rattle.add_cells.specs.CellAdding.{add_cell_in}
-use Rattle.add_records.specs.declared.RecordAdded.TheVariants.{At, Full}
-use Rattle.add_records.specs.RecordAdding.{RecordAdding, record_adding, ending_at, then_add, add_children, add_record}
+use Rattle.add_records.specs.RecordAdding.{RecordAdding, record_added, record_full, ending_at, then_add, add_children, add_record}
 use Rattle.add_records.proofs.Settings.{Setting, words_with, Good}
 use Rattle.add_records.proofs.Standing.{share, Took, Stands, After}
 use Rattle.add_records.proofs.CellStanding.{inner-stands}
@@ -75,10 +74,10 @@ module _ (g : Setting) (k : ℕ) (hk : suc k < heights) (right : Records g k) wh
     child-after : (t : Tree) (bs : List ℕ) (a : Adding ℕ) → add_tree g.capacity t k K ≡ a → (o : RecordAdding) → Stands g K k bs a o
         → After g K (suc k) (before t (reading n m bs)) (adds g k K ps) (then_add o go_on)
     unfolding then_add
-    child-after t bs full e (record_adding Full u) s = none_more g k K ps t u e s (reading n m bs)
-    child-after t bs full e (record_adding (At next q i n') u) s = absurd s
-    child-after t bs (added p K') e (record_adding Full u) s = absurd s
-    child-after t bs (added p K') e (record_adding (At next q i n') u) s = taken_next t bs p K' e next q i n' u s
+    child-after t bs full e (record_full u) s = none_more g k K ps t u e s (reading n m bs)
+    child-after t bs full e (record_added next q i n' u) s = absurd s
+    child-after t bs (added p K') e (record_full u) s = absurd s
+    child-after t bs (added p K') e (record_added next q i n' u) s = taken_next t bs p K' e next q i n' u s
 
     here-after : (r : Read Tree) (o : RecordAdding) → After g K k r (λ t. add_tree g.capacity t k K) o
         → After g K (suc k) (bind r (λ t bs. before t (reading n m bs))) (adds g k K ps) (then_add o go_on)

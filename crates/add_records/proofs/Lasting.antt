@@ -16,11 +16,10 @@ use Rattle.laws.specs.InOrder.{InOrder}
 use Rattle.laws.proofs.InOrder.{order-header, order-fine, order-sound, order-stored, stored-in-order}
 use Rattle.laws.proofs.Keys.{HasNumber, ok-number}
 use Rattle.outline.specs.Positions.{record_at, Agrees}
-use Rattle.outline.specs.declared.Reading.{Reading}
-use Rattle.outline.specs.declared.Reading.TheVariants.{Broken, EndsAt}
+use Rattle.outline.specs.Positions.{Reading}
+use Rattle.outline.specs.Positions.{Broken, EndsAt}
 use Rattle.outline.proofs.Agreeing.{record-agrees}
-use Rattle.add_records.specs.declared.RecordAdded.TheVariants.{At}
-use Rattle.add_records.specs.RecordAdding.{RecordAdding, record_adding, add_record, Whole}
+use Rattle.add_records.specs.RecordAdding.{RecordAdding, record_added, add_record, Whole}
 use Rattle.add_records.proofs.Settings.{Setting, words_with, Good}
 use Rattle.add_records.proofs.Standing.{Stands, After}
 use Rattle.add_records.proofs.RecordStanding.{record-stands}
@@ -62,7 +61,7 @@ module _ (ws file : List ℕ) (o : InOrder ws) (bytes : Bytes file) where
     pub number : HasNumber p
 
   module _ (k next p s n : ℕ) (u : List ℕ) where
-    lasts-added : (a : Adding ℕ) (rest : List ℕ) → Stands setting (kept_of ws) k rest a (record_adding (At next p s n) u) → Lasts u p
+    lasts-added : (a : Adding ℕ) (rest : List ℕ) → Stands setting (kept_of ws) k rest a (record_added next p s n u) → Lasts u p
     lasts-added full rest t = absurd t
     lasts-added (added q K') rest t = record {
       order = subst InOrder (sym t.words)
@@ -70,12 +69,12 @@ module _ (ws file : List ℕ) (o : InOrder ws) (bytes : Bytes file) where
       number = subst HasNumber (sym t.same) (ok-number (length (cells_at K' k)) q t.okp);
     }
 
-    lasts-read : (x : Reading) (r : Read Tree) → Whole x → Agrees file x r → AfterAdding k r (record_adding (At next p s n) u) → Lasts u p
+    lasts-read : (x : Reading) (r : Read Tree) → Whole x → Agrees file x r → AfterAdding k r (record_added next p s n u) → Lasts u p
     lasts-read Broken r w a t = absurd w
     lasts-read (EndsAt q) bad w a t = absurd a
     lasts-read (EndsAt q) (ok tree rest) w a t = lasts-added (add_tree (capacity_of ws) tree k (kept_of ws)) rest t
 
-    pub record-lasts : (at : ℕ) → k < heights → at ≤ length file → Whole (record_at file k at) → add_record file k at ws ≡ record_adding (At next p s n) u → Lasts u p
+    pub record-lasts : (at : ℕ) → k < heights → at ≤ length file → Whole (record_at file k at) → add_record file k at ws ≡ record_added next p s n u → Lasts u p
     record-lasts at h l w e =
         lasts-read (record_at file k at) (read_record k (drop at file)) w (record-agrees file k at l) (subst (AfterAdding k (read_record k (drop at file))) e (record-after k at h l))
 

@@ -13,8 +13,7 @@ use Rattle.laws.specs.Symmetries.{symmetry_of}
 use Rattle.laws.proofs.Invariant.{OkPointer}
 use Rattle.laws.proofs.Growing.{ext_trans}
 use Rattle.laws.proofs.Capacity.{Grown}
-use Rattle.add_records.specs.declared.RecordAdded.TheVariants.{At, Full}
-use Rattle.add_records.specs.RecordAdding.{RecordAdding, record_adding}
+use Rattle.add_records.specs.RecordAdding.{RecordAdding, record_added, record_full}
 use Rattle.add_records.proofs.Settings.{Setting, words_with, Fitting, Good}
 
 -- what a pointer of list k adds to the solid voxels of a cell: those of the cell that it names
@@ -44,10 +43,10 @@ module _ (g : Setting) where
 
   -- adding and taking answer alike
   abbrev pub Stands : List (List Cell) → ℕ → List ℕ → Adding ℕ → RecordAdding → Type 0
-  Stands K k rest full (record_adding Full u) = Stopped K u
-  Stands K k rest full (record_adding (At next q m v) u) = ⊥
-  Stands K k rest (added p K') (record_adding Full u) = ⊥
-  Stands K k rest (added p K') (record_adding (At next q m v) u) = Took K k p K' rest next q m v u
+  Stands K k rest full (record_full u) = Stopped K u
+  Stands K k rest full (record_added next q m v u) = ⊥
+  Stands K k rest (added p K') (record_full u) = ⊥
+  Stands K k rest (added p K') (record_added next q m v u) = Took K k p K' rest next q m v u
 
   -- of whatever is read
   abbrev pub After : {A : Type 0} → List (List Cell) → ℕ → Read A → (A → Adding ℕ) → RecordAdding → Type 0
@@ -60,10 +59,10 @@ module _ (g : Setting) where
   grown-both d e = record { ext = ext_trans d.ext e.ext; len = e.len ∙ d.len }
 
   pub since : {K K' : List (List Cell)} (k : ℕ) (rest : List ℕ) (a : Adding ℕ) (o : RecordAdding) → Grown K K' → Stands K' k rest a o → Stands K k rest a o
-  since k rest full (record_adding Full u) d s = record { lists = s.lists; fine = s.fine; grown = grown-both d s.grown; words = s.words }
-  since k rest full (record_adding (At next q m v) u) d s = s
-  since k rest (added p K'') (record_adding Full u) d s = s
-  since k rest (added p K'') (record_adding (At next q m v) u) d s = record {
+  since k rest full (record_full u) d s = record { lists = s.lists; fine = s.fine; grown = grown-both d s.grown; words = s.words }
+  since k rest full (record_added next q m v u) d s = s
+  since k rest (added p K'') (record_full u) d s = s
+  since k rest (added p K'') (record_added next q m v u) d s = record {
     same = s.same;
     words = s.words;
     good = s.good;

@@ -7,8 +7,7 @@ use Rattle.paper.specs.Outline.{Tree, Read, bad, ok, before}
 use Rattle.paper.specs.Store.{Cell}
 use Rattle.paper.specs.Match.{Adding, full, added, then, add_cell, in_turn, add_tree}
 use Rattle.laws.proofs.Capacity.{Grown}
-use Rattle.add_records.specs.declared.RecordAdded.TheVariants.{Full}
-use Rattle.add_records.specs.RecordAdding.{RecordAdding, record_adding}
+use Rattle.add_records.specs.RecordAdding.{RecordAdding, record_full}
 use Rattle.add_records.proofs.Settings.{Setting}
 use Rattle.add_records.proofs.Standing.{Stopped, Stands, After, since}
 
@@ -40,6 +39,6 @@ module _ (g : Setting) (k : ℕ) where
     one_more p K' e d bad o h = tt
     one_more p K' e d (ok ts bs) o h = since g (suc k) bs (adds K ps (t ∷ ts)) o d (subst (λ (a : Adding ℕ). Stands g K' (suc k) bs a o) (adds-cons p K' ts e) h)
 
-    pub none_more : (u : List ℕ) → add_tree C t k K ≡ full → Stopped g K u → (r : Read (List Tree)) → After g K (suc k) (before t r) (adds K ps) (record_adding Full u)
+    pub none_more : (u : List ℕ) → add_tree C t k K ≡ full → Stopped g K u → (r : Read (List Tree)) → After g K (suc k) (before t r) (adds K ps) (record_full u)
     none_more u e s bad = tt
-    none_more u e s (ok ts bs) = subst (λ (a : Adding ℕ). Stands g K (suc k) bs a (record_adding Full u)) (sym (adds-full ts e)) s
+    none_more u e s (ok ts bs) = subst (λ (a : Adding ℕ). Stands g K (suc k) bs a (record_full u)) (sym (adds-full ts e)) s

@@ -10,8 +10,7 @@ use Rattle.laws.specs.Chains.{NamesCells}
 use Rattle.laws.specs.InOrder.{InOrder}
 use Rattle.outline.specs.Positions.{children_at, record_at}
 use Rattle.add_cells.specs.CellAdding.{CellAdding, add_cell_in}
-use Rattle.add_records.specs.declared.RecordAdded.TheVariants.{At, Full}
-use Rattle.add_records.specs.RecordAdding.{record_adding, ending_at, add_children, add_record, Whole, AtRecord}
+use Rattle.add_records.specs.RecordAdding.{record_added, record_full, ending_at, add_children, add_record, Whole, AtRecord}
 use Rattle.add_records.proofs.Ways.{children-none, children-skip, children-full, children-next, record-inner}
 use Rattle.add_records.proofs.Wholes.{whole-inner, whole-skip, whole_here, whole-next, record-ended}
 use Rattle.add_records.proofs.Lasting.{Lasts, record-lasts, whole-within, names-set}
@@ -71,10 +70,10 @@ module _ {file ws₀ : List ℕ} {at h : ℕ} (inner : 3 ≤ h) (here : AtRecord
         pub turn-child : AtRecord file ws next (h - 1)
         turn-child = record { low = omega arith; high = omega (arith, here.high); whole = child-whole; store = t.order }
 
-        pub turn-full : {u : List ℕ} → add_record file (h - 1 - 2) next ws ≡ record_adding Full u → record_adding Full u ≡ add_record file (h - 2) at ws₀
+        pub turn-full : {u : List ℕ} → add_record file (h - 1 - 2) next ws ≡ record_full u → record_full u ≡ add_record file (h - 2) at ws₀
         turn-full e = sym (children-full _ _ _ _ _ _ _ _ _ l odd _ e) ∙ t.rest
 
-        module _ {u : List ℕ} {end p s n : ℕ} (e : add_record file (h - 1 - 2) next ws ≡ record_adding (At end p s n) u) where
+        module _ {u : List ℕ} {end p s n : ℕ} (e : add_record file (h - 1 - 2) next ws ≡ record_added end p s n u) where
           child-few : n ≤ 8 ^ 15
           child-few = child-most file (h - 1 - 2) next ws u end p s n (omega (arith, here.high)) e
 

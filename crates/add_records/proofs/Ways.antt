@@ -1,6 +1,6 @@
 -- The clauses of adding a record as the code comes to them: a leaf's, a cell's, and the children from child i on. By the value of each test on the
 -- way, at which the definitions compute. Assumes nothing.
-use mathlib.Core.Path.{◌≡◌}
+use mathlib.Core.Path.{◌≡◌, refl, ap}
 use mathlib.Core.List.{List}
 use Prim.Native.Nat.{ℕ, suc, ◌+◌, ◌-◌, ◌/◌, ◌%◌, ◌<◌, ◌≤◌}
 use native.Mathlib.Omega.{arith}
@@ -8,9 +8,26 @@ use lib.ListN.{get_or, set, drop, replicate}
 use borrow.Author.Tests.{eq-eqb, ne_eqb}
 use Rattle.paper.specs.Numbers.{num}
 use Rattle.paper.specs.Store.{leaf_solid}
-use Rattle.add_records.specs.declared.RecordAdded.TheVariants.{At, Full}
-use Rattle.add_cells.specs.CellAdding.{add_leaf_in, add_cell_in}
-use Rattle.add_records.specs.RecordAdding.{RecordAdding, record_adding, ending_at, then_add, add_children, add_record}
+use Rattle.std.specs.Prelude.{Result, Ok, Err, IsErrAnd}
+use Rattle.paper.specs.declared.Full.{Full}
+use Rattle.add_cells.specs.CellAdding.{CellAdding, cell_added, cell_full, add_leaf_in, add_cell_in}
+use Rattle.add_records.specs.declared.Record.{Record}
+use Rattle.add_records.specs.RecordAdding.{RecordAdding, record_added, record_full, record_adding, ending_at, then_add, add_children, add_record}
+
+-- ---- a cell that was added, or not, and the record that it ends
+
+pub ended : (next n : ℕ) {p m : ℕ} {ws : List ℕ} (x : CellAdding) → cell_added p m ws ≡ x → record_added next p m n ws ≡ ending_at next n x
+unfolding ending_at
+ended next n x e = ap (ending_at next n) e
+
+pub ended-full : (next n : ℕ) {ws : List ℕ} (x : CellAdding) → cell_full ws ≡ x → record_full ws ≡ ending_at next n x
+unfolding ending_at
+ended-full next n x e = ap (ending_at next n) e
+
+-- an answer that is no record says full
+pub answer-full : (Q : Full → Type 0) (r : Result Record Full) (ws : List ℕ) → IsErrAnd r Q → record_full ws ≡ record_adding r ws
+answer-full Q (Ok a) ws e = absurd e
+answer-full Q (Err full) ws e = refl
 
 -- ---- the children from child i on, each taken by f
 
@@ -31,11 +48,11 @@ module _ (f : ℕ → List ℕ → RecordAdding) (k i m at : ℕ) (c ms : List �
     children-skip e = rw (one_left i l, ne_eqb (m % 2) 1 (λ o. omega arith))
 
     module _ (e : m % 2 ≡ 0 → ⊥) (u : List ℕ) where
-      pub children-full : f at ws ≡ record_adding Full u → add_children f k (8 - i) m at c ms v ws ≡ record_adding Full u
+      pub children-full : f at ws ≡ record_full u → add_children f k (8 - i) m at c ms v ws ≡ record_full u
       unfolding add_children then_add
       children-full b = rw (one_left i l, eq-eqb (m % 2) 1 (omega arith), b)
 
-      pub children-next : (next p s n : ℕ) → f at ws ≡ record_adding (At next p s n) u
+      pub children-next : (next p s n : ℕ) → f at ws ≡ record_added next p s n u
           → add_children f k (8 - i) m at c ms v ws ≡ add_children f k (8 - (i + 1)) (m / 2) next (set c i p) (set ms i s) (v + n) u
       unfolding add_children then_add
       children-next next p s n b = rw (one_left i l, eq-eqb (m % 2) 1 (omega arith), b, place)

@@ -9,13 +9,11 @@ use lib.Dec.{eqb, leb, ltb}
 use lib.ListN.{length, drop, get_or, set, replicate}
 use borrow.Author.Tests.{eq-eqb, ne_eqb, ltb-false, leb-false}
 use Rattle.paper.specs.Numbers.{num}
-use Rattle.outline.specs.declared.Reading.{Reading}
-use Rattle.outline.specs.declared.Reading.TheVariants.{Broken, EndsAt}
+use Rattle.outline.specs.Positions.{Reading}
+use Rattle.outline.specs.Positions.{Broken, EndsAt}
 use Rattle.outline.specs.Positions.{and_then, leaf_at, children_at, record_at}
-use Rattle.add_cells.specs.declared.CellAdded.TheVariants as cell_added
-use Rattle.add_records.specs.declared.RecordAdded.TheVariants.{At, Full}
-use Rattle.add_cells.specs.CellAdding.{CellAdding, cell_adding, add_cell_in}
-use Rattle.add_records.specs.RecordAdding.{RecordAdding, record_adding, ending_at, then_add, add_children, add_record, Whole}
+use Rattle.add_cells.specs.CellAdding.{CellAdding, cell_added, cell_full, add_cell_in}
+use Rattle.add_records.specs.RecordAdding.{RecordAdding, record_added, record_full, ending_at, then_add, add_children, add_record, Whole}
 use Rattle.add_records.proofs.Ways.{one_left}
 
 -- ---- on the way
@@ -75,17 +73,17 @@ module _ (f : ℕ → Reading) (i m at : ℕ) (l : i < 8) (w : Whole (children_a
 -- a record is taken to where it is read to
 abbrev pub Ends : Reading → RecordAdding → Type 0
 Ends Broken x = Unit {0}
-Ends (EndsAt q) (record_adding (At next p s n) ws) = q ≡ next
-Ends (EndsAt q) (record_adding Full ws) = Unit {0}
+Ends (EndsAt q) (record_added next p s n ws) = q ≡ next
+Ends (EndsAt q) (record_full ws) = Unit {0}
 
-ends-full : (x : Reading) (ws : List ℕ) → Ends x (record_adding Full ws)
+ends-full : (x : Reading) (ws : List ℕ) → Ends x (record_full ws)
 ends-full Broken ws = tt
 ends-full (EndsAt q) ws = tt
 
 ends-placed : (next n : ℕ) (x : CellAdding) → Ends (EndsAt next) (ending_at next n x)
 unfolding ending_at
-ends-placed next n (cell_adding (cell_added.At p m) ws) = refl
-ends-placed next n (cell_adding cell_added.Full ws) = tt
+ends-placed next n (cell_added p m ws) = refl
+ends-placed next n (cell_full ws) = tt
 
 -- children each read by g and taken by f
 module _ (g : ℕ → Reading) (f : ℕ → List ℕ → RecordAdding) (k : ℕ) (alike : (at : ℕ) (ws : List ℕ) → Ends (g at) (f at ws)) where
@@ -93,8 +91,8 @@ module _ (g : ℕ → Reading) (f : ℕ → List ℕ → RecordAdding) (k : ℕ)
       → Ends (and_then r h) (then_add x i)
   unfolding and_then then_add
   ends-then Broken x h i e ih = tt
-  ends-then (EndsAt q) (record_adding (At next p s n) ws) h i e ih = rw e (ih next p s n ws)
-  ends-then (EndsAt q) (record_adding Full ws) h i e ih = ends-full (h q) ws
+  ends-then (EndsAt q) (record_added next p s n ws) h i e ih = rw e (ih next p s n ws)
+  ends-then (EndsAt q) (record_full ws) h i e ih = ends-full (h q) ws
 
   children-end : (n m at : ℕ) (c ms : List ℕ) (v : ℕ) (ws : List ℕ) → Ends (children_at g n m at) (add_children f k n m at c ms v ws)
   unfolding children_at add_children
@@ -128,10 +126,10 @@ record-ends file (suc k) at ws = go (leb (length file) at) (eqb (get_or file at 
     go false false h = h
 
 -- a record that is read to the end and taken is read to the position after it
-ends_at : (r : Reading) (x : RecordAdding) (next p s n : ℕ) (u : List ℕ) → Whole r → Ends r x → x ≡ record_adding (At next p s n) u → r ≡ EndsAt next
+ends_at : (r : Reading) (x : RecordAdding) (next p s n : ℕ) (u : List ℕ) → Whole r → Ends r x → x ≡ record_added next p s n u → r ≡ EndsAt next
 ends_at Broken x next p s n u w h e = absurd w
 ends_at (EndsAt q) x next p s n u w h e = rw (subst (Ends (EndsAt q)) e h)
 
-pub record-ended : (file : List ℕ) (k at : ℕ) (ws u : List ℕ) (next p s n : ℕ) → Whole (record_at file k at) → add_record file k at ws ≡ record_adding (At next p s n) u
+pub record-ended : (file : List ℕ) (k at : ℕ) (ws u : List ℕ) (next p s n : ℕ) → Whole (record_at file k at) → add_record file k at ws ≡ record_added next p s n u
     → record_at file k at ≡ EndsAt next
 record-ended file k at ws u next p s n w e = ends_at (record_at file k at) (add_record file k at ws) next p s n u w (record-ends file k at ws) e

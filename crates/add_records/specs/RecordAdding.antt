@@ -1,31 +1,36 @@
 -- A file's records added to the words of a store, by positions ('outline order'). Definitions only.
 -- The laws in proofs/RecordStanding.antt say that this is the paper's adding of the tree that is read.
-use Rattle.std.specs.Prelude.{cond, List, ℕ, zero, suc, ◌+◌, ◌-◌, ◌/◌, ◌%◌, ◌≤◌, eqb, drop, get_or, set, replicate}
+use Rattle.std.specs.Prelude.{cond, List, ℕ, zero, suc, ◌+◌, ◌-◌, ◌/◌, ◌%◌, ◌≤◌, Result, Ok, Err, eqb, drop, get_or, set, replicate}
 use Rattle.paper.specs.Numbers.{num}
 use Rattle.paper.specs.Rooms.{least, deepest}
 use Rattle.paper.specs.Store.{Cell, leaf_solid}
 use Rattle.laws.specs.InOrder.{InOrder}
 use Rattle.outline.specs.Positions.{record_at}
-use Rattle.outline.specs.declared.Reading.{Reading}
-use Rattle.outline.specs.declared.Reading.TheVariants.{Broken, EndsAt}
-use Rattle.add_cells.specs.declared.CellAdded.TheVariants as cell_added
-use Rattle.add_records.specs.declared.RecordAdded.{RecordAdded}
-use Rattle.add_records.specs.declared.RecordAdded.TheVariants.{At, Full}
-use Rattle.add_cells.specs.CellAdding.{CellAdding, cell_adding, add_leaf_in, add_cell_in}
+use Rattle.outline.specs.Positions.{Reading}
+use Rattle.outline.specs.Positions.{Broken, EndsAt}
+use Rattle.paper.specs.declared.Full.{Full}
+use Rattle.add_records.specs.declared.Record.{Record}
+use Rattle.add_cells.specs.CellAdding.{CellAdding, cell_added, cell_full, add_leaf_in, add_cell_in}
 
--- an answer (the position after, pointer, symmetry and how many solid voxels; or full), and the words as they are then
+-- the position after, the pointer, the symmetry and how many solid voxels, or full; and the words as they are then
 pub data RecordAdding : Type 0 where
-  record_adding : RecordAdded → List ℕ → RecordAdding
+  record_added : ℕ → ℕ → ℕ → ℕ → List ℕ → RecordAdding
+  record_full : List ℕ → RecordAdding
+
+-- an answer, so read
+abbrev pub record_adding : Result Record Full → List ℕ → RecordAdding
+record_adding (Ok r) ws = record_added r.end r.pointer r.symmetry r.solid ws
+record_adding (Err full) ws = record_full ws
 
 -- a cell of n solid voxels is added, and the record that called for it ends at a position
 unfoldable pub ending_at : ℕ → ℕ → CellAdding → RecordAdding
-ending_at next n (cell_adding (cell_added.At p m) ws) = record_adding (At next p m n) ws
-ending_at next n (cell_adding cell_added.Full ws) = record_adding Full ws
+ending_at next n (cell_added p m ws) = record_added next p m n ws
+ending_at next n (cell_full ws) = record_full ws
 
 -- what is done after a record was added
 unfoldable pub then_add : RecordAdding → (ℕ → ℕ → ℕ → ℕ → List ℕ → RecordAdding) → RecordAdding
-then_add (record_adding (At next p m n) ws) f = f next p m n ws
-then_add (record_adding Full ws) f = record_adding Full ws
+then_add (record_added next p m n ws) f = f next p m n ws
+then_add (record_full ws) f = record_full ws
 
 -- n children to go, mask m, each present one added by f; its pointer goes to place 8 - n of the cell c, its symmetry to that of ms, its solid voxels to
 -- the v so far; then the cell, of list k, is sought or kept

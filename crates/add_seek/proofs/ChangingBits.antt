@@ -13,7 +13,9 @@ use lib.Dec.{eqb}
 use lib.ListN.{get_or}
 use Rattle.laws.proofs.Tests.{false-unless}
 use Rattle.laws.proofs.Chains.{lowest-none}
-use Rattle.add_seek.specs.Sought.{Among, Changing, or_end, first_below}
+use Rattle.add_seek.specs.Sought.{Among, Changing}
+use Rattle.paper.specs.Match.{lowest}
+use mathlib.Core.Option as O
 
 -- ---- `bit_or` in any order
 
@@ -58,8 +60,7 @@ bits-more images t bits all = λ i h. at i h (ℕ_discrete i t)
 
 -- ---- a number ruled out by them
 
-pub no-image : (images : List ℕ) (bits leaf : ℕ) → Changing images 8 bits → (Among (get_or images 0 0) leaf bits → ⊥) → 8 ≡ first_below 8 (λ t. eqb (get_or images t 0) leaf)
-unfolding first_below
+pub no-image : (images : List ℕ) (bits leaf : ℕ) → Changing images 8 bits → (Among (get_or images 0 0) leaf bits → ⊥) → O.none ≡ lowest 8 0 (λ t. eqb (get_or images t 0) leaf)
 no-image images bits leaf all n =
-    sym (ap (or_end 8) (lowest-none 8 0 (λ t. eqb (get_or images t 0) leaf)
-    (λ t h. false-unless (eqb (get_or images t 0) leaf) (λ e. n (ap (λ (m : ℕ). bit_or (bit_xor (get_or images 0 0) m) bits) (sym (eqb-true (get_or images t 0) leaf e)) ∙ all t h)))))
+    sym (lowest-none 8 0 (λ t. eqb (get_or images t 0) leaf)
+    (λ t h. false-unless (eqb (get_or images t 0) leaf) (λ e. n (ap (λ (m : ℕ). bit_or (bit_xor (get_or images 0 0) m) bits) (sym (eqb-true (get_or images t 0) leaf e)) ∙ all t h))))

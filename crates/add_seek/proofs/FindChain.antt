@@ -18,8 +18,6 @@ use Rattle.laws.proofs.ChainWords.{head-right, next-right}
 use Rattle.laws.specs.InOrder.{InOrder}
 use Rattle.laws.proofs.InOrder.{order-header, order-chained}
 use Rattle.store.proofs.HeaderFacts.{Header, header}
-use Rattle.add_seek.specs.Sought.{first_below}
-use Rattle.add_seek.proofs.FindFirst.{first_some, first-none}
 
 -- ---- among cells
 
@@ -45,23 +43,23 @@ module _ (k j : ℕ) (p : Cell → ℕ → Bool) (cs : List Cell) where
       pub along-at : Next k j cs last (n - 1)
       along-at = next-at k j cs last (n - 1) there
 
-      module _ (only : Only k j p cs) {t : ℕ} (is : t ≡ first_below 8 (p (get_or cs (n - 1) []))) where
+      module _ (only : Only k j p cs) where
         found : (o : Option ℕ) → lowest 8 0 (p (get_or cs (n - 1) [])) ≡ o → find p cs 0 ≡ or_found o (n - 1) (find p (drop (suc (n - 1)) cs) (suc (n - 1)))
         found o e =
             a.finds ∙ rest-first k j p cs last (n - 1) only there
             ∙ ap (λ (r : Option ℕ). or_found r (n - 1) (find p (drop (suc (n - 1)) cs) (suc (n - 1)))) e
 
         -- it is the one sought
-        pub along-found : t < 8 → some (pointer t (n - 1)) ≡ find p cs 0
-        along-found h = sym (found (some t) (first_some 8 (p (get_or cs (n - 1) [])) is h))
+        pub along-found : {t : ℕ} → some t ≡ lowest 8 0 (p (get_or cs (n - 1) [])) → some (pointer t (n - 1)) ≡ find p cs 0
+        along-found {t} is = sym (found (some t) (sym is))
 
         -- it is not, and m is the next
-        pub along-next : 8 ≤ t → {m : ℕ} → m ≡ first_in k j (suc (n - 1)) (drop (suc (n - 1)) cs) → Along n m
-        along-next h {m} e =
+        pub along-next : O.none ≡ lowest 8 0 (p (get_or cs (n - 1) [])) → {m : ℕ} → m ≡ first_in k j (suc (n - 1)) (drop (suc (n - 1)) cs) → Along n m
+        along-next is {m} e =
             subst (λ (l : ℕ). Along l m) number (record {
               within = along-at.inside;
               next = e;
-              finds = found O.none (first-none 8 (p (get_or cs (n - 1) [])) is h);
+              finds = found O.none (sym is);
               ends = a.ends ∙ last_rest k j last cs last (n - 1) there;
             })
 
@@ -103,9 +101,9 @@ module _ (ws : List ℕ) (order : InOrder ws) (k : ℕ) (hk : k < heights) (j : 
         record { past = omega (arith, at.from); least = least; kept = kept; inside = inside; few = omega (arith, h.most) }
 
     -- what follows the cell, which is not the one sought
-    pub search-next : Only k j p (cells_at (kept_of ws) k) → {t : ℕ} → t ≡ first_below 8 (p (cell_at (kept_of ws) k (n - 1))) → 8 ≤ t → {m : ℕ}
+    pub search-next : Only k j p (cells_at (kept_of ws) k) → O.none ≡ lowest 8 0 (p (cell_at (kept_of ws) k (n - 1))) → {m : ℕ}
         → m ≡ get_or ws (next_position (capacity_of ws) k (n - 1)) 0 → Search n m
-    search-next only is h e =
+    search-next only is e =
         let at : Next k j (cells_at (kept_of ws) k) last (n - 1) = along-at k j p (cells_at (kept_of ws) k) a one in
-        along-next k j p (cells_at (kept_of ws) k) a one only is h
+        along-next k j p (cells_at (kept_of ws) k) a one only is
         (e ∙ next-right ws (order-header ws order).long (order-chained ws order) k (n - 1) hk (omega (arith, search-at.inside, search-at.least)) ∙ next-is (kept_of ws) k j (n - 1) at.is)

@@ -1,27 +1,34 @@
 -- A leaf's images: a leaf is found under the mirrors under which the leaf sought has it as its image, since a is b mirrored exactly where b is a mirrored.
 -- Assumes nothing.
 use mathlib.Core.Path.{◌≡◌, refl, sym, ap, ap₂, ◌∙◌}
+use mathlib.Core.Bool.{Bool}
 use mathlib.Core.List.{List}
-use Prim.Native.Nat.{ℕ, ◌+◌, ◌*◌, ◌/◌, ◌%◌, ◌^◌, ◌<◌, ◌≤◌}
-use native.Mathlib.Nat.{zero-add, not-suc-le-zero, mod-lt, div-add-mod'}
-use native.Mathlib.Decide.{ℕ_discrete}
+use mathlib.Core.Option.{Option, some}
+use mathlib.Core.Option as O
+use Prim.Native.Nat.{ℕ, ◌+◌, ◌-◌, ◌*◌, ◌/◌, ◌%◌, ◌^◌, ◌<◌}
+use native.Mathlib.Nat.{zero-add, mod-lt, div-add-mod'}
 use native.Mathlib.Omega.{arith}
 use borrow.Author.Tests.{eq-eqb}
 use lib.Bits.{xor_self}
-use lib.Dec.{T, eqb, eqb→eq}
-use lib.ListN.{length, get_or, set, replicate, length-set, length-replicate}
-use lib.Seq.{ext_get_or, get_or-set_same, get_or-set_other}
+use lib.Dec.{T, eqb, eqb→eq, lit<}
+use lib.ListN.{length, get_or}
+use lib.Seq.{ext_get_or}
 use Rattle.paper.specs.Numbers.{tabulate}
 use Rattle.paper.specs.Leaf.{mirror_leaf}
-use Rattle.paper.specs.Store.{Cell, leaf_no, leaf_solid, chain_of}
-use Rattle.paper.specs.Match.{matches, leaf_cell}
+use Rattle.paper.specs.Store.{Cell, cells_at, cell_at, pointer, capacity_of, head_position, next_position, kept_of, leaf_no, leaf_solid, chain_of}
+use Rattle.paper.specs.Match.{matches, lowest, find, leaf_cell}
 use Rattle.laws.proofs.Tests.{true-T, iff-eq}
 use Rattle.laws.proofs.Lists.{get_or-tabulate, length-tabulate}
-use Rattle.laws.specs.Chains.{exchanged}
+use Rattle.laws.specs.Chains.{last_of, exchanged}
+use Rattle.laws.specs.InOrder.{InOrder}
+use Rattle.laws.proofs.Kept.{kept-length}
+use Rattle.laws.proofs.Chains.{Only, chain-few}
+use Rattle.laws.proofs.Keys.{only-matches}
 use Rattle.laws.proofs.Leaves.{mirror_leaf-zero, mirror_leaf-mirror_leaf, mirror_leaf-lt}
 use Rattle.laws.proofs.AddingTrees.{leaf-words}
-use Rattle.add_seek.specs.Sought.{leaf_images, first_below}
-use Rattle.add_seek.proofs.FindFirst.{first-same}
+use Rattle.add_seek.specs.Sought.{leaf_images}
+use Rattle.add_seek.proofs.FindFirst.{lowest-same}
+use Rattle.add_seek.proofs.FindChain.{Along, KeptAt, search-head, search-at, search-next, along-found, along-nowhere, along-last}
 
 mirror-back : (t n : ℕ) → t < 8 → n < 2 ^ 64 → mirror_leaf t (mirror_leaf t n) ≡ n
 mirror-back t n ht h = mirror_leaf-mirror_leaf t t n ht ht ∙ ap (λ (u : ℕ). mirror_leaf u n) (xor_self t) ∙ mirror_leaf-zero n h
@@ -44,32 +51,19 @@ leaf-match K leaf t b = ap (λ (n : ℕ). eqb n (mirror_leaf t (leaf_no b))) (le
 pub image-at : (leaf t : ℕ) → t < 8 → get_or (leaf_images leaf) t 0 ≡ mirror_leaf t leaf
 image-at leaf t h = get_or-tabulate 8 0 t (λ u. mirror_leaf u leaf) 0 h ∙ ap (λ (u : ℕ). mirror_leaf u leaf) (zero-add t)
 
--- the images below t are in an array of eight
-pub record ImagesTo (leaf t : ℕ) (all : List ℕ) : Type 0 where
-  pub long : length all ≡ 8
-  pub each : (i : ℕ) → i < t → get_or all i 0 ≡ mirror_leaf i leaf
-
-pub images-none : (leaf : ℕ) → ImagesTo leaf 0 (replicate 8 0)
-images-none leaf = record { long = length-replicate {A = ℕ} 8 0; each = λ i h. absurd (not-suc-le-zero h) }
-
-module _ (leaf t : ℕ) (all : List ℕ) (a : ImagesTo leaf t all) where
-  pub images-more : t < 8 → {image : ℕ} → image ≡ mirror_leaf t leaf → ImagesTo leaf (t + 1) (set all t image)
-  images-more h {image} e = record { long = length-set all t image ∙ a.long; each = λ i l. at i l (ℕ_discrete i t) }
-    where
-      at : (i : ℕ) → i < t + 1 → Dec (i ≡ t) → get_or (set all t image) i 0 ≡ mirror_leaf i leaf
-      at i l (yes q) = ap (λ (n : ℕ). get_or (set all t image) n 0) q ∙ get_or-set_same all t image 0 (rw a.long h) ∙ e ∙ ap (λ (n : ℕ). mirror_leaf n leaf) (sym q)
-      at i l (no n) = get_or-set_other all t i image 0 n ∙ a.each i (omega arith)
-
-  pub images-all : 8 ≤ t → all ≡ leaf_images leaf
-  images-all h =
-      ext_get_or 0 all (leaf_images leaf) (a.long ∙ sym (length-tabulate 8 0 (λ u. mirror_leaf u leaf)))
-      (λ i l. a.each i (omega (arith, a.long)) ∙ sym (image-at leaf i (omega (arith, a.long))))
+-- eight numbers that are by index what f gives
+pub eight-numbers : (f : ℕ → ℕ) (all : List ℕ) → length all ≡ 8 → ((i : ℕ) → i < 8 → get_or all i 0 ≡ f i) → all ≡ tabulate 0 8 f
+eight-numbers f all long each =
+    ext_get_or 0 all (tabulate 0 8 f) (long ∙ sym (length-tabulate 8 0 f))
+    (λ i l.
+    let h : i < 8 = omega arith in
+    each i h ∙ sym (get_or-tabulate 8 0 i f 0 h ∙ ap f (zero-add i)))
 
 -- the first of them that a leaf is, and the lowest mirror under which the leaf sought matches it
 image-first : (K : List (List Cell)) (all : List ℕ) (leaf other : ℕ) (b : Cell) → leaf < 2 ^ 64 → other < 2 ^ 64 → all ≡ leaf_images leaf → other ≡ leaf_no b
-    → first_below 8 (λ t. eqb (get_or all t 0) other) ≡ first_below 8 (λ t. matches K 0 (leaf_cell leaf) b t)
+    → lowest 8 0 (λ t. eqb (get_or all t 0) other) ≡ lowest 8 0 (λ t. matches K 0 (leaf_cell leaf) b t)
 image-first K all leaf other b hl ho ea eo =
-    first-same 8 (λ t. eqb (get_or all t 0) other) (λ t. matches K 0 (leaf_cell leaf) b t)
+    lowest-same 8 0 (λ t. eqb (get_or all t 0) other) (λ t. matches K 0 (leaf_cell leaf) b t)
     (λ t h.
     ap (λ (i : ℕ). eqb i other) (ap (λ (l : List ℕ). get_or l t 0) ea ∙ image-at leaf t h) ∙ leaf-across t leaf other h hl ho
     ∙ ap (λ (n : ℕ). eqb leaf (mirror_leaf t n)) eo ∙ sym (leaf-match K leaf t b))
@@ -104,9 +98,9 @@ exchanged-eqb a b ha hb =
 
 pub exchanged-first : (K : List (List Cell)) (all images : List ℕ) (leaf other : ℕ) (b : Cell) → leaf < 2 ^ 64 → leaf_no b < 2 ^ 64 → images ≡ leaf_images leaf
     → all ≡ tabulate 0 8 (λ t. exchanged (get_or images t 0)) → other ≡ exchanged (leaf_no b)
-    → first_below 8 (λ t. eqb (get_or all t 0) other) ≡ first_below 8 (λ t. matches K 0 (leaf_cell leaf) b t)
+    → lowest 8 0 (λ t. eqb (get_or all t 0) other) ≡ lowest 8 0 (λ t. matches K 0 (leaf_cell leaf) b t)
 exchanged-first K all images leaf other b hl hb ei ea eo =
-    first-same 8 (λ t. eqb (get_or all t 0) other) (λ t. eqb (get_or images t 0) (leaf_no b))
+    lowest-same 8 0 (λ t. eqb (get_or all t 0) other) (λ t. eqb (get_or images t 0) (leaf_no b))
     (λ t h.
     let image : get_or images t 0 ≡ mirror_leaf t leaf = ap (λ (l : List ℕ). get_or l t 0) ei ∙ image-at leaf t h in
     ap₂ eqb (ap (λ (l : List ℕ). get_or l t 0) ea ∙ get_or-tabulate 8 0 t (λ u. exchanged (get_or images u 0)) 0 h ∙ ap (λ (u : ℕ). exchanged (get_or images u 0)) (zero-add t)) eo
@@ -116,3 +110,50 @@ exchanged-first K all images leaf other b hl hb ei ea eo =
 -- the chain of a leaf
 pub leaf-chain : (leaf : ℕ) → leaf_solid leaf ≡ chain_of 0 (leaf_cell leaf)
 leaf-chain leaf = ap leaf_solid (sym (leaf-words leaf))
+
+-- ---- the search for a leaf in its chain, in a store that is in order
+
+-- the leaf matches cell b under t
+abbrev pub leaf-passes : List ℕ → ℕ → Cell → ℕ → Bool
+leaf-passes ws leaf b t = matches (kept_of ws) 0 (leaf_cell leaf) b t
+
+-- where the search is: `last` is passed, n is the next
+abbrev pub LeafSearch : List ℕ → ℕ → ℕ → ℕ → Type 0
+LeafSearch ws leaf last n = Along 0 (chain_of 0 (leaf_cell leaf)) (leaf-passes ws leaf) (cells_at (kept_of ws) 0) last n
+
+module _ {ws : List ℕ} (order : InOrder ws) (leaf : ℕ) where
+  leaf-only : Only 0 (chain_of 0 (leaf_cell leaf)) (leaf-passes ws leaf) (cells_at (kept_of ws) 0)
+  leaf-only = only-matches (kept_of ws) 0 (leaf_cell leaf) (cells_at (kept_of ws) 0) tt (λ q h. tt)
+
+  pub leaf-head : {j n : ℕ} → j ≡ leaf_solid leaf → n ≡ get_or ws (head_position (capacity_of ws) 0 j) 0 → LeafSearch ws leaf 0 n
+  leaf-head chained e =
+      search-head ws order 0 (lit< tt) (chain_of 0 (leaf_cell leaf)) (leaf-passes ws leaf) (chain-few 0 (leaf_cell leaf))
+      (e ∙ ap (λ (i : ℕ). get_or ws (head_position (capacity_of ws) 0 i) 0) (chained ∙ leaf-chain leaf))
+
+  module _ {last n : ℕ} (a : LeafSearch ws leaf last n) where
+    module _ (one : n ≡ 0 → ⊥) where
+      pub leaf-kept-at : KeptAt ws 0 last n
+      leaf-kept-at = search-at ws order 0 (lit< tt) (chain_of 0 (leaf_cell leaf)) (leaf-passes ws leaf) a one
+
+      -- `all` has the leaf's images, and b is the leaf at n, each with its words exchanged
+      module _ {all images : List ℕ} {b : ℕ} (fits : leaf < 2 ^ 64) (ei : images ≡ leaf_images leaf) (ea : all ≡ tabulate 0 8 (λ t. exchanged (get_or images t 0)))
+          (eb : b ≡ exchanged (leaf_no (cell_at (kept_of ws) 0 (n - 1)))) where
+        mirrors : lowest 8 0 (λ t. eqb (get_or all t 0) b) ≡ lowest 8 0 (leaf-passes ws leaf (cell_at (kept_of ws) 0 (n - 1)))
+        mirrors =
+            exchanged-first (kept_of ws) all images leaf b (cell_at (kept_of ws) 0 (n - 1)) fits
+            (order.leaves (n - 1) (rw (kept-length ws 0 (lit< tt)) leaf-kept-at.kept)) ei ea eb
+
+        pub leaf-next : O.none ≡ lowest 8 0 (λ t. eqb (get_or all t 0) b) → {m : ℕ} → m ≡ get_or ws (next_position (capacity_of ws) 0 (n - 1)) 0 → LeafSearch ws leaf n m
+        leaf-next none e =
+            search-next ws order 0 (lit< tt) (chain_of 0 (leaf_cell leaf)) (leaf-passes ws leaf) a one leaf-only (none ∙ mirrors) e
+
+        pub leaf-found : {t p : ℕ} → some t ≡ lowest 8 0 (λ t. eqb (get_or all t 0) b) → p ≡ pointer t (n - 1) → some p ≡ find (leaf-passes ws leaf) (cells_at (kept_of ws) 0) 0
+        leaf-found found e =
+            ap some e ∙ along-found 0 (chain_of 0 (leaf_cell leaf)) (leaf-passes ws leaf) (cells_at (kept_of ws) 0) a one leaf-only (found ∙ mirrors)
+
+    module _ (over : n ≡ 0) where
+      pub leaf-nowhere : O.none ≡ find (leaf-passes ws leaf) (cells_at (kept_of ws) 0) 0
+      leaf-nowhere = along-nowhere 0 (chain_of 0 (leaf_cell leaf)) (leaf-passes ws leaf) (cells_at (kept_of ws) 0) a over leaf-only
+
+      pub leaf-last : last ≡ last_of (kept_of ws) 0 (chain_of 0 (leaf_cell leaf))
+      leaf-last = along-last 0 (chain_of 0 (leaf_cell leaf)) (leaf-passes ws leaf) (cells_at (kept_of ws) 0) a over

@@ -3,19 +3,20 @@
 ghost use Rattle.std.specs.Prelude.{◌≡◌, ◌≤◌, ◌<◌, eqb, get_or};
 ghost use Rattle.paper.specs.Numbers.{tabulate};
 ghost use Rattle.paper.specs.Store.{heights, kept_of, cells_at, key_of, chain_of};
-ghost use Rattle.paper.specs.Match.{matches, find, leaf_cell};
+ghost use Rattle.paper.specs.Match.{matches, lowest, find, leaf_cell};
 ghost use Rattle.laws.specs.Symmetries.{symmetry_match};
 ghost use Rattle.laws.specs.Chains.{last_of, exchanged, NamesCells};
 ghost use Rattle.laws.specs.InOrder.{InOrder};
-ghost use Rattle.add_seek.specs.Sought.{sought, EndsAt, leaf_images, first_below, Changing};
+ghost use Rattle.add_seek.specs.Sought.{sought, EndsAt, mirror_found, leaf_images, Changing};
 
 use crate::symmetries::same_cell;
 use leaf::{leaf_solid, mirror_leaf};
 use limits::MIRRORS;
-use store::{HIGH_WORD, cell_at, head_at, leaf_exchanged_at, next_at};
+use store::{HIGH_WORD, Store};
 use store_pointers::{cell_chain, cell_key, numbers_differ, pointer};
 
-// The pointer found; or none, with the last cell of the chain, its number plus 1, or 0 where the chain is empty.
+// The pointer found; or none, with the last cell of the chain, its number plus 1, or 0 where the chain is empty. An enum of its own: both are answers,
+// so that neither is a failure which `?` could hand on.
 #[derive(Clone, Copy)]
 pub enum Sought {
     At(u32),
@@ -26,13 +27,7 @@ pub enum Sought {
 pub fn leaf_images(leaf: u64) -> [u64; 8]
     ensures { result ≡ leaf_images leaf }
 {
-    let mut all = [0u64; 8];
-    let mut t = 0u32;
-    while t < MIRRORS {
-        all[t as usize] = mirror_leaf(leaf, t);
-        t += 1;
-    }
-    all
+    std::array::from_fn(|t| mirror_leaf(leaf, t as u32))
 }
 
 // The bits in which the images of a leaf are not all alike.
@@ -40,30 +35,26 @@ fn changing_bits(images: [u64; 8]) -> u64
     ensures { Changing images 8 result }
 {
     let mut bits = 0u64;
-    let mut t = 0u32;
-    while t < MIRRORS {
-        bits = bits | (images[0] ^ images[t as usize]);
-        t += 1;
+    for image in &images {
+        bits |= images[0] ^ *image;
     }
     bits
 }
 
-// The lowest mirror whose image this leaf is, or 8; `bits` are those in which the images are not all alike: a leaf that differs from the first in another bit is none of them.
-fn image_of(images: [u64; 8], bits: u64, leaf: u64) -> u32
+// The lowest mirror whose image this leaf is; `bits` are those in which the images are not all alike: a leaf that differs from the first in another bit is none of them.
+fn image_of(images: [u64; 8], bits: u64, leaf: u64) -> Option<u32>
     requires { Changing images 8 bits }
-    ensures { result ≡ first_below 8 (λ t. eqb (get_or images t 0) leaf) }
+    ensures { mirror_found result ≡ lowest 8 0 (λ t. eqb (get_or images t 0) leaf) }
 {
     if (images[0] ^ leaf) | bits != bits {
-        return MIRRORS;
+        return None;
     }
-    let mut t = 0u32;
-    while t < MIRRORS {
+    for t in 0..MIRRORS {
         if images[t as usize] == leaf {
-            return t;
+            return Some(t);
         }
-        t += 1;
     }
-    MIRRORS
+    None
 }
 
 // A leaf with its two words exchanged, as `leaf_exchanged_at` reads it.
@@ -77,83 +68,72 @@ fn exchange(leaf: u64) -> u64
 fn exchange_all(images: [u64; 8]) -> [u64; 8]
     ensures { result ≡ tabulate 0 8 (λ t. exchanged (get_or images t 0)) }
 {
-    [
-        exchange(images[0]),
-        exchange(images[1]),
-        exchange(images[2]),
-        exchange(images[3]),
-        exchange(images[4]),
-        exchange(images[5]),
-        exchange(images[6]),
-        exchange(images[7]),
-    ]
+    images.map(exchange)
 }
 
-// A leaf sought among those kept, by its eight images.
-pub fn find_leaf(store: &[u32], leaf: u64, images: [u64; 8]) -> Sought
-    requires in_order { InOrder store.now }
+// A leaf sought among those kept, by its eight images. Beside `find_cell`, and not one function with it: a leaf is compared as one number with its
+// images, a cell by its key and pointers, and both run once for each cell of a chain.
+pub fn find_leaf(store: Store, leaf: u64, images: [u64; 8]) -> Sought
+    requires in_order { InOrder store.words.now }
     requires images_value { images ≡ leaf_images leaf }
-    ensures result_value { sought result ≡ find (λ b t. matches (kept_of store.now) 0 (leaf_cell leaf) b t) (cells_at (kept_of store.now) 0) 0 }
-    ensures ends_at { EndsAt result (last_of (kept_of store.now) 0 (chain_of 0 (leaf_cell leaf))) }
+    ensures result_value { sought result ≡ find (λ b t. matches (kept_of store.entry.words.now) 0 (leaf_cell leaf) b t) (cells_at (kept_of store.entry.words.now) 0) 0 }
+    ensures ends_at { EndsAt result (last_of (kept_of store.entry.words.now) 0 (chain_of 0 (leaf_cell leaf))) }
 {
     let all = exchange_all(images);
     let bits = changing_bits(all);
     let mut last = 0u32;
-    let mut n = head_at(store, 0, leaf_solid(leaf) as u32);
+    let mut n = store.head_at(0, leaf_solid(leaf) as u32);
+    // A chain is followed by its next words: no range and no slice has its numbers.
     while n != 0 {
-        let t = image_of(all, bits, leaf_exchanged_at(store, n - 1));
-        if t < MIRRORS {
+        if let Some(t) = image_of(all, bits, store.leaf_exchanged_at(n - 1)) {
             return Sought::At(pointer(t, n - 1));
         }
         last = n;
-        n = next_at(store, 0, n - 1);
+        n = store.next_at(0, n - 1);
     }
     Sought::Nowhere(last)
 }
 
-// The lowest mirror under which a cell matches another, or 8; `symmetries` are those of the cell's children, and `key` is its key: a cell of another key
+// The lowest mirror under which a cell matches another; `symmetries` are those of the cell's children, and `key` is its key: a cell of another key
 // doesn't match, whatever the mirror. Under each the first pointer is looked at before the arrays are handed on.
-fn match_of(cell: [u32; 8], key: u32, symmetries: [u8; 8], other: [u32; 8]) -> u32
+fn match_of(cell: [u32; 8], key: u32, symmetries: [u8; 8], other: [u32; 8]) -> Option<u32>
     requires names_cells { NamesCells cell }
-    requires names_cells_2 { NamesCells other }
+    requires other_names_cells { NamesCells other }
     requires key_value { key ≡ key_of cell }
-    ensures { result ≡ first_below 8 (symmetry_match symmetries cell other) }
+    ensures { mirror_found result ≡ lowest 8 0 (symmetry_match symmetries cell other) }
 {
     if cell_key(other) != key {
-        return MIRRORS;
+        return None;
     }
-    let mut next = 0u32;
-    while next < MIRRORS {
-        let mirror = next;
-        next += 1;
+    for mirror in 0..MIRRORS {
         if numbers_differ(cell[0], other[mirror as usize]) {
             continue;
         }
         if same_cell(cell, symmetries, mirror, other) {
-            return mirror;
+            return Some(mirror);
         }
     }
-    MIRRORS
+    None
 }
 
 // A cell sought among those kept in list k, k not 0, `symmetries` being those of its children.
-pub fn find_cell(store: &[u32], k: u32, cell: [u32; 8], symmetries: [u8; 8]) -> Sought
-    requires in_order { InOrder store.now }
-    requires le_k { (1 ≤ k) × (k < heights) }
+pub fn find_cell(store: Store, k: u32, cell: [u32; 8], symmetries: [u8; 8]) -> Sought
+    requires in_order { InOrder store.words.now }
+    requires inner_list { (1 ≤ k) × (k < heights) }
     requires names_cells { NamesCells cell }
-    ensures result_value { sought result ≡ find (symmetry_match symmetries cell) (cells_at (kept_of store.now) k) 0 }
-    ensures ends_at { EndsAt result (last_of (kept_of store.now) k (chain_of k cell)) }
+    ensures result_value { sought result ≡ find (symmetry_match symmetries cell) (cells_at (kept_of store.entry.words.now) k) 0 }
+    ensures ends_at { EndsAt result (last_of (kept_of store.entry.words.now) k (chain_of k cell)) }
 {
     let key = cell_key(cell);
     let mut last = 0u32;
-    let mut n = head_at(store, k, cell_chain(cell));
+    let mut n = store.head_at(k, cell_chain(cell));
+    // A chain is followed by its next words, as for a leaf.
     while n != 0 {
-        let mirror = match_of(cell, key, symmetries, cell_at(store, k, n - 1));
-        if mirror < MIRRORS {
+        if let Some(mirror) = match_of(cell, key, symmetries, store.cell_at(k, n - 1)) {
             return Sought::At(pointer(mirror, n - 1));
         }
         last = n;
-        n = next_at(store, k, n - 1);
+        n = store.next_at(k, n - 1);
     }
     Sought::Nowhere(last)
 }

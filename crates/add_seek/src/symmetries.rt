@@ -2,35 +2,28 @@
 // cell's children, matching looks at no cell below them. A cell matches another under t exactly where it
 // matches the other so mirrored under 0, and a leaf matches itself under t where it is its own image.
 ghost use Rattle.std.specs.Prelude.{◌≡◌, not, ◌<◌, eqb};
-ghost use Rattle.paper.specs.Numbers.{bit_for};
 ghost use Rattle.paper.specs.Leaf.{mirror_leaf};
 ghost use Rattle.paper.specs.Match.{pointer_match};
 ghost use Rattle.laws.specs.Symmetries.{symmetry_for, marked, symmetry_match};
 ghost use Rattle.laws.specs.Chains.{NamesCells};
 ghost use Rattle.add_seek.specs.Sought.{leaf_images};
 
-use limits::{CHILDREN, MIRRORS};
+use leaf::symmetry_of;
+use limits::CHILDREN;
 use store_pointers::{cell_number, mirrored_pointer, numbers_differ, tag};
-
-// 1 where a leaf is its image, 0 elsewhere.
-fn leaf_bit(leaf: u64, image: u64) -> u8
-    ensures { result ≡ bit_for (eqb leaf image) }
-{
-    if leaf == image { 1 } else { 0 }
-}
 
 // The symmetry of a leaf, from its eight images.
 pub fn image_symmetry(leaf: u64, images: [u64; 8]) -> u8
     requires { images ≡ leaf_images leaf }
     ensures { result ≡ symmetry_for (λ t. eqb leaf (mirror_leaf t leaf)) }
 {
-    let mut t = MIRRORS;
-    let mut symmetry = 0u8;
-    while t != 0 {
-        t -= 1;
-        symmetry = 2 * symmetry + leaf_bit(leaf, images[t as usize]);
-    }
-    symmetry
+    symmetry_of(
+        |t|
+            requires below { t < 8 }
+            requires given { images ≡ leaf_images leaf }
+            ensures { result ≡ eqb leaf (mirror_leaf t leaf) }
+        { leaf == images[t as usize] },
+    )
 }
 
 // Whether two pointers don't match under mirror 0, `symmetry` being that of the cell that p names.
@@ -55,9 +48,7 @@ pub fn same_cell(cell: [u32; 8], symmetries: [u8; 8], mirror: u32, other: [u32; 
     requires names_cells { NamesCells other }
     ensures { result ≡ symmetry_match symmetries cell other mirror }
 {
-    let mut i = CHILDREN;
-    while i != 0 {
-        i -= 1;
+    for i in (0..CHILDREN).rev() {
         let at = i as usize;
         let from = (i ^ mirror) as usize;
         let q = mirrored_pointer(other[from], mirror);
@@ -68,19 +59,16 @@ pub fn same_cell(cell: [u32; 8], symmetries: [u8; 8], mirror: u32, other: [u32; 
     true
 }
 
-// 1 where a cell matches itself under a mirror, 0 elsewhere. Most cells that don't, differ in the first pointer: it is looked at before the arrays are handed on.
-fn cell_bit(cell: [u32; 8], symmetries: [u8; 8], mirror: u32) -> u8
+// Whether a cell matches itself under a mirror. Most cells that don't, differ in the first pointer: it is looked at before the arrays are handed on.
+fn matches_itself(cell: [u32; 8], symmetries: [u8; 8], mirror: u32) -> bool
     requires mirror_bound { mirror < 8 }
     requires names_cells { NamesCells cell }
-    ensures { result ≡ bit_for (symmetry_match symmetries cell cell mirror) }
+    ensures { result ≡ symmetry_match symmetries cell cell mirror }
 {
     if numbers_differ(cell[0], cell[mirror as usize]) {
-        return 0;
+        return false;
     }
-    if same_cell(cell, symmetries, mirror, cell) {
-        return 1;
-    }
-    0
+    same_cell(cell, symmetries, mirror, cell)
 }
 
 // The symmetry of a cell, from those of its children.
@@ -88,11 +76,5 @@ pub fn cell_symmetry(cell: [u32; 8], symmetries: [u8; 8]) -> u8
     requires { NamesCells cell }
     ensures { result ≡ symmetry_for (symmetry_match symmetries cell cell) }
 {
-    let mut t = MIRRORS;
-    let mut symmetry = 0u8;
-    while t != 0 {
-        t -= 1;
-        symmetry = 2 * symmetry + cell_bit(cell, symmetries, t);
-    }
-    symmetry
+    symmetry_of(|mirror| matches_itself(cell, symmetries, mirror))
 }

@@ -1,5 +1,4 @@
--- what is counted of a box, and a scene's box
+-- what is counted of a box
 pub mod Parts
-pub mod Scenes
 -- the ways through the call
 pub mod BoxTests

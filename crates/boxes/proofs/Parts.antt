@@ -17,16 +17,20 @@ use Rattle.paper.specs.Rooms.{Point, in_child, mirrored, box_count, clipped, far
 use Rattle.paper.specs.Outline.{edge}
 use Rattle.paper.specs.Leaf.{leaf_voxel}
 use Rattle.paper.specs.Store.{Cell, heights, kept_count, kept_of, cells_at, cell_at, tag_of, cell_no, leaf_no, bad_pointer, count_of}
-use Rattle.paper.specs.Questions.{plus, total, count_taken, cell_tally}
-use Rattle.paper.specs.declared.Tally.{Tally}
-use Rattle.paper.specs.declared.Tally.TheVariants.{Solid, Damaged}
+use Rattle.std.specs.Prelude.{Result, Ok, Err, IsErr}
+use Rattle.paper.specs.declared.Damaged.{Damaged as Unsound}
+use Rattle.paper.specs.Questions.{tally_of, plus, total, count_taken, cell_tally}
+use Rattle.paper.specs.Questions.{Tally}
+use Rattle.paper.specs.Questions.{Solid, Damaged}
 use Rattle.laws.proofs.BoxTallies.{whole-box, pointer-tally-most}
 use Rattle.laws.proofs.Kept.{kept-length}
 use Rattle.laws.proofs.OutlineWriting.{edge-twice}
 use Rattle.laws.proofs.Tests.{true-T, not-not, false-unless, all-at}
+use Rattle.points.specs.Points.{at}
 use Rattle.points.specs.Seeing.{child_no_at}
 use Rattle.points.proofs.Seen.{edge-pos}
-use Rattle.boxes_parts.specs.Parts.{chosen, past_in, Spans, shares_in, spreads_over}
+use Rattle.boxes_parts.specs.declared.Part.{Part}
+use Rattle.boxes_parts.specs.Parts.{NoPart, ChildPart, chosen, past_in, Spans, shares_in, spreads_over}
 use Rattle.boxes_parts.proofs.Cuts.{start_in, end_in, cut-start, cut-end, cut-spans, cut-none, only_one, number_lt}
 use Rattle.boxes.specs.Box.{child_taken, tally_in, pointer_in, children_in, cell_part, pointer_part}
 
@@ -115,13 +119,25 @@ module _ (ws : List ℕ) (k : ℕ) (hk : k < heights) (c : Cell) (m : ℕ) (low 
   abbrev high_here : Point
   high_here = past_in (edge (suc k)) last
 
-  -- a child that shares a voxel with the box
-  pub child-shared : shares_in (child_no_at k low) (child_no_at k last) i ≡ true → pointer_part ws k (get_or c (bit_xor i m) 0) m (start_in k i low) (end_in k i last) ≡ child_in ws k c m low_here high_here i
+  -- a child that has a part of the box, and one that has none
+  pub child-part : (part : Part) → ChildPart k i low last part → pointer_part ws k (get_or c (bit_xor i m) 0) m (at part.low) (at part.last) ≡ child_in ws k c m low_here high_here i
+  child-part part p = sym (ap₂ (pointer_in ws k (get_or c (bit_xor i m) 0) m) p.begins p.ends)
+
+  pub child-none : NoPart k i low last → child_in ws k c m low_here high_here i ≡ Solid 0
+  child-none e = pointer-outside ws k (get_or c (bit_xor i m) 0) m (clipped (edge k) i low_here) (clipped (edge k) i high_here) e
+
+  -- the same by its number
+  child-shared : shares_in (child_no_at k low) (child_no_at k last) i ≡ true → pointer_part ws k (get_or c (bit_xor i m) 0) m (start_in k i low) (end_in k i last) ≡ child_in ws k c m low_here high_here i
   child-shared e = sym (ap₂ (pointer_in ws k (get_or c (bit_xor i m) 0) m) (cut-start k hk low last i hi e) (cut-end k hk low last i hi e))
 
-  -- and one that doesn't
-  pub child-apart : shares_in (child_no_at k low) (child_no_at k last) i ≡ false → child_in ws k c m low_here high_here i ≡ Solid 0
-  child-apart e = pointer-outside ws k (get_or c (bit_xor i m) 0) m (clipped (edge k) i low_here) (clipped (edge k) i high_here) (cut-none k hk low last i hi e)
+  child-apart : shares_in (child_no_at k low) (child_no_at k last) i ≡ false → child_in ws k c m low_here high_here i ≡ Solid 0
+  child-apart e = child-none (cut-none k hk low last i hi e)
+
+-- ---- answers read as tallies
+
+pub err-tally : (r : Result ℕ Unsound) → IsErr r → Damaged ≡ tally_of r
+err-tally (Err e) h = refl
+err-tally (Ok n) h = absurd (true≢false (sym h))
 
 -- ---- tallies added up
 
@@ -188,20 +204,20 @@ module _ (ws : List ℕ) (k : ℕ) (c : Cell) (m : ℕ) (low high : Point) where
   unfolding children_in total
   one_more left = refl
 
-  last_of : (left : ℕ) → (left ≡ 0 → ⊥) → found left ≡ plus (found (left - 1)) (of_child (left - 1))
-  last_of left z = ap found (sym (one_up left z)) ∙ one_more (left - 1)
+  last_of : (left : ℕ) → 0 < left → found left ≡ plus (found (left - 1)) (of_child (left - 1))
+  last_of left z = let e : left ≡ suc (left - 1) = omega arith in ap found e ∙ one_more (left - 1)
 
-  pub left-damaged : (left sum : ℕ) → (left ≡ 0 → ⊥) → of_child (left - 1) ≡ Damaged → Left left sum → Damaged ≡ found 8
+  pub left-damaged : (left sum : ℕ) → 0 < left → of_child (left - 1) ≡ Damaged → Left left sum → Damaged ≡ found 8
   left-damaged left sum z e l =
       sym (ap (λ (t : Tally). plus t (Solid sum)) (last_of left z ∙ ap (plus (found (left - 1))) e) ∙ damaged-behind (found (left - 1)) sum) ∙ l
 
-  pub left-fewer : (left sum n : ℕ) → (left ≡ 0 → ⊥) → of_child (left - 1) ≡ Solid n → Left left sum → Left (left - 1) (sum + n)
+  pub left-fewer : (left sum n : ℕ) → 0 < left → of_child (left - 1) ≡ Solid n → Left left sum → Left (left - 1) (sum + n)
   left-fewer left sum n z e l =
       sym (ap (λ (t : Tally). plus t (Solid sum)) (last_of left z ∙ ap (plus (found (left - 1))) e) ∙ solid-behind (found (left - 1)) n sum) ∙ l
 
-  pub left-none : (left sum : ℕ) → left ≡ 0 → Left left sum → Solid sum ≡ found 8
+  pub left-none : (left sum : ℕ) → left ≤ 0 → Left left sum → Solid sum ≡ found 8
   unfolding children_in total
-  left-none left sum e l = sym (ap (λ (j : ℕ). plus (found j) (Solid sum)) e ∙ nothing-plus (Solid sum)) ∙ l
+  left-none left sum h l = let e : left ≡ 0 = omega arith in sym (ap (λ (j : ℕ). plus (found j) (Solid sum)) e ∙ nothing-plus (Solid sum)) ∙ l
 
 -- ---- a cell
 

@@ -1,5 +1,5 @@
 -- What is counted of a box in a cell, by its first voxel and its last; what paper's box question finds, and tells. Definitions only.
-use Rattle.std.specs.Prelude.{List, [], ◌∷◌, ℕ, suc, ◌<◌, ◌≤◌, length, get_or}
+use Rattle.std.specs.Prelude.{List, [], ◌∷◌, ℕ, suc, ◌<◌, ◌≤◌, length, get_or, Result, Ok, Err, Option, None, Some}
 use Rattle.std.specs.Int.Bits.{bit_xor}
 use Rattle.paper.specs.Rooms.{Point, in_child, clipped}
 use Rattle.paper.specs.Outline.{edge}
@@ -10,10 +10,10 @@ use Rattle.paper.specs.Answers.{Told, told}
 use Rattle.points.specs.Seeing.{child_no_at}
 use Rattle.store_entry.specs.Entry.{past_entry}
 use Rattle.boxes_parts.specs.Parts.{InCell, past_in}
-use Rattle.paper.specs.declared.Tally.{Tally}
-use Rattle.paper.specs.declared.Tally.TheVariants.{Solid as Counted, Damaged as Unsound}
-use Rattle.boxes.specs.declared.count.Ended.{Ended}
-use Rattle.boxes.specs.declared.count.Ended.TheVariants.{Absent, Damaged, At}
+use Rattle.paper.specs.Questions.{Tally}
+use Rattle.paper.specs.Questions.{Solid as Counted, Damaged as Unsound}
+use Rattle.paper.specs.declared.Damaged.{Damaged}
+use Rattle.boxes.specs.declared.count.Place.{Place}
 
 -- ---- by its first voxel and its last, in a cell
 
@@ -43,21 +43,21 @@ abbrev pub pointer_part : List ℕ → ℕ → ℕ → ℕ → Point → Point �
 pointer_part ws k p m low last = pointer_in ws k p m (in_child (edge k) low) (past_in (edge k) last)
 
 -- where the way down ended
-abbrev pub tally_at : List ℕ → Point → Point → Ended → Tally
-tally_at ws low last Absent = Counted 0
-tally_at ws low last Damaged = Unsound
-tally_at ws low last (At k n m) = cell_part ws k n m low last
+abbrev pub tally_at : List ℕ → Point → Point → Result (Option Place) Damaged → Tally
+tally_at ws low last (Err e) = Unsound
+tally_at ws low last (Ok None) = Counted 0
+tally_at ws low last (Ok (Some p)) = cell_part ws p.list p.number p.mirror low last
 
 -- a cell where it ends is kept, at list k or below
-pub record Kept (ws : List ℕ) (k : ℕ) (low last : Point) (list n m : ℕ) : Type 0 where
-  pub under : list ≤ k
-  pub kept : n < kept_count ws list
-  pub within : InCell list m low last
+pub record Kept (ws : List ℕ) (k : ℕ) (low last : Point) (p : Place) : Type 0 where
+  pub under : p.list ≤ k
+  pub kept : p.number < kept_count ws p.list
+  pub within : InCell p.list p.mirror low last
 
-abbrev pub AtKept : List ℕ → ℕ → Point → Point → Ended → Type 0
-AtKept ws k low last Absent = Unit {0}
-AtKept ws k low last Damaged = Unit {0}
-AtKept ws k low last (At list n m) = Kept ws k low last list n m
+abbrev pub AtKept : List ℕ → ℕ → Point → Point → Result (Option Place) Damaged → Type 0
+AtKept ws k low last (Err e) = Unit {0}
+AtKept ws k low last (Ok None) = Unit {0}
+AtKept ws k low last (Ok (Some p)) = Kept ws k low last p
 
 -- ---- a scene
 

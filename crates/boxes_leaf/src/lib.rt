@@ -24,7 +24,8 @@ const EACH_ROW: u64 = 0x1111111111111111;
 
 const EACH_PLANE: u64 = 0x0001000100010001;
 
-// The voxels of a leaf that have so many before them in x, and so many behind.
+// The voxels of a leaf that have so many before them in x, and so many behind. The masks of the three axes are three formulas: one function would take
+// each number of them as a parameter.
 fn x_mask(before: u32, behind: u32) -> u64
     requires { (before < 4) × (behind < 4) }
     ensures { Marks result (λ j. in_side before behind (j % 4)) }

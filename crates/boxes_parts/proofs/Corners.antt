@@ -1,16 +1,19 @@
 -- A box by its two corners: one that lies not outside ends inside the room; and one that has a voxel and ends in a cube runs from its first voxel to its
 -- last there, which are their own remainders by the cube's edge. One axis at a time. Assumes nothing.
-use mathlib.Core.Path.{◌≡◌, refl, subst}
+use mathlib.Core.Path.{◌≡◌, refl, ap, ◌∙◌, subst, subst⁻¹}
 use mathlib.Core.Bool.{Bool, true, false, ◌&&◌, ◌||◌}
-use Prim.Native.Nat.{ℕ, ◌+◌, ◌-◌, ◌%◌, ◌<◌, ◌≤◌}
+use Prim.Native.Nat.{ℕ, suc, ◌+◌, ◌-◌, ◌^◌, ◌%◌, ◌<◌, ◌≤◌}
 use native.Mathlib.Nat.{mod-eq_of_lt}
 use native.Mathlib.Omega.{arith}
 use lib.Dec.{T, ltb, ltb→lt}
 use borrow.Author.Tests.{ltb-false}
 use Rattle.paper.specs.Rooms.{Point, point, in_child, has_voxel}
+use Rattle.paper.specs.Outline.{edge}
 use Rattle.paper.specs.Calls.{axis_outside}
 use Rattle.laws.proofs.Tests.{true-T, and_left, and_right}
-use Rattle.boxes_parts.specs.Parts.{past_in, Positive, last_of, Upto, Spans}
+use Rattle.points.specs.Points.{at}
+use Rattle.boxes_parts.specs.declared.Part.{Part}
+use Rattle.boxes_parts.specs.Parts.{BoxPart, InCell, past_in, Positive, last_of, Upto, Spans}
 
 -- ---- a box that lies not outside a room of edge S
 
@@ -81,3 +84,19 @@ module _ (low high : Point) (e : has_voxel low high ≡ true) where
           span_y = spans low.y high.y before-y u.upto_y;
           span_z = spans low.z high.z before-z u.upto_z;
         }
+
+-- such a box as a part, in a room of depth D, whose root is seen under mirror m
+module _ (D m : ℕ) (least : 2 ≤ D) (most : D ≤ 16) (below : m < 8) (low high : Point) (part : Part) (box : BoxPart low high part) (u : Upto (2 ^ D) high) where
+  upto : Upto (edge (D - 2)) high
+  upto = let d : suc (suc (D - 2)) ≡ D = omega (arith, least) in subst⁻¹ (λ (h : ℕ). Upto (2 ^ h) high) d u
+
+  pub room-in : InCell (D - 2) m (at part.low) (at part.last)
+  room-in =
+      subst⁻¹ (λ (v : Point). InCell (D - 2) m v (at part.last)) box.first
+      (subst⁻¹ (InCell (D - 2) m low) box.last (record { listed = omega (arith, least, most); mirrors = below; spans = box-spans low high box.voxel (edge (D - 2)) upto }))
+
+  pub room-low : in_child (edge (D - 2)) (at part.low) ≡ low
+  room-low = ap (in_child (edge (D - 2))) box.first ∙ first-stays low high box.voxel (edge (D - 2)) upto
+
+  pub room-high : past_in (edge (D - 2)) (at part.last) ≡ high
+  room-high = ap (past_in (edge (D - 2))) box.last ∙ last-ends low high box.voxel (edge (D - 2)) upto

@@ -1,10 +1,12 @@
 -- A box by two corners, and by its first voxel and its last, whose coordinates are never reduced: its part in a cell, whether it is all of the cell,
 -- and which children it shares a voxel with. Definitions only.
-use Rattle.std.specs.Prelude.{Bool, true, cond, not, ◌&&◌, ℕ, ◌+◌, ◌-◌, ◌/◌, ◌%◌, ◌<◌, ◌≤◌, eqb, leb}
-use Rattle.paper.specs.Rooms.{Point, point, mark_x, mark_y, mark_z}
+use Rattle.std.specs.Prelude.{◌≡◌, Bool, true, false, cond, not, ◌&&◌, ℕ, suc, ◌+◌, ◌-◌, ◌/◌, ◌%◌, ◌<◌, ◌≤◌, eqb, leb}
+use Rattle.paper.specs.Rooms.{Point, point, mark_x, mark_y, mark_z, in_child, clipped, has_voxel}
 use Rattle.paper.specs.Outline.{edge}
 use Rattle.paper.specs.Store.{heights}
+use Rattle.points.specs.Points.{at}
 use Rattle.points.specs.Seeing.{child_no_at}
+use Rattle.boxes_parts.specs.declared.Part.{Part}
 
 -- ---- by its corners
 
@@ -23,6 +25,12 @@ pub record Upto (S : ℕ) (high : Point) : Type 0 where
   pub upto_y : high.y ≤ S
   pub upto_z : high.z ≤ S
 
+-- a box with a voxel, as a part
+pub record BoxPart (low high : Point) (part : Part) : Type 0 where
+  pub voxel : has_voxel low high ≡ true
+  pub first : at part.low ≡ low
+  pub last : at part.last ≡ last_of high
+
 -- ---- by its first voxel and its last, in a cell
 
 -- past v, as it lies in its cell of edge S: the high corner of a box that v ends
@@ -34,12 +42,6 @@ pub record Spans (S : ℕ) (low last : Point) : Type 0 where
   pub span_x : low.x % S ≤ last.x % S
   pub span_y : low.y % S ≤ last.y % S
   pub span_z : low.z % S ≤ last.z % S
-
--- numbers of children: those that the first and the last lie in, and any
-pub record Children (f l i : ℕ) : Type 0 where
-  pub first_below : f < 8
-  pub last_below : l < 8
-  pub child_below : i < 8
 
 -- child i's half lies between those of children f and l, on each axis
 abbrev pub shares_in : ℕ → ℕ → ℕ → Bool
@@ -62,3 +64,22 @@ pub record InCell (k m : ℕ) (low last : Point) : Type 0 where
   pub listed : k < heights
   pub mirrors : m < 8
   pub spans : Spans (edge k) low last
+
+-- ---- child i, of list k, of a cell in which the box goes from low to last
+
+-- the box cut to the child: it begins and ends there
+abbrev pub low_cut : ℕ → ℕ → Point → Point
+low_cut k i low = clipped (edge k) i (in_child (edge (suc k)) low)
+
+abbrev pub high_cut : ℕ → ℕ → Point → Point
+high_cut k i last = clipped (edge k) i (past_in (edge (suc k)) last)
+
+-- it has no voxel there
+abbrev pub NoPart : ℕ → ℕ → Point → Point → Type 0
+NoPart k i low last = has_voxel (low_cut k i low) (high_cut k i last) ≡ false
+
+-- it is this part there
+pub record ChildPart (k i : ℕ) (low last : Point) (part : Part) : Type 0 where
+  pub begins : low_cut k i low ≡ in_child (edge k) (at part.low)
+  pub ends : high_cut k i last ≡ past_in (edge k) (at part.last)
+  pub spans : Spans (edge (suc k)) low last → Spans (edge k) (at part.low) (at part.last)

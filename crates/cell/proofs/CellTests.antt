@@ -3,7 +3,7 @@
 use mathlib.Core.Path.{◌≡◌, refl, sym, ap, ap₂, ◌∙◌}
 use mathlib.Core.Bool.{Bool, true, false, cond, not, ◌||◌}
 use mathlib.Core.List.{List, [], ◌∷◌}
-use Prim.Native.Nat.{ℕ, ◌-◌, ◌^◌, ◌<◌, ◌≤◌}
+use Prim.Native.Nat.{ℕ, zero, suc, ◌-◌, ◌^◌, ◌<◌, ◌≤◌}
 use native.Mathlib.Omega.{arith}
 use borrow.Author.Tests.{le-leb, lt-leb}
 use lib.Dec.{T, eqb, leb}
@@ -17,9 +17,9 @@ use Rattle.paper.specs.Calls.{cell_outside, cell_damaged, cell_outcome}
 use Rattle.paper.specs.declared.Refusal.{Refusal}
 use Rattle.laws.proofs.OutlineCells.{no-voxel-empty}
 use Rattle.laws.proofs.Tests.{T_true, true-T, not-not}
-use Rattle.walk.specs.Walk.{walk_to}
+use Rattle.walk.specs.Walk.{Ended, Damaged, walk_to}
 use Rattle.cell.specs.Cell.{cell_end, small_at, told_by, cell_out, cell_asked, cell_told}
-use Rattle.store_entry.specs.declared.Entry.TheVariants.{Refused}
+use Rattle.store_entry.specs.Entry.{Refused}
 use Rattle.store_entry.specs.Entry.{past_entry}
 use Rattle.store_entry.proofs.Asked.{refused_by}
 use Rattle.store_entry.proofs.Entries.{Entered, Says, past-outside, past-inside, past-settled}
@@ -67,6 +67,13 @@ cell-low K D p h c d l m i z =
     ∙ ap told_by (small-root K D p h c d l m i z)
     ∙ told-end (from_root (walk_damaged K 0) K D p (corner h c)) (non_empty (2 ^ h) (cell_of (root_room K D p) h c))
     ∙ ap₂ (λ (s : ℕ) (b : Bool). past_entry false (from_root (walk_damaged K s) K D p (corner h c)) (bit_for b ∷ [])) (sym e) (sym (full-low K D p h c l))
+
+-- damage on the way to its list, or to its leaf
+pub cell-met : (K : List (List Cell)) (D p h : ℕ) (c : Point) → T (depth_ok D) → h ≤ D → Inside (2 ^ (D - h)) c → T (not (eqb p 0))
+    → Damaged ≡ walk_to K (h - 2) (D - 2) (cell_no p) (tag_of p) (corner h c) → told 2 (0 ∷ []) ≡ cell_asked K D p h c
+cell-met K D p zero c d m i z e = ap (λ (r : Ended). told_by (small_at K 0 (corner 0 c) r)) e ∙ cell-low K D p 0 c d (omega arith) m i z
+cell-met K D p (suc zero) c d m i z e = ap (λ (r : Ended). told_by (small_at K 1 (corner 1 c) r)) e ∙ cell-low K D p 1 c d (omega arith) m i z
+cell-met K D p (suc (suc h)) c d m i z e = ap (λ (r : Ended). told_by (cell_end r)) e ∙ cell-high K D p (suc (suc h)) c d (omega arith) m i z
 
 -- ---- outside
 

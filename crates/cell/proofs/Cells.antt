@@ -19,11 +19,9 @@ use Rattle.paper.specs.Walk.{is_damaged, solid_at}
 use Rattle.paper.specs.Questions.{voxel_walk, below, walk_damaged, from_root, corner, pointer_to}
 use Rattle.laws.proofs.CellVoxels.{voxel-means}
 use Rattle.laws.proofs.OutlineCells.{non_empty-same, no-voxel-empty}
-use Rattle.walk.specs.Walk.{taken_from, walk_to, end_of}
+use Rattle.walk.specs.Walk.{Ended, Absent, At, Damaged, taken_from, walk_to, end_of}
 use Rattle.cell.specs.Cell.{Aligned, cell_end, leaf_seen, small_at}
 use Rattle.points.specs.Seeing.{child_no_at, seen_at}
-use Rattle.walk.specs.declared.Ended.{Ended}
-use Rattle.walk.specs.declared.Ended.TheVariants.{Absent, At, Damaged}
 use Rattle.walk.proofs.Roots.{root-seen, voxel-root}
 use Rattle.cell.proofs.Pointers.{or_damage, met_damage, end-damage, root-damaged, pointer-end}
 

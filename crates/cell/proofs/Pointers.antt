@@ -18,9 +18,7 @@ use Rattle.laws.proofs.Tests.{T_true}
 use Rattle.points.specs.Seeing.{seen_at}
 use Rattle.points.proofs.Seen.{tag-joins, child-seen, in-seen, tag-seen}
 use Rattle.store_entry.specs.Entry.{past_entry}
-use Rattle.walk.specs.Walk.{taken_from, walk_to, end_of}
-use Rattle.walk.specs.declared.Ended.{Ended}
-use Rattle.walk.specs.declared.Ended.TheVariants.{Absent, At, Damaged}
+use Rattle.walk.specs.Walk.{Ended, Absent, At, Damaged, taken_from, walk_to, end_of}
 use Rattle.walk.proofs.Roots.{root-seen}
 use Rattle.cell.specs.Cell.{cell_end, told_by}
 

@@ -1,16 +1,14 @@
 -- What a cell question reads off the end of its walk: from height 2 up the pointer at which it ends, below that the leaf's bits. Definitions only.
-use Rattle.std.specs.Prelude.{◌≡◌, Bool, false, cond, not, ◌||◌, List, [], ◌∷◌, ℕ, ◌+◌, ◌-◌, ◌%◌, ◌^◌, ◌<◌, ◌≤◌, T, eqb, leb}
+use Rattle.std.specs.Prelude.{◌≡◌, Bool, false, cond, not, ◌||◌, List, [], ◌∷◌, ℕ, ◌+◌, ◌-◌, ◌%◌, ◌^◌, eqb, leb}
 use Rattle.paper.specs.Rooms.{Point, point, inside, non_empty}
 use Rattle.paper.specs.Questions.{cell_walk_damaged, cell_non_empty}
-use Rattle.paper.specs.Store.{Cell, cell_at, leaf_no, header_ok, kept_of}
+use Rattle.paper.specs.Store.{Cell, cell_at, leaf_no}
 use Rattle.paper.specs.Leaf.{leaf_voxel}
 use Rattle.paper.specs.Numbers.{bit_for}
 use Rattle.paper.specs.Answers.{Told, told}
 use Rattle.store_entry.specs.Entry.{past_entry}
 use Rattle.points.specs.Seeing.{seen_at}
-use Rattle.walk.specs.Walk.{AtKept, Scene}
-use Rattle.walk.specs.declared.Ended.{Ended}
-use Rattle.walk.specs.declared.Ended.TheVariants.{Absent, At, Damaged}
+use Rattle.walk.specs.Walk.{Ended, Absent, At, Damaged}
 
 -- ---- where the walk ends: 2 for damage, 1 for non-empty, 0 for empty
 
@@ -36,25 +34,11 @@ pub record Aligned (h : ℕ) (w : Point) : Type 0 where
   pub on_y : w.y % 2 ^ h ≡ 0
   pub on_z : w.z % 2 ^ h ≡ 0
 
--- the walk to the leaf of such a cell, of height 0 or 1, ended so
-pub record AtLeaf (ws : List ℕ) (h : ℕ) (w : Point) (e : Ended) : Type 0 where
-  pub header : T (header_ok ws)
-  pub kept : AtKept (kept_of ws) e
-  pub small : h < 2
-  pub aligned : Aligned h w
-
 -- such a number as an answer
 abbrev pub told_by : ℕ → Told
 told_by n = cond (eqb n 2) (told 2 (0 ∷ [])) (told 0 (n ∷ []))
 
 -- ---- a cell question past the scene's tests: 1 for non-empty, 0 for empty
-
--- a cell inside a scene whose root pointer is not none
-pub record Within (ws : List ℕ) (D p h : ℕ) (c : Point) : Type 0 where
-  pub scene : Scene ws D p
-  pub named : p ≡ 0 → ⊥
-  pub low : h ≤ D
-  pub within : T (inside (2 ^ (D - h)) c)
 
 abbrev pub cell_out : ℕ → ℕ → Point → Bool
 cell_out D h c = not (leb h D) || not (inside (2 ^ (D - h)) c)

@@ -2,22 +2,23 @@
 
 // Cell, with its whole outcome as `paper` defines it: refused by 2 (header), 9, 2 (the scene's two words), 10, 2 (walk), in this order. From height 2 up
 // the cell's pointer decides, below that the leaf's bits.
-ghost use Rattle.std.specs.Prelude.{◌≡◌, [], ◌-◌, ◌^◌, ◌<◌, ◌≤◌};
-ghost use Rattle.paper.specs.Rooms.{Inside, deepest, non_empty};
+ghost use Rattle.std.specs.Prelude.{◌≡◌, ◌≢◌, [], ◌-◌, ◌^◌, ◌<◌, ◌≤◌, T, Ok};
+ghost use Rattle.paper.specs.Rooms.{Inside, deepest, inside, non_empty};
 ghost use Rattle.paper.specs.Store.{kept_of};
 ghost use Rattle.paper.specs.Answers.{outcome, occupied};
 ghost use Rattle.paper.specs.Questions.{corner as corner-of};
 ghost use Rattle.paper.specs.Calls.{cell_outcome};
 ghost use Rattle.points.specs.Points.{at};
-ghost use Rattle.walk.specs.Walk.{Scene};
-ghost use Rattle.cell.specs.Cell.{Aligned, AtLeaf, Within, cell_end, small_at, told_by, cell_asked, cell_told, leaf_seen};
+ghost use Rattle.walk.specs.Walk.{AtKept};
+ghost use Rattle.walk.specs.Reached.{reached};
+ghost use Rattle.cell.specs.Cell.{Aligned, cell_end, small_at, told_by, cell_asked, cell_told, leaf_seen};
 
 use limits::LEAF_HEIGHT;
-use paper::{Occupied, Refusal};
+use paper::Refusal;
 use points::{Point, leaf_solid, outside};
-use store::leaf_at;
-use store_entry::{Entry, enter};
-use walk::{Ended, walk_root};
+use store::{Scene, Store};
+use store_entry::enter;
+use walk::{End, walk_root};
 
 // A cell's low corner.
 fn corner(height: u32, v: Point) -> Point
@@ -35,11 +36,7 @@ fn corner(height: u32, v: Point) -> Point
 fn list_of(height: u32) -> u32
     ensures { result ≡ height - 2 }
 {
-    if height < LEAF_HEIGHT {
-        0
-    } else {
-        height - LEAF_HEIGHT
-    }
+    height.saturating_sub(LEAF_HEIGHT)
 }
 
 // Whether the cell of height 1 with this low corner is non-empty, by its leaf's bits: the mask has the eight of such a cube, from its corner's on. Along a
@@ -65,71 +62,64 @@ fn leaf_non_empty(leaf: u64, mirror: u32, height: u32, v: Point) -> bool
     cube_non_empty(leaf, mirror, v)
 }
 
-// The cell of height 0 or 1, where the walk to its leaf ended.
-fn small_at(store: &[u32], end: Ended, height: u32, v: Point) -> Occupied
-    requires { AtLeaf store.now height (at v) end }
-    ensures { occupied result ≡ told_by (small_at (kept_of store.now) height (at v) end) }
+// Whether the cell of height 0 or 1 is non-empty, where the walk to its leaf ended.
+fn small_at(store: Store, end: End, height: u32, v: Point) -> bool
+    requires at_kept { AtKept (kept_of store.words.now) (reached end) }
+    requires small { height < 2 }
+    requires aligned { Aligned height (at v) }
+    ensures { occupied (Ok result) ≡ told_by (small_at (kept_of store.entry.words.now) height (at v) (reached end)) }
 {
     match end {
-        Ended::Damaged => Occupied::Refused(Refusal::DamagedStore),
-        Ended::Absent(_) => Occupied::Empty,
-        Ended::At(number, mirror) => {
-            if leaf_non_empty(leaf_at(store, number), mirror, height, v) {
-                Occupied::NonEmpty
-            } else {
-                Occupied::Empty
-            }
-        }
+        End::Absent(_) => false,
+        End::At(leaf) => leaf_non_empty(store.leaf_at(leaf.number), leaf.mirror, height, v),
     }
 }
 
-// The cell asked for, where the walk to its list ended.
-fn cell_ended(end: Ended) -> Occupied
-    ensures { occupied result ≡ told_by (cell_end end) }
+// Whether the cell asked for is non-empty, where the walk to its list ended.
+fn cell_ended(end: End) -> bool
+    ensures { occupied (Ok result) ≡ told_by (cell_end (reached end)) }
 {
     match end {
-        Ended::Damaged => Occupied::Refused(Refusal::DamagedStore),
-        Ended::Absent(_) => Occupied::Empty,
-        Ended::At(_, _) => Occupied::NonEmpty,
+        End::Absent(_) => false,
+        End::At(_) => true,
     }
 }
 
-// A cell inside a scene of this depth, under a root pointer that is not none.
-fn cell_under(store: &[u32], depth: u32, root: u32, height: u32, v: Point) -> Occupied
-    requires { Within store.now depth root height (at v) }
-    ensures { occupied result ≡ cell_asked (kept_of store.now) depth root height (at v) }
+// A cell inside a scene whose root pointer is not none.
+fn cell_under(scene: Scene, height: u32, v: Point) -> Result<bool, Refusal>
+    requires rooted { scene.root ≢ 0 }
+    requires low { height ≤ scene.depth }
+    requires within { T (inside (2 ^ (scene.depth - height)) (at v)) }
+    ensures { occupied result ≡ cell_asked (kept_of scene.entry.store.words.now) scene.entry.depth scene.entry.root height (at v) }
 {
     let low = corner(height, v);
-    let end = walk_root(store, list_of(height), depth, root, low);
+    let end = walk_root(scene, list_of(height), low)?;
     if height < LEAF_HEIGHT {
-        return small_at(store, end, height, low);
+        return Ok(small_at(scene.store, end, height, low));
     }
-    cell_ended(end)
+    Ok(cell_ended(end))
 }
 
-// The cell of a scene of this depth and root pointer.
-fn cell_from(store: &[u32], depth: u32, root: u32, height: u32, v: Point) -> Occupied
-    requires { Scene store.now depth root }
-    ensures { occupied result ≡ cell_told (kept_of store.now) depth root height (at v) }
+// The cell of a scene.
+fn cell_from(scene: Scene, height: u32, v: Point) -> Result<bool, Refusal>
+    ensures { occupied result ≡ cell_told (kept_of scene.entry.store.words.now) scene.entry.depth scene.entry.root height (at v) }
 {
-    if depth < height {
-        return Occupied::Refused(Refusal::Outside);
+    if scene.depth < height {
+        return Err(Refusal::Outside);
     }
-    if outside(depth - height, v) {
-        return Occupied::Refused(Refusal::Outside);
+    if outside(scene.depth - height, v) {
+        return Err(Refusal::Outside);
     }
-    if root == 0 {
-        return Occupied::Empty;
+    if scene.root == 0 {
+        return Ok(false);
     }
-    cell_under(store, depth, root, height, v)
+    cell_under(scene, height, v)
 }
 
-// Cell: non-empty or empty, the point counted in cells of its height.
-pub fn cell(store: &[u32], scene: u32, height: u32, v: Point) -> Occupied
-    ensures { outcome (occupied result) [] ≡ cell_outcome store.now scene height (at v) }
+// Cell: whether it is non-empty, the point counted in cells of its height.
+pub fn cell(words: &[u32], scene: u32, height: u32, v: Point) -> Result<bool, Refusal>
+    ensures { outcome (occupied result) [] ≡ cell_outcome words.now scene height (at v) }
 {
-    match enter(store, scene) {
-        Entry::Refused(refusal) => Occupied::Refused(refusal),
-        Entry::Root(depth, root) => cell_from(store, depth, root, height, v),
-    }
+    let entered = enter(words, scene)?;
+    cell_from(entered, height, v)
 }

@@ -5,6 +5,7 @@ use mathlib.Core.Bool.{Bool, true, false, not}
 use mathlib.Core.List.{[], ◌∷◌}
 use Prim.Native.Nat.{ℕ}
 use lib.Dec.{T}
+use Rattle.std.specs.Prelude.{Ok, Err}
 use Rattle.paper.specs.Rooms.{depth_ok}
 use Rattle.paper.specs.Answers.{Outcome, outcome, number_of, chosen}
 use Rattle.paper.specs.Order.{when, first_number, settled}
@@ -12,7 +13,6 @@ use Rattle.paper.specs.Detail.{wish_ok, height_for, detail_outcome}
 use Rattle.paper.specs.declared.Refusal.TheVariants.{BadDepth, BadWish}
 use Rattle.paper.specs.declared.Wish.{Wish}
 use Rattle.laws.proofs.Tests.{T_true}
-use Rattle.paper.specs.declared.Chosen.TheVariants.{Height, Refused}
 
 -- the outcome for a height h, by what the tests of the depth and of the wish say
 abbrev by_tests : ℕ → Bool → Bool → Outcome
@@ -23,14 +23,14 @@ module _ (D : ℕ) (w : Wish) where
   unfolding detail_outcome
   whole = refl
 
-  pub bad-depth : depth_ok D ≡ false → outcome (chosen (Refused BadDepth)) [] ≡ detail_outcome D w
+  pub bad-depth : depth_ok D ≡ false → outcome (chosen (Err BadDepth)) [] ≡ detail_outcome D w
   unfolding first_number settled
   bad-depth e = ap (λ (p : Bool). by_tests (height_for D w) p (wish_ok w)) (sym e) ∙ whole
 
-  pub bad-wish : T (depth_ok D) → wish_ok w ≡ false → outcome (chosen (Refused BadWish)) [] ≡ detail_outcome D w
+  pub bad-wish : T (depth_ok D) → wish_ok w ≡ false → outcome (chosen (Err BadWish)) [] ≡ detail_outcome D w
   unfolding first_number settled
   bad-wish t v = ap₂ (by_tests (height_for D w)) (sym (T_true {b = depth_ok D} t)) (sym v) ∙ whole
 
-  pub in_order : T (depth_ok D) → wish_ok w ≡ true → outcome (chosen (Height (height_for D w))) [] ≡ detail_outcome D w
+  pub in_order : T (depth_ok D) → wish_ok w ≡ true → outcome (chosen (Ok (height_for D w))) [] ≡ detail_outcome D w
   unfolding first_number settled
   in_order t v = ap₂ (by_tests (height_for D w)) (sym (T_true {b = depth_ok D} t)) (sym v) ∙ whole

@@ -10,7 +10,7 @@ ghost use Rattle.paper.specs.Answers.{outcome, chosen};
 ghost use Rattle.paper.specs.Detail.{distance_ok, factor_ok, reaches, greatest, detail_outcome};
 ghost use Rattle.paper.specs.declared.Wish.TheVariants.{WidestEdge, Distance};
 
-use paper::{Chosen, DistanceFactor, Refusal, Wish};
+use paper::{DistanceFactor, Refusal, Wish};
 use points::depth_bad;
 
 // 2^40, the greatest edge and distance; 2^-30 and 2^30, the least and the greatest factor.
@@ -30,38 +30,36 @@ fn between(x: f64, low: f64, high: f64) -> bool
 // The greatest h <= depth with 2^h times factor <= distance, or 0 if none.
 fn height(depth: u32, factor: f64, distance: f64) -> u32
     requires depth_le_deepest { depth ≤ deepest }
-    requires t { T (factor_ok factor) }
-    requires t_2 { T (distance_ok distance) }
+    requires factor_in_range { T (factor_ok factor) }
+    requires distance_in_range { T (distance_ok distance) }
     ensures { result ≡ greatest (reaches (num factor) (den factor) distance) depth }
 {
-    let mut h = 0u32;
     let mut scaled = factor;
-    while h < depth {
+    for h in 0..depth {
         let next = scaled + scaled;
         if next <= distance {
-            h += 1;
             scaled = next;
         } else {
             return h;
         }
     }
-    h
+    depth
 }
 
 // The answer to a widest edge: that edge is a distance whose factor is 1.
-fn for_edge(depth: u32, edge: f64) -> Chosen
+fn for_edge(depth: u32, edge: f64) -> Result<u32, Refusal>
     requires { T (depth_ok depth) }
     ensures { outcome (chosen result) [] ≡ detail_outcome depth (WidestEdge edge) }
 {
     if between(edge, 1.0, FARTHEST) {
-        Chosen::Height(height(depth, 1.0, edge))
+        Ok(height(depth, 1.0, edge))
     } else {
-        Chosen::Refused(Refusal::BadWish)
+        Err(Refusal::BadWish)
     }
 }
 
 // The answer to a distance with its factor.
-fn for_distance(depth: u32, pair: DistanceFactor) -> Chosen
+fn for_distance(depth: u32, pair: DistanceFactor) -> Result<u32, Refusal>
     requires { T (depth_ok depth) }
     ensures { outcome (chosen result) [] ≡ detail_outcome depth (Distance pair) }
 {
@@ -69,21 +67,21 @@ fn for_distance(depth: u32, pair: DistanceFactor) -> Chosen
     let factor = pair.factor;
     if between(distance, 0.0, FARTHEST) {
         if between(factor, LEAST_FACTOR, GREATEST_FACTOR) {
-            return Chosen::Height(height(depth, factor, distance));
+            return Ok(height(depth, factor, distance));
         }
     }
-    Chosen::Refused(Refusal::BadWish)
+    Err(Refusal::BadWish)
 }
 
 // The height at which to draw a scene of this depth; refused by 5, then 13.
-pub fn detail(depth: u32, wish: Wish) -> Chosen
+pub fn detail(depth: u32, wish: Wish) -> Result<u32, Refusal>
     ensures { outcome (chosen result) [] ≡ detail_outcome depth wish }
 {
     if depth_bad(depth) {
-        return Chosen::Refused(Refusal::BadDepth);
+        return Err(Refusal::BadDepth);
     }
     match wish {
-        Wish::EveryVoxel => Chosen::Height(0),
+        Wish::EveryVoxel => Ok(0),
         Wish::WidestEdge(edge) => for_edge(depth, edge),
         Wish::Distance(pair) => for_distance(depth, pair),
     }

@@ -2,22 +2,22 @@
 
 // Samples of the detail rule through the public call: a line for each, with the refusal's number (0 where accepted) and the
 // height. A number beside an end of a range is the next f64 there, written with as many digits as tell it apart.
-use rooms::{Chosen, DistanceFactor, Wish};
+use rooms::{DistanceFactor, Wish};
 
 // One line of output.
 fn line(number: u32, height: u32) {
     io::write_all(1, b"detail ");
-    io::print_decimal(1, number as u64);
+    io::print_decimal(1, u64::from(number));
     io::write_all(1, b" ");
-    io::print_decimal(1, height as u64);
+    io::print_decimal(1, u64::from(height));
     io::write_all(1, b"\n");
 }
 
 // Asks, and shows the answer.
 fn sample(depth: u32, wish: Wish) {
     match rooms::detail(depth, wish) {
-        Chosen::Height(h) => line(0, h),
-        Chosen::Refused(refusal) => line(refusal.number(), 0),
+        Ok(h) => line(0, h),
+        Err(refusal) => line(refusal.number(), 0),
     }
 }
 
@@ -28,10 +28,7 @@ fn edge(depth: u32, widest: f64) {
 
 // A distance with its factor.
 fn distant(depth: u32, distance: f64, factor: f64) {
-    let pair = DistanceFactor {
-        distance: distance,
-        factor: factor,
-    };
+    let pair = DistanceFactor { distance, factor };
     sample(depth, Wish::Distance(pair));
 }
 

@@ -6,6 +6,9 @@ use mathlib.Core.List.{List, [], ◌∷◌}
 use Prim.Native.Nat.{ℕ, ◌≤◌}
 use native.Mathlib.Nat.{suc-ne-zero}
 use native.Mathlib.Omega.{arith}
+use Rattle.paper.specs.declared.Refusal.{Refusal}
+use Rattle.paper.specs.declared.Refusal.TheVariants.{BadSize, DamagedStore, BadVersion, BadLength, BadDepth, BrokenRules, ScenesFull, CellsFull, NoScene, Outside, ScratchShort, OutputShort, BadWish, TooDeep, LongPointer}
+use Rattle.paper.specs.Answers.{number_of}
 use Rattle.paper.specs.Rooms.{depth_ok}
 use Rattle.paper.specs.Outline.{version_ok, length_ok, file_depth}
 use Rattle.paper.specs.Order.{Test, when, first_number}
@@ -28,6 +31,24 @@ three-range false b c n = (omega arith, omega arith)
 three-range true false c n = (omega arith, omega arith)
 three-range true true false n = (omega arith, omega arith)
 three-range true true true n = absurd (n refl)
+
+-- no refusal has the number 0
+pub refusal-is-not-0 : (why : Refusal) → number_of why ≡ 0 → ⊥
+refusal-is-not-0 BadSize e = suc-ne-zero 0 e
+refusal-is-not-0 DamagedStore e = suc-ne-zero 1 e
+refusal-is-not-0 BadVersion e = suc-ne-zero 2 e
+refusal-is-not-0 BadLength e = suc-ne-zero 3 e
+refusal-is-not-0 BadDepth e = suc-ne-zero 4 e
+refusal-is-not-0 BrokenRules e = suc-ne-zero 5 e
+refusal-is-not-0 ScenesFull e = suc-ne-zero 6 e
+refusal-is-not-0 CellsFull e = suc-ne-zero 7 e
+refusal-is-not-0 NoScene e = suc-ne-zero 8 e
+refusal-is-not-0 Outside e = suc-ne-zero 9 e
+refusal-is-not-0 ScratchShort e = suc-ne-zero 10 e
+refusal-is-not-0 OutputShort e = suc-ne-zero 11 e
+refusal-is-not-0 BadWish e = suc-ne-zero 12 e
+refusal-is-not-0 TooDeep e = suc-ne-zero 13 e
+refusal-is-not-0 LongPointer e = suc-ne-zero 14 e
 
 module _ (version head : ℕ) (file : List ℕ) where
   -- version byte, length field and depth are good
@@ -71,6 +92,10 @@ module _ (version head : ℕ) (file : List ℕ) where
 
     pub head-stops : (head_number version head file ≡ 0 → ⊥) → first_number (head_order version head file rest) ≡ head_number version head file
     head-stops n = first-before (head_order version head file []) rest n
+
+    -- an order that begins with the three gives the refusal of the test that fails
+    pub head-refuses : (why : Refusal) → number_of why ≡ head_number version head file → number_of why ≡ first_number (head_order version head file rest)
+    head-refuses why e = e ∙ sym (head-stops (λ z. refusal-is-not-0 why (e ∙ z)))
 
   -- an order that ends with one test more, by 6
   module _ (broken : Bool) where

@@ -19,8 +19,8 @@ use Rattle.paper.specs.Answers.{told, outcome}
 use Rattle.paper.specs.Order.{first_number}
 use Rattle.paper.specs.Calls.{of_scene, question_order, axis_outside, box_outside}
 use Rattle.paper.specs.Anything.{pointer_search, cell_search, box_search, search_damaged, search_told, scene_search, any_damaged, any_outcome, sharing}
-use Rattle.paper.specs.declared.Search.{Search}
-use Rattle.paper.specs.declared.Search.TheVariants.{Met, Passed, Damaged}
+use Rattle.paper.specs.Anything.{Search}
+use Rattle.paper.specs.Anything.{Met, Passed, Damaged}
 use Rattle.paper.specs.Claims.{C15, AnyTrue, Searches}
 use Rattle.laws.proofs.Kept.{kept-length}
 use Rattle.laws.proofs.Undamaged.{undamaged, store-header, held-there, held-sound, depth_low}

@@ -18,8 +18,8 @@ use Rattle.paper.specs.Outline.{edge}
 use Rattle.paper.specs.Store.{Cell, cells_at, cell_at, leaf_no, tag_of, cell_no, bad_pointer, any_bad, solid_of}
 use Rattle.paper.specs.Meaning.{pointer_voxel, cell_voxel, root_room}
 use Rattle.paper.specs.Questions.{plus, total, count_taken, pointer_tally, cell_tally, box_tally}
-use Rattle.paper.specs.declared.Tally.{Tally}
-use Rattle.paper.specs.declared.Tally.TheVariants.{Solid, Damaged}
+use Rattle.paper.specs.Questions.{Tally}
+use Rattle.paper.specs.Questions.{Solid, Damaged}
 use Rattle.laws.proofs.Tests.{true-T, and_left, and_right, none-at}
 use Rattle.laws.proofs.Eight.{xor8-lt}
 use Rattle.laws.proofs.Mirrors.{mirror-inside, mirror-mirror, child-mirrored}

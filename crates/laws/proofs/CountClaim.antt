@@ -11,8 +11,8 @@ use Rattle.paper.specs.Rooms.{Point, depth_ok, box_count}
 use Rattle.paper.specs.Store.{heights, is_held, kept_count, kept_of, cell_at, bad_pointer, count_of, scene_depth, scene_root, store_ok}
 use Rattle.paper.specs.Meaning.{root_room}
 use Rattle.paper.specs.Questions.{tally_damaged, tally_solid}
-use Rattle.paper.specs.declared.Tally.{Tally}
-use Rattle.paper.specs.declared.Tally.TheVariants.{Solid}
+use Rattle.paper.specs.Questions.{Tally}
+use Rattle.paper.specs.Questions.{Solid}
 use Rattle.paper.specs.Answers.{told, outcome}
 use Rattle.paper.specs.Order.{first_number}
 use Rattle.paper.specs.Calls.{of_scene, question_order, box_outside, scene_tally, box_damaged, box_outcome}

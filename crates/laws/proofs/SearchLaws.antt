@@ -18,8 +18,8 @@ use Rattle.paper.specs.Leaf.{leaf_voxel}
 use Rattle.paper.specs.Outline.{edge}
 use Rattle.paper.specs.Store.{Cell, cells_at, cell_at, leaf_no, tag_of, cell_no, bad_pointer}
 use Rattle.paper.specs.Anything.{further, or_else, in_order, pointer_of, shared_bad, pointer_search, cell_search}
-use Rattle.paper.specs.declared.Search.{Search}
-use Rattle.paper.specs.declared.Search.TheVariants.{Met, Passed, Damaged}
+use Rattle.paper.specs.Anything.{Search}
+use Rattle.paper.specs.Anything.{Met, Passed, Damaged}
 use Rattle.laws.proofs.Tests.{none-at, none-T}
 use Rattle.laws.proofs.Eight.{xor8-lt, xor8-back}
 use Rattle.laws.proofs.Matching.{tag-lt}

@@ -17,8 +17,8 @@ use Rattle.paper.specs.Outline.{edge}
 use Rattle.paper.specs.Store.{Cell, heights, kept_count, kept_of, cells_at, cell_at, tag_of, cell_no, bad_pointer, any_bad, store_ok}
 use Rattle.paper.specs.Meaning.{pointer_voxel, cell_voxel}
 use Rattle.paper.specs.Anything.{further, or_else, in_order, pointer_of, shared_bad, pointer_search, cell_search}
-use Rattle.paper.specs.declared.Search.{Search}
-use Rattle.paper.specs.declared.Search.TheVariants.{Met, Passed, Damaged}
+use Rattle.paper.specs.Anything.{Search}
+use Rattle.paper.specs.Anything.{Met, Passed, Damaged}
 use Rattle.laws.proofs.Tests.{none-at, none-T}
 use Rattle.laws.proofs.Eight.{xor8-lt}
 use Rattle.laws.proofs.Matching.{tag-lt}

@@ -15,7 +15,7 @@ use Rattle.paper.specs.Store.{Cell, most_scenes, heights, used, capacity_of, kep
 use Rattle.paper.specs.Meaning.{root_room}
 use Rattle.paper.specs.Walk.{is_damaged, solid_at, empty_height}
 use Rattle.paper.specs.Questions.{voxel_walk, cell_non_empty, cell_walk_damaged, box_tally, tally_damaged, tally_solid}
-use Rattle.paper.specs.declared.Tally.{Tally}
+use Rattle.paper.specs.Questions.{Tally}
 use Rattle.paper.specs.Packed.{all_short}
 use Rattle.paper.specs.Pack.{packed_file}
 use Rattle.paper.specs.Answers.{Outcome, told, outcome}
@@ -26,8 +26,8 @@ use Rattle.paper.specs.Lines.{tested, first_failing}
 use Rattle.paper.specs.Sight.{says_empty, decider, gives_two, sight_damaged, sight_outside, blocked_at, sight_outcome}
 use Rattle.paper.specs.Anything.{box_search, search_damaged, search_told, scene_search, any_damaged, any_outcome}
 use Rattle.paper.specs.Headset.{too_deep, headset_pack_outcome}
-use Rattle.paper.specs.declared.Search.{Search}
-use Rattle.paper.specs.declared.Search.TheVariants.{Met, Passed, Damaged}
+use Rattle.paper.specs.Anything.{Search}
+use Rattle.paper.specs.Anything.{Met, Passed, Damaged}
 use Rattle.laws.proofs.Undamaged.{fine-header, depth_low, store-header, there-held, held-placed}
 use Rattle.laws.proofs.UnseenWords.{capacity-unseen, number-unseen, count-unseen, header-unseen, kept-unseen, depth-unseen, root-unseen, scene-unseen, solid-unseen, undamaged-unseen}
 use Rattle.laws.proofs.Places.{kept-placed}

@@ -3,14 +3,14 @@
 // A leaf as a number: its mirror image, and the mirrors under which it is its own image. The one function that mirrors a
 // leaf; its contract is by voxels.
 ghost use Rattle.std.specs.Prelude.{◌≡◌, ◌*◌, ◌<◌, T, eqb};
-ghost use Rattle.paper.specs.Numbers.{bit_for};
 ghost use Rattle.paper.specs.Leaf.{mirror_leaf};
 ghost use Rattle.paper.specs.Store.{leaf_solid};
 ghost use Rattle.laws.specs.Symmetries.{symmetry_for};
 ghost use Rattle.leaf.specs.Moves.{moved, swaps, axis};
 
-use limits::MIRRORS;
-use numbers::wider;
+mod symmetry; // eight answers of a test, as the bits of a number
+
+pub use symmetry::symmetry_of;
 
 // The bits whose number lacks a step of 1, 2, 4, 8, 16 or 32: those that change places with the bit so far above.
 const BELOW_1: u64 = 0x5555555555555555;
@@ -60,33 +60,16 @@ pub fn mirror_leaf(leaf: u64, mirror: u32) -> u64
     mirror_axis(across_y, mirror / 4 % 2, BELOW_16, Z, BELOW_32)
 }
 
-// 1 where a leaf is its own image under a mirror, 0 elsewhere.
-fn leaf_bit(leaf: u64, mirror: u32) -> u8
-    ensures { result ≡ bit_for (eqb leaf (mirror_leaf mirror leaf)) }
-{
-    if leaf == mirror_leaf(leaf, mirror) {
-        1
-    } else {
-        0
-    }
-}
-
 // The symmetry of a leaf: bit t is set where it is its own image under mirror t.
 pub fn leaf_symmetry(leaf: u64) -> u8
     ensures { result ≡ symmetry_for (λ t. eqb leaf (mirror_leaf t leaf)) }
 {
-    let mut t = MIRRORS;
-    let mut symmetry = 0u8;
-    while t != 0 {
-        t -= 1;
-        symmetry = 2 * symmetry + leaf_bit(leaf, t);
-    }
-    symmetry
+    symmetry_of(|t| leaf == mirror_leaf(leaf, t))
 }
 
 // How many solid voxels a leaf has.
 pub fn leaf_solid(leaf: u64) -> u64
     ensures { result ≡ leaf_solid leaf }
 {
-    wider(u64::count_ones(leaf))
+    u64::from(leaf.count_ones())
 }

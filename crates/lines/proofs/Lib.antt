@@ -1,4 +1,3 @@
--- numbers that fit; the cells that a line crosses, and how it leaves them
-pub mod Fits
+-- the cells that a line crosses, and how it leaves them
 pub mod Cells
 pub mod LeavingCells

@@ -1,7 +1,7 @@
 #![tactic(auto)]
 
 // 'big-endian': the numbers that a file's bytes write, and numbers laid over an output.
-ghost use Rattle.std.specs.Prelude.{◌≡◌, ◌+◌, ◌^◌, ◌≤◌, ◌<◌, length, drop};
+ghost use Rattle.std.specs.Prelude.{◌≡◌, ◌+◌, ◌^◌, ◌≤◌, ◌<◌, length, take, drop};
 ghost use Rattle.paper.specs.Numbers.{num, bytes};
 ghost use Rattle.numbers.specs.Laid.{laid, reached, writing};
 
@@ -19,14 +19,22 @@ pub fn wider(x: u32) -> u64
     x as u64
 }
 
+// The N bytes from a position on.
+fn bytes_at<const N: usize>(bytes: &[u8], at: usize) -> [u8; N]
+    requires { at + N ≤ length bytes.now }
+    ensures { result ≡ take N (drop at bytes.now) }
+{
+    let mut taken = [0u8; N];
+    taken.copy_from_slice(&bytes[at..at + N]);
+    taken
+}
+
 // The number that the two bytes from a position on write.
 pub fn be16(bytes: &[u8], at: usize) -> u32
     requires { at + 2 ≤ length bytes.now }
     ensures { (result ≡ num 2 (drop at bytes.now)) × (result < 65536) }
 {
-    let a = wide(bytes[at]);
-    let b = wide(bytes[at + 1]);
-    a * 256 + b
+    u32::from(u16::from_be_bytes(bytes_at(bytes, at)))
 }
 
 // The number that the four bytes from a position on write.
@@ -34,11 +42,7 @@ pub fn be32(bytes: &[u8], at: usize) -> u32
     requires { at + 4 ≤ length bytes.now }
     ensures { result ≡ num 4 (drop at bytes.now) }
 {
-    let a = wide(bytes[at]);
-    let b = wide(bytes[at + 1]);
-    let c = wide(bytes[at + 2]);
-    let d = wide(bytes[at + 3]);
-    a * 16777216 + b * 65536 + c * 256 + d
+    u32::from_be_bytes(bytes_at(bytes, at))
 }
 
 // The number that the eight bytes from a position on write.
@@ -46,21 +50,17 @@ pub fn be64(bytes: &[u8], at: usize) -> u64
     requires { at + 8 ≤ length bytes.now }
     ensures { result ≡ num 8 (drop at bytes.now) }
 {
-    let high = wider(be32(bytes, at));
-    let low = wider(be32(bytes, at + 4));
-    high * 4294967296 + low
+    u64::from_be_bytes(bytes_at(bytes, at))
 }
 
-// Writes the last n bytes of a number from `at` on.
+// Writes the last n bytes of a number from `at` on. Byte by byte, not out of `to_be_bytes`: n may be more than eight.
 pub fn put_number(out: &mut [u8], at: usize, n: usize, number: u64)
     requires { at + n ≤ length out.old }
     ensures { out.new ≡ laid (bytes n number) at out.old }
 {
-    let mut left = n;
     let mut rest = number;
-    while left != 0 {
-        left -= 1;
-        out[at + left] = (rest % 256) as u8;
+    for i in (0..n).rev() {
+        out[at + i] = (rest % 256) as u8;
         rest /= 256;
     }
 }

@@ -10,37 +10,46 @@ ghost use Rattle.points.specs.Points.{at};
 ghost use Rattle.opened.specs.Asked.{asked_of};
 
 pub use opened_ask::ask_bytes;
-use opened_head::part;
-pub use opened_head::read_header;
-use paper::{Found, Opened, Opening};
+pub use opened_head::{Header, read_header};
+use paper::{Found, Opened, Opening, Refusal};
 use points::Point;
 
-// Opening: the number, and the scene, which holds an empty part where it is refused; by 3, 4, 5, 6.
+// Opening: refused by 3, 4, 5, 6; the scene holds an empty part and zeros then.
 pub fn open<'a>(file: &'a [u8]) -> Opening<'a>
     ensures { OpenPromise file.now result }
 {
-    let header = read_header(file);
-    let bytes = part(file, header.number);
-    let starts = header.starts;
-    Opening {
-        number: header.number,
-        scene: Opened {
-            bytes,
-            depth: header.depth,
-            starts,
+    match read_header(file) {
+        Ok(header) => {
+            let starts = header.starts;
+            Opening {
+                refusal: None,
+                scene: Opened {
+                    bytes: file,
+                    depth: header.depth,
+                    starts,
+                },
+            }
+        }
+        Err(refusal) => Opening {
+            refusal: Some(refusal),
+            scene: Opened {
+                bytes: &file[..0],
+                depth: 0,
+                starts: [0; 15],
+            },
         },
     }
 }
 
 // A question on an opened scene: refused by 6, then as packed voxel.
-pub fn ask<'a>(scene: Opened<'a>, v: Point) -> Found
+pub fn ask<'a>(scene: Opened<'a>, v: Point) -> Result<Found, Refusal>
     ensures { AskPromise scene.entry.bytes.now scene.entry.depth scene.entry.starts (at v) result }
 {
     ask_bytes(scene.bytes, scene.depth, scene.starts, v)
 }
 
 // A question on the scene that a file opens to, refused or not. Its parameters are plain: a caller's proof needs no walk.
-pub fn open_and_ask(file: &[u8], v: Point) -> Found
+pub fn open_and_ask(file: &[u8], v: Point) -> Result<Found, Refusal>
     ensures { outcome (found result) [] ≡ asked_of (open_outcome file.now) (at v) }
 {
     let opening = open(file);

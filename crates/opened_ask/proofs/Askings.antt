@@ -1,7 +1,7 @@
 -- The ways through a question on bytes held beside numbers, in the code's words: when bytes open to numbers, and the answer where they don't. By the
 -- value of each test in turn. Assumes nothing.
 use mathlib.Core.Path.{◌≡◌, refl, sym, ◌∙◌, ap, ap₂}
-use mathlib.Core.Bool.{Bool, true, false, not, cond, ◌&&◌, ◌||◌}
+use mathlib.Core.Bool.{Bool, true, false, false≢true, not, cond, ◌&&◌, ◌||◌}
 use mathlib.Core.List.{List, [], ◌∷◌}
 use Prim.Native.Nat.{ℕ}
 use native.Mathlib.Omega.{arith}
@@ -10,14 +10,15 @@ use Rattle.paper.specs.Numbers.{same_list}
 use Rattle.paper.specs.Rooms.{Point}
 use Rattle.paper.specs.Outline.{file_depth}
 use Rattle.paper.specs.Packed.{packed_version, packed_head, head_ok, starts_of}
-use Rattle.paper.specs.Answers.{Outcome, outcome, found}
+use Rattle.paper.specs.Answers.{Outcome, outcome, found, answer_number}
 use Rattle.paper.specs.Order.{first_number, settled}
 use Rattle.paper.specs.Calls.{open_order, open_outcome, opens_to, packed_voxel_order, packed_values, ask_outcome}
 use Rattle.paper.specs.declared.Refusal.TheVariants.{BrokenRules}
-use Rattle.paper.specs.declared.Found.TheVariants.{Refused}
+use Rattle.std.specs.Prelude.{Result, Ok, Err, is_err}
+use Rattle.paper.specs.declared.Refusal.{Refusal}
 use Rattle.laws.proofs.Tests.{true-T, and_left}
 use Rattle.laws.proofs.Refusals.{settled-number}
-use Rattle.file_head.proofs.HeadTests.{Headed, refused-by-6, accepted}
+use Rattle.file_head.proofs.HeadTests.{Headed, refused-by-6, accepted, refusal-is-not-0}
 use Rattle.opened_head.proofs.Openings.{accepted-is}
 use Rattle.opened_ask.specs.Compared.{opens_by}
 
@@ -25,6 +26,15 @@ use Rattle.opened_ask.specs.Compared.{opens_by}
 pub one-fails : (p q : Bool) {a b : Bool} → a ≡ not p → b ≡ not q → (a || b) ≡ not (p && q)
 one-fails true q e f = ap₂ (λ (x y : Bool). x || y) e f
 one-fails false q {b = b} e f = ap (λ (x : Bool). x || b) e
+
+-- an answer that is no error has number 0, and no other has
+pub number-none : {A : Type 0} (r : Result A Refusal) → is_err r ≡ false → answer_number r ≡ 0
+number-none (Ok x) e = refl
+number-none (Err why) e = absurd (false≢true (sym e))
+
+pub number-some : {A : Type 0} (r : Result A Refusal) → is_err r ≡ true → answer_number r ≡ 0 → ⊥
+number-some (Ok x) e = absurd (false≢true e)
+number-some (Err why) e = refusal-is-not-0 why
 
 -- bytes that open to numbers are not refused
 pub opens-number : (file starts : List ℕ) (D : ℕ) → opens_to file D starts ≡ true → first_number (open_order file) ≡ 0
@@ -62,7 +72,7 @@ module _ (file : List ℕ) where
         ap (λ (b : Bool). b && same_list (file_depth file ∷ starts_of file) (D ∷ starts)) h ∙ ap₂ (λ (n : ℕ) (m : List ℕ). same_list (n ∷ m) (D ∷ starts)) (sym d) (sym l)
 
   -- 'A question on an opened scene: 6 (its bytes don't open to its numbers)'
-  pub ask-refused : (D : ℕ) (starts : List ℕ) (v : Point) → opens_to file D starts ≡ false → outcome (found (Refused BrokenRules)) [] ≡ ask_outcome file D starts v
+  pub ask-refused : (D : ℕ) (starts : List ℕ) (v : Point) → opens_to file D starts ≡ false → outcome (found (Err BrokenRules)) [] ≡ ask_outcome file D starts v
   unfolding ask_outcome first_number settled
   ask-refused D starts v e =
       ap (λ (b : Bool). settled (cond (not b) 6 (first_number (packed_voxel_order file v))) (packed_values file v) [] []) (sym e)

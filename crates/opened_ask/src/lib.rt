@@ -9,29 +9,22 @@ ghost use Rattle.packed_lists.specs.Header.{Tested};
 ghost use Rattle.opened_ask.specs.Compared.{opens_by};
 ghost use Rattle.points.specs.Points.{at};
 
-use file_head::head_number;
+use file_head::test_head;
 use limits::{EMPTY_MARK, MIRROR_POSITION, PACKED_HEAD, PACKED_VERSION};
+use opened_head::Header;
 use packed::voxel_in;
-use packed_lists::{head_bad, lists_bad};
+use packed_lists::{head_bad, read_lists};
 use paper::{Found, Refusal};
 use points::Point;
 
-// The numbers that bytes open to, side by side: all sixteen are compared at once.
-#[derive(Clone, Copy)]
-pub struct Numbers {
-    pub depth: u32,
-    pub starts: [u32; 15],
-}
-
-// Whether numbers are others than a file's own.
-fn differ(own: Numbers, depth: u32, starts: [u32; 15]) -> bool
+// Whether numbers are others than a file's own. All sixteen are compared, with no early exit: so they are compared side by side, at half
+// of the instructions that a derived equality takes.
+fn differ(own: Header, depth: u32, starts: [u32; 15]) -> bool
     ensures { result ≡ not (same_list (own.depth ∷ own.starts) (depth ∷ starts)) }
 {
     let mut found = own.depth != depth;
-    let mut k = 0usize;
-    while k < 15 {
-        found = found | (own.starts[k] != starts[k]);
-        k += 1;
+    for k in 0..15usize {
+        found |= own.starts[k] != starts[k];
     }
     found
 }
@@ -39,10 +32,10 @@ fn differ(own: Numbers, depth: u32, starts: [u32; 15]) -> bool
 // Whether a file whose scene is empty doesn't open to numbers: its starts are zeros.
 fn empty_differs(file: &[u8], depth: u32, starts: [u32; 15]) -> bool
     requires tested { Tested file.now }
-    requires file_value { root_tag file.now ≡ empty_mark }
+    requires empty { root_tag file.now ≡ empty_mark }
     ensures { result ≡ not (opens_by file.now depth starts) }
 {
-    let own = Numbers {
+    let own = Header {
         depth: file_head::depth(file),
         starts: [0; 15],
     };
@@ -52,30 +45,28 @@ fn empty_differs(file: &[u8], depth: u32, starts: [u32; 15]) -> bool
 // A question on bytes held beside numbers: 6 where they don't open to them, then as packed voxel. The sizes are read once, for
 // the test and the walk. Bytes too short for a head are refused first: the head's own tests of their length fall away. An empty
 // scene is compared apart: a comparison that both kinds of scene come to takes more instructions.
-pub fn ask_bytes(bytes: &[u8], depth: u32, starts: [u32; 15], v: Point) -> Found
+pub fn ask_bytes(bytes: &[u8], depth: u32, starts: [u32; 15], v: Point) -> Result<Found, Refusal>
     ensures { AskPromise bytes.now depth starts (at v) result }
 {
     if bytes.len() < PACKED_HEAD {
-        return Found::Refused(Refusal::BrokenRules);
+        return Err(Refusal::BrokenRules);
     }
-    if head_number(bytes, PACKED_VERSION, PACKED_HEAD) != 0 {
-        return Found::Refused(Refusal::BrokenRules);
+    if test_head(bytes, PACKED_VERSION, PACKED_HEAD).is_err() {
+        return Err(Refusal::BrokenRules);
     }
-    let mut own = Numbers {
+    let mut own = Header {
         depth: 0,
         starts: [0; 15],
     };
     if bytes[MIRROR_POSITION] == EMPTY_MARK {
         if empty_differs(bytes, depth, starts) {
-            return Found::Refused(Refusal::BrokenRules);
+            return Err(Refusal::BrokenRules);
         }
     } else {
         own.depth = file_head::depth(bytes);
-        if lists_bad(bytes, &mut own.starts) {
-            return Found::Refused(Refusal::BrokenRules);
-        }
+        read_lists(bytes, &mut own.starts)?;
         if differ(own, depth, starts) {
-            return Found::Refused(Refusal::BrokenRules);
+            return Err(Refusal::BrokenRules);
         }
     }
     voxel_in(bytes, own.starts, v)

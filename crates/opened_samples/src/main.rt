@@ -4,34 +4,30 @@
 // 1 for solid or 0 for empty, the records read, and the height of the emptiness.
 ghost use Rattle.std.specs.Prelude.{◌<◌};
 
-use rooms::{Found, Point};
+use rooms::{Found, Point, Refusal, number, solid_records_height};
 
 // One line of output.
 fn line(number: u32, solid: u32, records: u32, height: u32) {
     io::write_all(1, b"ask ");
-    io::print_decimal(1, number as u64);
+    io::print_decimal(1, u64::from(number));
     io::write_all(1, b" ");
-    io::print_decimal(1, solid as u64);
+    io::print_decimal(1, u64::from(solid));
     io::write_all(1, b" ");
-    io::print_decimal(1, records as u64);
+    io::print_decimal(1, u64::from(records));
     io::write_all(1, b" ");
-    io::print_decimal(1, height as u64);
+    io::print_decimal(1, u64::from(height));
     io::write_all(1, b"\n");
 }
 
 // Shows an answer.
-fn show(answer: Found) {
-    line(
-        answer.number(),
-        answer.value(),
-        answer.records(),
-        answer.height(),
-    );
+fn show(answer: Result<Found, Refusal>) {
+    let [solid, records, height] = solid_records_height(answer);
+    line(number(answer), solid, records, height);
 }
 
 // Opens, asks, and shows the answer.
 fn sample(file: &[u8], x: u32, y: u32, z: u32) {
-    show(rooms::open_and_ask(file, Point { x: x, y: y, z: z }));
+    show(rooms::open_and_ask(file, Point { x, y, z }));
 }
 
 // S1's packed room.

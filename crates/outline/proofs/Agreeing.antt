@@ -12,8 +12,8 @@ use lib.ListN.{length, drop, get_or, length-drop, drop_of_length-le}
 use lib.Seq.{drop-cons, drop-drop}
 use Rattle.paper.specs.Numbers.{num}
 use Rattle.paper.specs.Outline.{Tree, none, leaf, node_of, Read, bad, ok, bind, before, read_leaf, read_children, read_record}
-use Rattle.outline.specs.declared.Reading.{Reading}
-use Rattle.outline.specs.declared.Reading.TheVariants.{Broken, EndsAt}
+use Rattle.outline.specs.Positions.{Reading}
+use Rattle.outline.specs.Positions.{Broken, EndsAt}
 use Rattle.outline.specs.Positions.{and_then, leaf_at, children_at, record_at, Agrees}
 
 module _ (file : List ℕ) where

@@ -1,15 +1,16 @@
 -- The records by position, one law for each way through the readers: a leaf's record, a cell's, and the children's that are left.
 -- By the value of each test on the way, at which the definitions compute. Assumes nothing.
-use mathlib.Core.Path.{◌≡◌, refl}
+use mathlib.Core.Path.{◌≡◌}
 use mathlib.Core.List.{List}
-use Prim.Native.Nat.{ℕ, zero, suc, ◌+◌, ◌-◌, ◌/◌, ◌%◌, ◌<◌, ◌≤◌}
-use native.Mathlib.Numerals.{sub-one}
+use Prim.Native.Nat.{ℕ, suc, ◌+◌, ◌-◌, ◌/◌, ◌%◌, ◌^◌, ◌<◌, ◌≤◌}
+use Rattle.std.proofs.Math.Nat.{div-div-eq-div-mul, pow-suc, sub-eq-zero_of_le}
+use native.Mathlib.Numerals.{add-one}
 use native.Mathlib.Omega.{arith}
 use borrow.Author.Tests.{eq-eqb, ne_eqb, lt-ltb, le-ltb, le-leb, lt-leb}
 use lib.ListN.{length, drop, get_or}
 use Rattle.paper.specs.Numbers.{num}
-use Rattle.outline.specs.declared.Reading.{Reading}
-use Rattle.outline.specs.declared.Reading.TheVariants.{Broken, EndsAt}
+use Rattle.outline.specs.Positions.{Reading}
+use Rattle.outline.specs.Positions.{Broken, EndsAt}
 use Rattle.outline.specs.Positions.{and_then, leaf_at, children_at, record_at}
 
 module _ (file : List ℕ) (at : ℕ) where
@@ -47,23 +48,27 @@ module _ (file : List ℕ) (h at : ℕ) where
   unfolding record_at
   record-children l b e = rw (inner l, lt-leb (length file) at b, ne_eqb (get_or file at 0) 0 e)
 
--- children each read by f, of which n are left
-module _ (f : ℕ → Reading) where
-  pub children-none : (n m at : ℕ) → n ≡ 0 → children_at f n m at ≡ EndsAt at
+-- children each read by f, from child i of eight on, by the bits of m
+module _ (f : ℕ → Reading) (i m at : ℕ) where
+  pub children-none : 8 ≤ i → children_at f (8 - i) (m / 2 ^ i) at ≡ EndsAt at
   unfolding children_at
-  children-none n m at e = rw e
+  children-none l = rw (sub-eq-zero_of_le l)
 
-  pub children-skip : (n m at : ℕ) → (n ≡ 0 → ⊥) → m % 2 ≡ 0 → children_at f n m at ≡ children_at f (n - 1) (m / 2) at
-  unfolding children_at
-  children-skip zero m at z e = absurd (z refl)
-  children-skip (suc n) m at z e = rw (sub-one (suc n), ne_eqb (m % 2) 1 (λ o. omega arith))
+  module _ (l : i < 8) where
+    one-left : 8 - i ≡ suc (8 - (i + 1))
+    one-left = omega arith
 
-  pub children-broken : (n m at : ℕ) → (n ≡ 0 → ⊥) → (m % 2 ≡ 0 → ⊥) → f at ≡ Broken → children_at f n m at ≡ Broken
-  unfolding children_at and_then
-  children-broken zero m at z e b = absurd (z refl)
-  children-broken (suc n) m at z e b = rw (eq-eqb (m % 2) 1 (omega arith), b)
+    halved : m / 2 ^ i / 2 ≡ m / 2 ^ (i + 1)
+    halved = rw (add-one i, pow-suc 2 i) (div-div-eq-div-mul m (2 ^ i) 2)
 
-  pub children-next : (n m at p : ℕ) → (n ≡ 0 → ⊥) → (m % 2 ≡ 0 → ⊥) → f at ≡ EndsAt p → children_at f n m at ≡ children_at f (n - 1) (m / 2) p
-  unfolding children_at and_then
-  children-next zero m at p z e b = absurd (z refl)
-  children-next (suc n) m at p z e b = rw (sub-one (suc n), eq-eqb (m % 2) 1 (omega arith), b)
+    pub children-skip : (m / 2 ^ i % 2 ≡ 1 → ⊥) → children_at f (8 - i) (m / 2 ^ i) at ≡ children_at f (8 - (i + 1)) (m / 2 ^ (i + 1)) at
+    unfolding children_at
+    children-skip z = rw (one-left, ne_eqb (m / 2 ^ i % 2) 1 z, halved)
+
+    pub children-broken : m / 2 ^ i % 2 ≡ 1 → f at ≡ Broken → children_at f (8 - i) (m / 2 ^ i) at ≡ Broken
+    unfolding children_at and_then
+    children-broken e b = rw (one-left, eq-eqb (m / 2 ^ i % 2) 1 e, b)
+
+    pub children-next : (p : ℕ) → m / 2 ^ i % 2 ≡ 1 → f at ≡ EndsAt p → children_at f (8 - i) (m / 2 ^ i) at ≡ children_at f (8 - (i + 1)) (m / 2 ^ (i + 1)) p
+    unfolding children_at and_then
+    children-next p e b = rw (one-left, eq-eqb (m / 2 ^ i % 2) 1 e, b, halved)

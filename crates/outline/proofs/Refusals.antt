@@ -10,8 +10,8 @@ use lib.Dec.{eqb}
 use lib.ListN.{length, drop, length-drop, drop_of_length-le}
 use lib.Seq.{drop-cons}
 use Rattle.paper.specs.Outline.{outline_head, file_depth, Tree, Read, bad, ok, read_record, read_root, read_whole, outline_rules}
-use Rattle.outline.specs.declared.Reading.{Reading}
-use Rattle.outline.specs.declared.Reading.TheVariants.{Broken, EndsAt}
+use Rattle.outline.specs.Positions.{Reading}
+use Rattle.outline.specs.Positions.{Broken, EndsAt}
 use Rattle.outline.specs.Positions.{record_at, Agrees}
 use Rattle.outline.proofs.Agreeing.{record-agrees}
 
@@ -32,7 +32,7 @@ module _ (file : List ℕ) where
   unfolding read_root
   root-record k l = rw (drop-cons file outline_head 0 l)
 
-  pub rules-nothing : length file ≡ outline_head → not (outline_rules file) ≡ false
+  pub rules-nothing : length file ≡ outline_head → outline_rules file ≡ true
   unfolding outline_rules read_root
   rules-nothing e = rw (drop_of_length-le file {i = outline_head} (omega arith))
 
@@ -44,8 +44,11 @@ module _ (file : List ℕ) where
         rw (← deep, root-record (D - 2) l)
         (whole-ends (record_at file (D - 2) outline_head) (read_record (D - 2) (drop outline_head file)) (record-agrees file (D - 2) outline_head (omega arith)))
 
-    pub rules-broken : record_at file (D - 2) outline_head ≡ Broken → not (outline_rules file) ≡ true
-    rules-broken e = ap not (rules-by-end ∙ ap ends_there e)
+    pub rules-stop : record_at file (D - 2) outline_head ≡ Broken → outline_rules file ≡ false
+    rules-stop e = rules-by-end ∙ ap ends_there e
 
-    pub rules-end : (p : ℕ) → record_at file (D - 2) outline_head ≡ EndsAt p → not (outline_rules file) ≡ not (eqb p (length file))
-    rules-end p e = ap not (rules-by-end ∙ ap ends_there e)
+    pub rules-broken : record_at file (D - 2) outline_head ≡ Broken → not (outline_rules file) ≡ true
+    rules-broken e = ap not (rules-stop e)
+
+    pub rules-end : (p : ℕ) → record_at file (D - 2) outline_head ≡ EndsAt p → outline_rules file ≡ eqb p (length file)
+    rules-end p e = rules-by-end ∙ ap ends_there e

@@ -1,11 +1,19 @@
 -- Document 01, 'The outline file', read by positions: where in the file a record ends. Definitions only.
 -- The laws in proofs/Agreeing.antt say that these are the paper's readers.
-use Rattle.std.specs.Prelude.{cond, List, ◌≡◌, ℕ, zero, suc, ◌+◌, ◌/◌, ◌%◌, ◌≤◌, eqb, leb, ltb, length, drop, get_or}
+use Rattle.std.specs.Prelude.{cond, Result, Ok, Err, List, ◌≡◌, ℕ, zero, suc, ◌+◌, ◌/◌, ◌%◌, ◌≤◌, eqb, leb, ltb, length, drop, get_or}
 use Rattle.paper.specs.Numbers.{num}
 use Rattle.paper.specs.Rooms.{least, deepest}
 use Rattle.paper.specs.Outline.{outline_head, file_depth, Read, bad, ok}
-use Rattle.outline.specs.declared.Reading.{Reading}
-use Rattle.outline.specs.declared.Reading.TheVariants.{Broken, EndsAt}
+
+-- what reading a record comes to: it breaks the rules, or the position after it
+pub data Reading : Type 0 where
+  Broken : Reading
+  EndsAt : ℕ → Reading
+
+-- so read from what the readers answer
+abbrev pub reading_of : {E : Type 0} → Result ℕ E → Reading
+reading_of (Ok p) = EndsAt p
+reading_of (Err e) = Broken
 
 -- what is read from a record's end on, if there was a record
 unfoldable pub and_then : Reading → (ℕ → Reading) → Reading
@@ -23,12 +31,6 @@ children_at f (suc n) m at =
     let here = and_then (f at) (λ next. children_at f n (m / 2) next) in
     let skip = children_at f n (m / 2) at in
     cond (eqb (m % 2) 1) here skip
-
--- children of this height, so many of eight left to read
-pub record ChildrenLeft (height left : ℕ) : Type 0 where
-  pub height_from : least ≤ height
-  pub height_upto : height ≤ deepest
-  pub left_upto : left ≤ 8
 
 -- the record of a cell of height k + 2; above the leaves a mask of zero is broken ('Any other record')
 unfoldable pub record_at : List ℕ → ℕ → ℕ → Reading

@@ -1,6 +1,6 @@
 -- The length of a cell's record in an outline, by the store's pointers, and a length with a limit. Definitions only; that a record has so many bytes
 -- under any mirror is a law.
-use Rattle.std.specs.Prelude.{cond, List, ℕ, zero, suc, ◌+◌, ◌<◌, min, T, eqb, get_or}
+use Rattle.std.specs.Prelude.{◌≡◌, cond, List, ℕ, zero, suc, ◌+◌, ◌<◌, ◌≤◌, Option, None, Some, T, eqb, get_or}
 use Rattle.paper.specs.Store.{Cell, heights, kept_count, cell_at, cell_no, store_ok}
 
 -- cell n of list k is kept in an undamaged store
@@ -9,9 +9,10 @@ pub record Kept (ws : List ℕ) (k n : ℕ) : Type 0 where
   pub list : k < heights
   pub number : n < kept_count ws k
 
--- a length up to the limit: one more than the limit stands for any longer
-abbrev pub up_to : ℕ → ℕ → ℕ
-up_to limit n = min n (limit + 1)
+-- a length within the limit is known, and of one that is longer only that
+abbrev pub Within : ℕ → ℕ → Option ℕ → Type 0
+Within limit n None = limit < n
+Within limit n (Some m) = (m ≡ n) × (n ≤ limit)
 
 -- the length of what a pointer stands for: nothing, or the record of the cell that it names
 abbrev pub part_measure : (ℕ → ℕ) → ℕ → ℕ

@@ -14,7 +14,7 @@ use Rattle.paper.specs.Answers.{Outcome, outcome, number_of, written}
 use Rattle.paper.specs.Order.{when, first_number, settled}
 use Rattle.paper.specs.Calls.{over, no_scene, outline_bytes, outline_short, outline_outcome}
 use Rattle.paper.specs.declared.Refusal.TheVariants.{DamagedStore, NoScene, OutputShort}
-use Rattle.paper.specs.declared.Written.TheVariants.{Length, Refused}
+use Rattle.std.specs.Prelude.{Ok, Err}
 use Rattle.laws.proofs.Tests.{T_true}
 use Rattle.laws.proofs.Undamaged.{held-there}
 use Rattle.outline_out.specs.File.{Scene}
@@ -41,11 +41,11 @@ module _ (ws : List ℕ) (n : ℕ) (out : List ℕ) where
   unfolding outline_outcome
   whole = refl
 
-  pub damaged : store_ok ws ≡ false → outcome (written (Refused DamagedStore)) (out ∷ []) ≡ outline_outcome ws n out
+  pub damaged : store_ok ws ≡ false → outcome (written (Err DamagedStore)) (out ∷ []) ≡ outline_outcome ws n out
   unfolding first_number settled
   damaged e = ap (λ (p : Bool). by_tests p (no_scene ws n) (outline_short ws n out)) (sym e) ∙ whole
 
-  pub no_scene_lem : store_ok ws ≡ true → no_scene ws n ≡ true → outcome (written (Refused NoScene)) (out ∷ []) ≡ outline_outcome ws n out
+  pub no_scene_lem : store_ok ws ≡ true → no_scene ws n ≡ true → outcome (written (Err NoScene)) (out ∷ []) ≡ outline_outcome ws n out
   unfolding first_number settled
   no_scene_lem e h = ap₂ (λ (p q : Bool). by_tests p q (outline_short ws n out)) (sym e) (sym h) ∙ whole
 
@@ -53,11 +53,11 @@ module _ (ws : List ℕ) (n : ℕ) (out : List ℕ) where
     at_length : (s : Bool) → outline_short ws n out ≡ s → by_tests true false s ≡ outline_outcome ws n out
     at_length s e = let ok : store_ok ws ≡ true = T_true scene.whole in (λ i. by_tests (sym ok i) (sym (held-there ws n scene.held) i) (sym e i)) ∙ whole
 
-    pub too_short : min (length out) longest < length (outline_bytes ws n) → outcome (written (Refused OutputShort)) (out ∷ []) ≡ outline_outcome ws n out
+    pub too_short : min (length out) longest < length (outline_bytes ws n) → outcome (written (Err OutputShort)) (out ∷ []) ≡ outline_outcome ws n out
     unfolding first_number settled outline_short
     too_short h = at_length true (either-below (length out) longest (length (outline_bytes ws n)) h)
 
     pub in_order : length (outline_bytes ws n) ≤ min (length out) longest
-        → outcome (written (Length (length (outline_bytes ws n)))) (over (outline_bytes ws n) out ∷ []) ≡ outline_outcome ws n out
+        → outcome (written (Ok (length (outline_bytes ws n)))) (over (outline_bytes ws n) out ∷ []) ≡ outline_outcome ws n out
     unfolding first_number settled outline_short
     in_order h = at_length false (neither-below (length out) longest (length (outline_bytes ws n)) h)

@@ -7,17 +7,17 @@ ghost use Rattle.paper.specs.Store.{kept_of};
 ghost use Rattle.paper.specs.Answers.{outcome, written};
 ghost use Rattle.paper.specs.Calls.{outline_outcome};
 ghost use Rattle.numbers.specs.Laid.{reached, writing};
-ghost use Rattle.outline_measure.specs.Measure.{up_to};
+ghost use Rattle.outline_measure.specs.Measure.{Within};
 ghost use Rattle.outline_out.specs.File.{Root, Scene, Measured, root_at, scene_file};
 
 use file_head::write_head;
 use limits::{LEAF_HEIGHT, OUTLINE_HEAD, OUTLINE_VERSION};
 use outline_measure::measure;
 use outline_record::write_record;
-use paper::{Refusal, Written};
-use store::{not_held, scene_depth, scene_root};
+use paper::Refusal;
+use store::Store;
 use store_pointers::{cell_number, tag};
-use store_whole::store_bad;
+use store_whole::WholeStore;
 
 // The bytes before the root's record.
 const HEAD: u64 = OUTLINE_HEAD as u64;
@@ -29,40 +29,40 @@ const LONGEST: u64 = 4294967295;
 fn most(bytes: usize) -> u64
     ensures { result ≡ min bytes longest }
 {
-    let wide = bytes as u64;
-    if LONGEST < wide { LONGEST } else { wide }
+    (bytes as u64).min(LONGEST)
 }
 
-// The length of the record of a root, 0 for none, or one more than the limit where it is longer.
-fn measure_root(store: &[u32], depth: u32, root: u32, limit: u64) -> u64
-    requires root { Root store.now depth root }
+// The length of the record of a root, 0 for no root; none where it is longer than the limit.
+fn measure_root(store: Store, depth: u32, root: u32, limit: u64) -> Option<u64>
+    requires rooted { Root store.words.now depth root }
     requires limit_bound { limit < 2 ^ 32 }
-    ensures { result ≡ up_to limit (length (root_at (kept_of store.now) depth root)) }
+    ensures { Within limit (length (root_at (kept_of store.entry.words.now) depth root)) result }
 {
     if root == 0 {
-        return 0;
+        return Some(0);
     }
     measure(store, depth - LEAF_HEIGHT, cell_number(root), limit)
 }
 
-// The length of a scene's file, or one more than the limit where it is longer.
-fn measure_scene(store: &[u32], scene: u32, limit: u64) -> u64
-    requires scene { Scene store.now scene }
+// The length of a scene's file; none where it is longer than the limit.
+fn measure_scene(store: Store, scene: u32, limit: u64) -> Option<u64>
+    requires held { Scene store.words.now scene }
     requires limit_bound { limit < 2 ^ 32 }
-    ensures { result ≡ up_to limit (length (scene_file store.now scene)) }
+    ensures { Within limit (length (scene_file store.entry.words.now scene)) result }
 {
     if limit < HEAD {
-        return limit + 1;
+        return None;
     }
-    let depth = scene_depth(store, scene);
-    HEAD + measure_root(store, depth, scene_root(store, scene), limit - HEAD)
+    let depth = store.scene_depth(scene);
+    let record = measure_root(store, depth, store.scene_root(scene), limit - HEAD)?;
+    Some(HEAD + record)
 }
 
 // Writes the record of a root, nothing for none; answers the position after it.
-fn write_root(store: &[u32], depth: u32, root: u32, out: &mut [u8], at: usize) -> usize
-    requires root { Root store.now depth root }
-    requires root_in_bounds { at + length (root_at (kept_of store.now) depth root) ≤ length out.old }
-    ensures { reached result out.new ≡ writing (root_at (kept_of store.now) depth root) at out.old }
+fn write_root(store: Store, depth: u32, root: u32, out: &mut [u8], at: usize) -> usize
+    requires rooted { Root store.words.now depth root }
+    requires root_in_bounds { at + length (root_at (kept_of store.words.now) depth root) ≤ length out.old }
+    ensures { reached result out.new ≡ writing (root_at (kept_of store.entry.words.now) depth root) at out.old }
 {
     if root == 0 {
         return at;
@@ -72,30 +72,27 @@ fn write_root(store: &[u32], depth: u32, root: u32, out: &mut [u8], at: usize) -
 }
 
 // Writes a scene's file, which has this length; answers the position after it.
-fn write_scene(store: &[u32], scene: u32, total: u64, out: &mut [u8]) -> usize
-    requires { Measured store.now scene total out.old }
-    ensures { reached result out.new ≡ writing (scene_file store.now scene) 0 out.old }
+fn write_scene(store: Store, scene: u32, total: u64, out: &mut [u8]) -> usize
+    requires { Measured store.words.now scene total out.old }
+    ensures { reached result out.new ≡ writing (scene_file store.entry.words.now scene) 0 out.old }
 {
-    let depth = scene_depth(store, scene);
-    let root = scene_root(store, scene);
+    let depth = store.scene_depth(scene);
+    let root = store.scene_root(scene);
     let at = write_head(out, OUTLINE_VERSION, total, depth);
     write_root(store, depth, root, out, at)
 }
 
 // Outline out: the length written; refused by 2 (the whole store), 9, then 12.
-pub fn outline_out(store: &[u32], scene: u32, out: &mut [u8]) -> Written
+pub fn outline_out(store: &[u32], scene: u32, out: &mut [u8]) -> Result<u32, Refusal>
     ensures { outcome (written result) (out.new ∷ []) ≡ outline_outcome store.now scene out.old }
 {
-    if store_bad(store) {
-        return Written::Refused(Refusal::DamagedStore);
-    }
-    if not_held(store, scene) {
-        return Written::Refused(Refusal::NoScene);
+    let whole = WholeStore::open(store)?;
+    if !whole.store.holds(scene) {
+        return Err(Refusal::NoScene);
     }
     let limit = most(out.len());
-    let total = measure_scene(store, scene, limit);
-    if limit < total {
-        return Written::Refused(Refusal::OutputShort);
-    }
-    Written::Length(write_scene(store, scene, total, out) as u32)
+    let Some(total) = measure_scene(whole.store, scene, limit) else {
+        return Err(Refusal::OutputShort);
+    };
+    Ok(write_scene(whole.store, scene, total, out) as u32)
 }

@@ -19,8 +19,8 @@ use Rattle.paper.specs.Pack.{empty_file, layout, scene_graph, packed_file}
 use Rattle.paper.specs.Calls.{over, cleared, no_scene, scratch_for, pack_bytes, pack_short, pack_scratch_after, pack_outcome}
 use Rattle.paper.specs.Headset.{too_deep, headset_pack_scratch_after, headset_pack_outcome}
 use Rattle.paper.specs.declared.Refusal.TheVariants.{DamagedStore, NoScene, ScratchShort, OutputShort, TooDeep, LongPointer}
-use Rattle.paper.specs.declared.Written.{Written}
-use Rattle.paper.specs.declared.Written.TheVariants.{Length, Refused}
+use Rattle.std.specs.Prelude.{Result, Ok, Err}
+use Rattle.paper.specs.declared.Refusal.{Refusal}
 use Rattle.laws.proofs.Tests.{T_true, true-T, and_left}
 use Rattle.laws.proofs.Undamaged.{held-there}
 use Rattle.pack_bytes.specs.Writing.{fitted}
@@ -29,20 +29,20 @@ use Rattle.pack.specs.Ready.{profiled}
 -- ---- an output
 
 module _ (bs out : List ℕ) where
-  pub fitted_short : length out < length bs → outcome (written (Refused OutputShort)) (out ∷ []) ≡ fitted bs out
+  pub fitted_short : length out < length bs → outcome (written (Err OutputShort)) (out ∷ []) ≡ fitted bs out
   unfolding fitted
   fitted_short h =
       ap (λ (b : Bool). cond b (outcome (told 12 (0 ∷ [])) (out ∷ [])) (outcome (told 0 (length bs ∷ [])) (over bs out ∷ []))) (sym (lt-ltb (length out) (length bs) h))
 
-  pub fitted-whole : (n : ℕ) (o : List ℕ) → n ≡ length bs → o ≡ over bs out → length bs ≤ length out → outcome (written (Length n)) (o ∷ []) ≡ fitted bs out
+  pub fitted-whole : (n : ℕ) (o : List ℕ) → n ≡ length bs → o ≡ over bs out → length bs ≤ length out → outcome (written (Ok n)) (o ∷ []) ≡ fitted bs out
   unfolding fitted
   fitted-whole n o e f h =
-      (λ i. outcome (written (Length (e i))) (f i ∷ []))
+      (λ i. outcome (written (Ok (e i))) (f i ∷ []))
       ∙ ap (λ (b : Bool). cond b (outcome (told 12 (0 ∷ [])) (out ∷ [])) (outcome (told 0 (length bs ∷ [])) (over bs out ∷ []))) (sym (le-ltb (length out) (length bs) h))
 
 -- bytes with a long pointer aren't for the headset; all others are for both
 module _ (headset : Bool) (bs out : List ℕ) where
-  pub profiled-long : headset && not (all_short bs) ≡ true → outcome (written (Refused LongPointer)) (out ∷ []) ≡ profiled headset bs out
+  pub profiled-long : headset && not (all_short bs) ≡ true → outcome (written (Err LongPointer)) (out ∷ []) ≡ profiled headset bs out
   unfolding profiled
   profiled-long e = rw e
 
@@ -121,35 +121,35 @@ module _ (ws : List ℕ) (n : ℕ) (scratch out : List ℕ) where
   whole false = refl
 
   -- refused before scratch is used
-  first_two : (headset q s d l o : Bool) → outcome (written (Refused DamagedStore)) (scratch ∷ out ∷ []) ≡ by_tests headset false q s d l o
+  first_two : (headset q s d l o : Bool) → outcome (written (Err DamagedStore)) (scratch ∷ out ∷ []) ≡ by_tests headset false q s d l o
   unfolding first_number settled is_in
   first_two true q s d l o = refl
   first_two false q s d l o = refl
 
-  first-nine : (headset s d l o : Bool) → outcome (written (Refused NoScene)) (scratch ∷ out ∷ []) ≡ by_tests headset true true s d l o
+  first-nine : (headset s d l o : Bool) → outcome (written (Err NoScene)) (scratch ∷ out ∷ []) ≡ by_tests headset true true s d l o
   unfolding first_number settled is_in
   first-nine true s d l o = refl
   first-nine false s d l o = refl
 
-  first-eleven : (headset d l o : Bool) → outcome (written (Refused ScratchShort)) (scratch ∷ out ∷ []) ≡ by_tests headset true false true d l o
+  first-eleven : (headset d l o : Bool) → outcome (written (Err ScratchShort)) (scratch ∷ out ∷ []) ≡ by_tests headset true false true d l o
   unfolding first_number settled is_in
   first-eleven true d l o = refl
   first-eleven false d l o = refl
 
   module _ (headset : Bool) where
-    pub damaged : store_ok ws ≡ false → outcome (written (Refused DamagedStore)) (scratch ∷ out ∷ []) ≡ scene_outcome headset
+    pub damaged : store_ok ws ≡ false → outcome (written (Err DamagedStore)) (scratch ∷ out ∷ []) ≡ scene_outcome headset
     damaged e =
         first_two headset (no_scene ws n) (ltb (length scratch) (scratch_for ws)) (deep headset) (long headset) (pack_short ws n out)
         ∙ ap (λ (p : Bool). by_tests headset p (no_scene ws n) (ltb (length scratch) (scratch_for ws)) (deep headset) (long headset) (pack_short ws n out)) (sym e) ∙ whole headset
 
     module _ (ok : store_ok ws ≡ true) where
-      pub no_scene_lem : no_scene ws n ≡ true → outcome (written (Refused NoScene)) (scratch ∷ out ∷ []) ≡ scene_outcome headset
+      pub no_scene_lem : no_scene ws n ≡ true → outcome (written (Err NoScene)) (scratch ∷ out ∷ []) ≡ scene_outcome headset
       no_scene_lem h =
           first-nine headset (ltb (length scratch) (scratch_for ws)) (deep headset) (long headset) (pack_short ws n out)
           ∙ (λ i. by_tests headset (sym ok i) (sym h i) (ltb (length scratch) (scratch_for ws)) (deep headset) (long headset) (pack_short ws n out)) ∙ whole headset
 
       module _ (held : T (is_held ws n)) where
-        pub scratch-short : length scratch < scratch_for ws → outcome (written (Refused ScratchShort)) (scratch ∷ out ∷ []) ≡ scene_outcome headset
+        pub scratch-short : length scratch < scratch_for ws → outcome (written (Err ScratchShort)) (scratch ∷ out ∷ []) ≡ scene_outcome headset
         scratch-short h =
             first-eleven headset (deep headset) (long headset) (pack_short ws n out)
             ∙ (λ i. by_tests headset (sym ok i) (sym (held-there ws n held) i) (sym (lt-ltb (length scratch) (scratch_for ws) h) i) (deep headset) (long headset) (pack_short ws n out)) ∙ whole headset
@@ -159,16 +159,16 @@ module _ (ws : List ℕ) (n : ℕ) (scratch out : List ℕ) where
           at-depth d e =
               (λ i. by_tests headset (sym ok i) (sym (held-there ws n held) i) (sym (le-ltb (length scratch) (scratch_for ws) room) i) (sym e i) (long headset) (pack_short ws n out)) ∙ whole headset
 
-          fourteen : (h l o : Bool) → h ≡ true → outcome (written (Refused TooDeep)) (cleared (scratch_for ws) scratch ∷ out ∷ []) ≡ by_tests h true false false true l o
+          fourteen : (h l o : Bool) → h ≡ true → outcome (written (Err TooDeep)) (cleared (scratch_for ws) scratch ∷ out ∷ []) ≡ by_tests h true false false true l o
           unfolding first_number settled is_in
           fourteen true l o e = refl
           fourteen false l o e = absurd (false≢true e)
 
           -- scratch cleared, and too deep for the headset
           pub too_deep_lem : (s : List ℕ) (D : ℕ) → s ≡ cleared (scratch_for ws) scratch → D ≡ scene_depth ws n → headset && too_deep D ≡ true
-              → outcome (written (Refused TooDeep)) (s ∷ out ∷ []) ≡ scene_outcome headset
+              → outcome (written (Err TooDeep)) (s ∷ out ∷ []) ≡ scene_outcome headset
           too_deep_lem s D c f e =
-              ap (λ (x : List ℕ). outcome (written (Refused TooDeep)) (x ∷ out ∷ [])) c
+              ap (λ (x : List ℕ). outcome (written (Err TooDeep)) (x ∷ out ∷ [])) c
               ∙ fourteen headset (long headset) (pack_short ws n out) (T_true (and_left headset (too_deep D) (true-T e)))
               ∙ at-depth true (ap (λ (d : ℕ). headset && too_deep d) (sym f) ∙ e)
 
@@ -185,7 +185,7 @@ module _ (ws : List ℕ) (n : ℕ) (scratch out : List ℕ) where
 
           -- scratch cleared, and the output as the file's bytes leave it
           pub in_order : (D : ℕ) → D ≡ scene_depth ws n → headset && too_deep D ≡ false
-              → (r : Written) (s o bs : List ℕ) → s ≡ cleared (scratch_for ws) scratch → bs ≡ pack_bytes ws n → outcome (written r) (o ∷ []) ≡ profiled headset bs out
+              → (r : Result ℕ Refusal) (s o bs : List ℕ) → s ≡ cleared (scratch_for ws) scratch → bs ≡ pack_bytes ws n → outcome (written r) (o ∷ []) ≡ profiled headset bs out
               → outcome (written r) (s ∷ o ∷ []) ≡ scene_outcome headset
           unfolding profiled fitted pack_short before
           in_order D d g r s o bs c f e =

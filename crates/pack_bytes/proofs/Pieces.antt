@@ -2,7 +2,7 @@
 -- carried from k + 1 to k - 1 once. Assumes nothing.
 use mathlib.Core.Path.{◌≡◌, refl, ap, ◌∙◌}
 use mathlib.Core.List.{List, [], ◌++◌, map}
-use Prim.Native.Nat.{ℕ, zero, suc, ◌+◌, ◌-◌, ◌*◌}
+use Prim.Native.Nat.{ℕ, zero, suc, ◌+◌, ◌-◌, ◌*◌, ◌<◌}
 use native.Mathlib.Numerals.{sub-one}
 use native.Mathlib.Omega.{arith}
 use lib.ListN.{get_or}
@@ -27,10 +27,10 @@ record-cell K C (suc k) s q b c z e f =
     rw (d, g, e)
 
 -- the last k lists
-pub body-down : (K : List (List Cell)) (C : ℕ) (counts : List ℕ) (k : ℕ) (s : List ℕ) → (k ≡ 0 → ⊥)
+pub body-down : (K : List (List Cell)) (C : ℕ) (counts : List ℕ) (k : ℕ) (s : List ℕ) → 0 < k
     → body_in K C counts k s ≡ list_in K C (k - 1) (get_or counts (k - 1) 0) s ++ body_in K C counts (k - 1) s
 unfolding body_in
-body-down K C counts zero s z = absurd (z refl)
+body-down K C counts zero s z = absurd (omega arith)
 body-down K C counts (suc k) s z = rw (sub-one (suc k))
 
 pub body-none : (K : List (List Cell)) (C : ℕ) (counts : List ℕ) (k : ℕ) (s : List ℕ) → k ≡ 0 → body_in K C counts k s ≡ []
@@ -39,18 +39,18 @@ body-none K C counts k s e = rw e
 
 -- the sizes
 module _ (sizes : List ℕ) where
-  pub sizes-down : (k : ℕ) → (k ≡ 0 → ⊥) → sizes_in sizes k ≡ bytes 4 (get_or sizes (k - 1) 0) ++ sizes_in sizes (k - 1)
+  pub sizes-down : (k : ℕ) → 0 < k → sizes_in sizes k ≡ bytes 4 (get_or sizes (k - 1) 0) ++ sizes_in sizes (k - 1)
   unfolding sizes_in
-  sizes-down zero z = absurd (z refl)
+  sizes-down zero z = absurd (omega arith)
   sizes-down (suc k) z = rw (sub-one (suc k))
 
   pub sizes-none : (k : ℕ) → k ≡ 0 → sizes_in sizes k ≡ []
   unfolding sizes_in
   sizes-none k e = rw e
 
-  pub length-down : (k : ℕ) → (k ≡ 0 → ⊥) → body_length sizes k ≡ 2 * get_or sizes k 0 + body_length sizes (k - 1)
+  pub length-down : (k : ℕ) → 0 < k → body_length sizes k ≡ 2 * get_or sizes k 0 + body_length sizes (k - 1)
   unfolding body_length
-  length-down zero z = absurd (z refl)
+  length-down zero z = absurd (omega arith)
   length-down (suc k) z = rw (sub-one (suc k))
 
   pub length_last : (k : ℕ) → k ≡ 0 → body_length sizes k ≡ 8 * get_or sizes 0 0

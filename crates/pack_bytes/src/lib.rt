@@ -10,14 +10,12 @@ ghost use Rattle.pack_scratch.specs.Parts.{Room, places_in};
 ghost use Rattle.pack_places.specs.Placing.{Below, Kept};
 ghost use Rattle.pack_bytes.specs.Writing.{record_in, list_in, body_in, sizes_in, file_length};
 
-use limits::{
-    CHILDREN, FARTHEST_SHORT, HALF_BYTES, LEAF_BYTES, LONG_PLACES, PACKED_HEAD, SHORT_PLACES,
-};
-use numbers::{wider, write_number};
+use limits::{FARTHEST_SHORT, HALF_BYTES, LEAF_BYTES, LONG_PLACES, PACKED_HEAD, SHORT_PLACES};
+use numbers::write_number;
 use pack_places::codes_of;
-use pack_scratch::{ordered, place};
-use store::{capacity, cell_at, leaf_at};
+use pack_scratch::Table;
 use store_pointers::{cell_number, tag};
+use store_whole::WholeStore;
 
 // The bytes of a short and of a long pointer, of a record's header and of a list's size.
 const SHORT_BYTES: usize = HALF_BYTES;
@@ -55,12 +53,12 @@ fn write_pointer(c: u32, k: u32, p: u32, scratch: &[u32], out: &mut [u8], at: us
     if p == 0 {
         return at;
     }
-    let mirror = wider(tag(p));
-    let to = place(c, k, cell_number(p), scratch);
+    let mirror = u64::from(tag(p));
+    let to = Table::Place(k).get(c, cell_number(p), scratch);
     if to <= FARTHEST_SHORT {
-        return write_number(out, at, SHORT_BYTES, mirror * SHORT_TAG + wider(to));
+        return write_number(out, at, SHORT_BYTES, mirror * SHORT_TAG + u64::from(to));
     }
-    write_number(out, at, LONG_BYTES, mirror * LONG_TAG + wider(to))
+    write_number(out, at, LONG_BYTES, mirror * LONG_TAG + u64::from(to))
 }
 
 // Writes a cell's pointers into list k; answers the position after them.
@@ -77,71 +75,77 @@ fn write_pointers(
     requires cell_in_bounds { at + length (flatten (map (pointer_bytes (places_in c k scratch.now)) cell)) ≤ length out.old }
     ensures { reached result out.new ≡ writing (flatten (map (pointer_bytes (places_in c k scratch.now)) cell)) at out.old }
 {
-    let mut i = 0;
     let mut next = at;
-    while i < CHILDREN as usize {
-        next = write_pointer(c, k, cell[i], scratch, out, next);
-        i += 1;
+    for p in cell {
+        next = write_pointer(c, k, p, scratch, out, next);
     }
     next
 }
 
 // Writes the record of cell q of list k; answers the position after it.
-fn write_record(store: &[u32], k: u32, q: u32, scratch: &[u32], out: &mut [u8], at: usize) -> usize
-    requires t { T (store_ok store.now) }
-    requires room { Room (capacity_of store.now) k scratch.now }
-    requires q_bound { q < kept_count store.now k }
-    requires q_in_bounds { at + length (record_in (kept_of store.now) (capacity_of store.now) k scratch.now q) ≤ length out.old }
-    ensures { reached result out.new ≡ writing (record_in (kept_of store.now) (capacity_of store.now) k scratch.now q) at out.old }
+fn write_record(
+    whole: WholeStore,
+    k: u32,
+    q: u32,
+    scratch: &[u32],
+    out: &mut [u8],
+    at: usize,
+) -> usize
+    requires room { Room (capacity_of whole.store.words.now) k scratch.now }
+    requires q_bound { q < kept_count whole.store.words.now k }
+    requires q_in_bounds { at + length (record_in (kept_of whole.store.words.now) (capacity_of whole.store.words.now) k scratch.now q) ≤ length out.old }
+    ensures { reached result out.new ≡ writing (record_in (kept_of whole.entry.store.words.now) (capacity_of whole.entry.store.words.now) k scratch.now q) at out.old }
 {
     if k == 0 {
-        return write_number(out, at, LEAF_BYTES, leaf_at(store, q));
+        return write_number(out, at, LEAF_BYTES, whole.store.leaf_at(q));
     }
-    let c = capacity(store);
-    let cell = cell_at(store, k, q);
-    let header = wider(codes_of(c, k - 1, cell, TWO_BITS, scratch));
+    let c = whole.store.capacity();
+    let cell = whole.store.cell_at(k, q);
+    let header = u64::from(codes_of(c, k - 1, cell, TWO_BITS, scratch));
     let next = write_number(out, at, HEADER_BYTES, header);
     write_pointers(c, k - 1, cell, scratch, out, next)
 }
 
 // Writes list k of n cells; answers the position after it.
-fn write_list(store: &[u32], k: u32, n: u32, scratch: &[u32], out: &mut [u8], at: usize) -> usize
-    requires t { T (store_ok store.now) }
-    requires room { Room (capacity_of store.now) k scratch.now }
-    requires kept { Kept store.now k n scratch.now }
-    requires out_in_bounds { at + length (list_in (kept_of store.now) (capacity_of store.now) k n scratch.now) ≤ length out.old }
-    ensures { reached result out.new ≡ writing (list_in (kept_of store.now) (capacity_of store.now) k n scratch.now) at out.old }
+fn write_list(
+    whole: WholeStore,
+    k: u32,
+    n: u32,
+    scratch: &[u32],
+    out: &mut [u8],
+    at: usize,
+) -> usize
+    requires room { Room (capacity_of whole.store.words.now) k scratch.now }
+    requires kept { Kept whole.store.words.now k n scratch.now }
+    requires out_in_bounds { at + length (list_in (kept_of whole.store.words.now) (capacity_of whole.store.words.now) k n scratch.now) ≤ length out.old }
+    ensures { reached result out.new ≡ writing (list_in (kept_of whole.entry.store.words.now) (capacity_of whole.entry.store.words.now) k n scratch.now) at out.old }
 {
-    let c = capacity(store);
+    let c = whole.store.capacity();
     let mut next = at;
-    let mut i = 0u32;
-    while i < n {
-        next = write_record(store, k, ordered(c, k, i, scratch), scratch, out, next);
-        i += 1;
+    for i in 0..n {
+        let q = Table::Order(k).get(c, i, scratch);
+        next = write_record(whole, k, q, scratch, out, next);
     }
     next
 }
 
 // Writes the lists from list `top` down to the leaves; answers the position after them.
 pub fn write_lists(
-    store: &[u32],
+    whole: WholeStore,
     top: u32,
     counts: [u32; 15],
     scratch: &[u32],
     out: &mut [u8],
     at: usize,
 ) -> usize
-    requires t { T (store_ok store.now) }
-    requires room { Room (capacity_of store.now) top scratch.now }
-    requires by_index { (j : ℕ) → j ≤ top → Kept store.now j (get_or counts j 0) scratch.now }
-    requires out_in_bounds { at + length (body_in (kept_of store.now) (capacity_of store.now) counts (suc top) scratch.now) ≤ length out.old }
-    ensures { reached result out.new ≡ writing (body_in (kept_of store.now) (capacity_of store.now) counts (suc top) scratch.now) at out.old }
+    requires room { Room (capacity_of whole.store.words.now) top scratch.now }
+    requires all_kept { (j : ℕ) → j ≤ top → Kept whole.store.words.now j (get_or counts j 0) scratch.now }
+    requires out_in_bounds { at + length (body_in (kept_of whole.store.words.now) (capacity_of whole.store.words.now) counts (suc top) scratch.now) ≤ length out.old }
+    ensures { reached result out.new ≡ writing (body_in (kept_of whole.entry.store.words.now) (capacity_of whole.entry.store.words.now) counts (suc top) scratch.now) at out.old }
 {
-    let mut k = top + 1;
     let mut next = at;
-    while k != 0 {
-        k -= 1;
-        next = write_list(store, k, counts[k as usize], scratch, out, next);
+    for k in (0..top + 1).rev() {
+        next = write_list(whole, k, counts[k as usize], scratch, out, next);
     }
     next
 }
@@ -152,11 +156,9 @@ pub fn write_sizes(sizes: [u32; 15], top: u32, out: &mut [u8], at: usize) -> usi
     requires top_in_bounds { at + length (sizes_in sizes (suc top)) ≤ length out.old }
     ensures { reached result out.new ≡ writing (sizes_in sizes (suc top)) at out.old }
 {
-    let mut k = top + 1;
     let mut next = at;
-    while k != 0 {
-        k -= 1;
-        next = write_number(out, next, SIZE_BYTES, wider(sizes[k as usize]));
+    for k in (0..top + 1).rev() {
+        next = write_number(out, next, SIZE_BYTES, u64::from(sizes[k as usize]));
     }
     next
 }
@@ -166,11 +168,9 @@ pub fn file_length(sizes: [u32; 15], top: u32) -> u64
     requires { top < heights }
     ensures { result ≡ file_length sizes top }
 {
-    let mut k = top;
-    let mut sum = HEAD + SIZE_LENGTH * (wider(top) + 1);
-    while k != 0 {
-        sum += HALF_LENGTH * wider(sizes[k as usize]);
-        k -= 1;
+    let mut sum = HEAD + SIZE_LENGTH * (u64::from(top) + 1);
+    for k in (1..top + 1).rev() {
+        sum += HALF_LENGTH * u64::from(sizes[k as usize]);
     }
-    sum + LEAF_LENGTH * wider(sizes[0])
+    sum + LEAF_LENGTH * u64::from(sizes[0])
 }

@@ -17,12 +17,13 @@ use Rattle.paper.specs.Order.{Test, when, first_number, settled}
 use Rattle.paper.specs.Calls.{packed_outside, packed_broken, packed_voxel_order, packed_values, packed_voxel_outcome}
 use Rattle.paper.specs.declared.Refusal.{Refusal}
 use Rattle.paper.specs.declared.Refusal.TheVariants.{BrokenRules, Outside}
+use Rattle.paper.specs.declared.Broken.{Broken}
 use Rattle.paper.specs.declared.Found.{Found}
-use Rattle.paper.specs.declared.Found.TheVariants.{Refused}
 use Rattle.laws.proofs.Refusals.{settled-refused}
 use Rattle.file_head.specs.Heads.{head_number}
-use Rattle.file_head.proofs.HeadTests.{Headed, head-stops, head-goes-on}
+use Rattle.file_head.proofs.HeadTests.{Headed, head-refuses, head-goes-on, refusal-is-not-0}
 use Rattle.packed.specs.Headers.{HeaderRead}
+use Rattle.std.specs.Prelude.{Result, Ok, Err}
 use Rattle.packed_walk.specs.Walk.{solid_or, found_by, ending_of, found_at}
 
 -- ---- the outcome by the tests: outside; broken
@@ -30,13 +31,18 @@ use Rattle.packed_walk.specs.Walk.{solid_or, found_by, ending_of, found_at}
 abbrev by_tests : List ℕ → Bool → Bool → Outcome
 by_tests values o w = settled (first_number (when o (number_of Outside) ∷ when w (number_of BrokenRules) ∷ [])) values [] []
 
-end-found : (e : End) (n : ℕ) → outcome (found (found_by e n)) [] ≡ by_tests (bit_for (solid_at e) ∷ n ∷ empty_height e ∷ []) false (is_damaged e)
+-- what is broken is refused by 6
+abbrev pub refused : Result Found Broken → Result Found Refusal
+refused (Ok f) = Ok f
+refused (Err e) = Err BrokenRules
+
+end-found : (e : End) (n : ℕ) → outcome (found (refused (found_by e n))) [] ≡ by_tests (bit_for (solid_at e) ∷ n ∷ empty_height e ∷ []) false (is_damaged e)
 unfolding first_number settled
 end-found damaged n = refl
 end-found (absent h) n = refl
 end-found (in_leaf b u) n = go (leaf_voxel b u)
   where
-    go : (t : Bool) → outcome (found (solid_or t n)) [] ≡ by_tests (bit_for t ∷ n ∷ 0 ∷ []) false false
+    go : (t : Bool) → outcome (found (Ok (record { voxel = solid_or t; records = n }))) [] ≡ by_tests (bit_for t ∷ n ∷ 0 ∷ []) false false
     go true = refl
     go false = refl
 
@@ -51,12 +57,12 @@ module _ (bs : List ℕ) (v : Point) where
   abbrev later : List Test
   later = when (packed_outside bs v) 10 ∷ when (packed_broken bs v) 6 ∷ []
 
-  pub bad-bytes : (r : Refusal) (n : ℕ) → number_of r ≡ n → n ≡ head_number packed_version packed_head bs → (n ≡ 0 → ⊥) → outcome (found (Refused r)) [] ≡ packed_voxel_outcome bs v
+  pub bad-bytes : (why : Refusal) → number_of why ≡ head_number packed_version packed_head bs → outcome (found (Err why)) [] ≡ packed_voxel_outcome bs v
   unfolding packed_voxel_outcome
-  bad-bytes r n e f ne =
-      let stops : first_number (packed_voxel_order bs v) ≡ head_number packed_version packed_head bs = head-stops packed_version packed_head bs later (λ z. ne (f ∙ z)) in
-      ap (λ (m : ℕ). outcome (told m (0 ∷ 0 ∷ 0 ∷ [])) []) (e ∙ f ∙ sym stops)
-      ∙ sym (settled-refused (first_number (packed_voxel_order bs v)) (packed_values bs v) [] [] (λ z. ne (f ∙ sym stops ∙ z)))
+  bad-bytes why e =
+      let is : number_of why ≡ first_number (packed_voxel_order bs v) = head-refuses packed_version packed_head bs later why e in
+      ap (λ (m : ℕ). outcome (told m (0 ∷ 0 ∷ 0 ∷ [])) []) is
+      ∙ sym (settled-refused (first_number (packed_voxel_order bs v)) (packed_values bs v) [] [] (λ z. refusal-is-not-0 why (is ∙ z)))
 
   module _ (h : Headed packed_version packed_head bs) where
     rest : (o w : Bool) → packed_outside bs v ≡ o → packed_broken bs v ≡ w → by_tests (packed_values bs v) o w ≡ packed_voxel_outcome bs v
@@ -65,14 +71,14 @@ module _ (bs : List ℕ) (v : Point) where
         ap₂ (by_tests (packed_values bs v)) (sym eo) (sym ew)
         ∙ ap (λ (n : ℕ). settled n (packed_values bs v) [] []) (sym (head-goes-on packed_version packed_head bs later h))
 
-    pub far-out : packed_outside bs v ≡ true → outcome (found (Refused Outside)) [] ≡ packed_voxel_outcome bs v
+    pub far-out : packed_outside bs v ≡ true → outcome (found (Err Outside)) [] ≡ packed_voxel_outcome bs v
     unfolding first_number settled
     far-out o = rest true (packed_broken bs v) o refl
 
-    pub bad-head : packed_outside bs v ≡ false → head_ok bs ≡ false → outcome (found (Refused BrokenRules)) [] ≡ packed_voxel_outcome bs v
+    pub bad-head : packed_outside bs v ≡ false → head_ok bs ≡ false → outcome (found (Err BrokenRules)) [] ≡ packed_voxel_outcome bs v
     unfolding first_number settled packed_broken file_walk
     bad-head o e = rest false true o (rw e refl)
 
-    pub walked : packed_outside bs v ≡ false → (r : Found) → r ≡ found_at (ending_of (file_walk bs v)) → outcome (found r) [] ≡ packed_voxel_outcome bs v
+    pub walked : packed_outside bs v ≡ false → (r : Result Found Broken) → r ≡ found_at (ending_of (file_walk bs v)) → outcome (found (refused r)) [] ≡ packed_voxel_outcome bs v
     unfolding packed_broken
-    walked o r e = ap (λ (x : Found). outcome (found x) []) e ∙ end-found (file_walk bs v).end (length (file_walk bs v).path) ∙ rest false (is_damaged (file_walk bs v).end) o refl
+    walked o r e = ap (λ (x : Result Found Broken). outcome (found (refused x)) []) e ∙ end-found (file_walk bs v).end (length (file_walk bs v).path) ∙ rest false (is_damaged (file_walk bs v).end) o refl

@@ -1,7 +1,7 @@
 -- The header's tests and the list starts, one law for each way through the code: what each test says of the file, and that the starts counted from
 -- the top down are those of the file where its sizes add up. By cases of the tests, and by adding one list at a time. Assumes nothing.
 use mathlib.Core.Path.{◌≡◌, refl, sym, ◌∙◌, ap, subst}
-use mathlib.Core.Bool.{Bool, true, false, false≢true, not, cond, ◌||◌}
+use mathlib.Core.Bool.{Bool, true, false, false≢true, cond, ◌||◌}
 use mathlib.Core.List.{List}
 use Prim.Native.Nat.{ℕ, zero, suc, ◌+◌, ◌-◌, ◌*◌, ◌%◌, ◌≤◌, ◌<◌, ◌^◌}
 use native.Mathlib.Nat.{zero-add, not-suc-le-zero, mod-eq_of_lt}
@@ -111,37 +111,37 @@ module _ (bs : List ℕ) where
       go i true e = l.here i (omega arith) (leb-true i (top_of bs) e)
       go i false e = l.above i (leb-false i (top_of bs) e)
 
--- ---- byte 6 and the sizes: the ways through `head_bad`
+-- ---- byte 6 and the sizes: the ways through `read_lists`
 
 module _ (bs : List ℕ) where
-  pub head-empty : root_tag bs ≡ empty_mark → not (eqb (length bs) packed_head) ≡ not (head_ok bs)
+  pub head-empty : root_tag bs ≡ empty_mark → head_ok bs ≡ eqb (length bs) packed_head
   unfolding head_ok
-  head-empty e = rw e (ap not (sym (and-true (eqb (length bs) packed_head))))
+  head-empty e = rw e (and-true (eqb (length bs) packed_head))
 
   -- a mirror: the sizes decide
-  pub head-sizes : (root_tag bs ≡ empty_mark → ⊥) → root_tag bs ≤ empty_mark → head_ok bs ≡ sizes_ok bs
+  head-sizes : (root_tag bs ≡ empty_mark → ⊥) → root_tag bs ≤ empty_mark → head_ok bs ≡ sizes_ok bs
   unfolding head_ok
   head-sizes n h = rw (le-leb (root_tag bs) empty_mark h, ne_eqb (root_tag bs) empty_mark n) refl
 
-  head-mark : empty_mark < root_tag bs → true ≡ not (head_ok bs)
+  head-mark : empty_mark < root_tag bs → head_ok bs ≡ false
   unfolding head_ok
   head-mark h = rw (lt-leb (root_tag bs) empty_mark h) refl
 
-  no_room : (root_tag bs ≡ empty_mark → ⊥) → root_tag bs ≤ empty_mark → length bs < front_of bs → true ≡ not (head_ok bs)
+  no_room : (root_tag bs ≡ empty_mark → ⊥) → root_tag bs ≤ empty_mark → length bs < front_of bs → head_ok bs ≡ false
   unfolding sizes_ok
   no_room some h l =
       let never : front_of bs + tail_at bs (top_of bs) ≡ length bs → ⊥ = λ e. omega arith in
-      ap not (sym (head-sizes some h ∙ ne_eqb (front_of bs + tail_at bs (top_of bs)) (length bs) never))
+      head-sizes some h ∙ ne_eqb (front_of bs + tail_at bs (top_of bs)) (length bs) never
 
   -- byte 6 above 8, or no room for n sizes, as the code tests it
   module _ (n : ℕ) (e : n ≡ suc (top_of bs)) where
     abbrev pub short : Bool → Bool
     short mark = mark || ltb (length bs) (packed_head + 4 * n)
 
-    pub head-short : (root_tag bs ≡ empty_mark → ⊥) → short (ltb empty_mark (root_tag bs)) ≡ true → true ≡ not (head_ok bs)
+    pub head-short : (root_tag bs ≡ empty_mark → ⊥) → short (ltb empty_mark (root_tag bs)) ≡ true → head_ok bs ≡ false
     head-short some t = go (ltb empty_mark (root_tag bs)) refl t
       where
-        go : (a : Bool) → ltb empty_mark (root_tag bs) ≡ a → short a ≡ true → true ≡ not (head_ok bs)
+        go : (a : Bool) → ltb empty_mark (root_tag bs) ≡ a → short a ≡ true → head_ok bs ≡ false
         go true q t = head-mark (ltb-true empty_mark (root_tag bs) q)
         go false q t = no_room some (ltb-false empty_mark (root_tag bs) q) (omega (arith, e, ltb-true (length bs) (packed_head + 4 * n) t))
 
@@ -152,9 +152,9 @@ module _ (bs : List ℕ) where
         go true q t = absurd (false≢true (sym t))
         go false q t = (ltb-false empty_mark (root_tag bs) q, omega (arith, e, ltb-false (length bs) (packed_head + 4 * n) t))
 
-  pub head-sum : (root_tag bs ≡ empty_mark → ⊥) → root_tag bs ≤ empty_mark → not (eqb (front_of bs + tail_at bs (top_of bs)) (length bs)) ≡ not (head_ok bs)
+  pub head-sum : (root_tag bs ≡ empty_mark → ⊥) → root_tag bs ≤ empty_mark → head_ok bs ≡ eqb (front_of bs + tail_at bs (top_of bs)) (length bs)
   unfolding sizes_ok
-  head-sum n h = ap not (sym (head-sizes n h))
+  head-sum n h = head-sizes n h
 
 -- byte 6 of a file that is not empty is a mirror
 pub root-small : (bs : List ℕ) → T (root_ok bs) → (root_tag bs ≡ empty_mark → ⊥) → root_tag bs < 8

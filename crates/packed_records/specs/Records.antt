@@ -1,11 +1,10 @@
 -- One record as code reads it: the code of a child, the pointer that the code's struct stands for, and what a pointer leads to. Definitions only.
-use Rattle.std.specs.Prelude.{◌≡◌, Bool, cond, ◌&&◌, List, ℕ, ◌+◌, ◌*◌, ◌/◌, ◌%◌, ◌^◌, ◌≤◌, ◌<◌, eqb, ltb, length, drop, get_or}
+use Rattle.std.specs.Prelude.{◌≡◌, Option, None, Some, Result, Ok, Err, Bool, cond, ◌&&◌, List, ℕ, ◌+◌, ◌*◌, ◌/◌, ◌%◌, ◌^◌, ◌≤◌, ◌<◌, eqb, ltb, length, drop, get_or}
 use Rattle.paper.specs.Numbers.{num}
 use Rattle.paper.specs.Walk.{Child, none, wrong, to}
 use Rattle.paper.specs.Packed.{PackedPointer, no_pointer, pointer_of, pointers_at, codes_ok, code_for}
 use Rattle.packed_records.specs.declared.Pointer.{Pointer}
-use Rattle.packed_records.specs.declared.Taken.{Taken}
-use Rattle.packed_records.specs.declared.Taken.TheVariants.{None, Wrong, To}
+use Rattle.packed_records.specs.declared.target.Target.{Target}
 
 -- the two bits of child i
 abbrev pub code_at : ℕ → ℕ → ℕ
@@ -29,13 +28,7 @@ abbrev pub child_to : PackedPointer → Child
 child_to q = cond (eqb q.code 0) none (cond (eqb q.code (code_for q.place)) (to q.tag q.place) wrong)
 
 -- as code answers it
-abbrev pub child_is : Taken → Child
-child_is None = none
-child_is Wrong = wrong
-child_is (To t p) = to t p
-
--- its tag is a mirror
-abbrev pub TagLow : Taken → Type 0
-TagLow None = Unit {0}
-TagLow Wrong = Unit {0}
-TagLow (To t p) = t < 8
+abbrev pub child_is : {E : Type 0} → Result (Option Target) E → Child
+child_is (Ok None) = none
+child_is (Ok (Some there)) = to there.mirror there.place
+child_is (Err e) = wrong

@@ -5,10 +5,14 @@ ghost use Rattle.std.specs.Prelude.{◌≡◌, not, ◌+◌, ◌*◌, ◌%◌, �
 ghost use Rattle.paper.specs.Numbers.{num};
 ghost use Rattle.paper.specs.Store.{leaf_no};
 ghost use Rattle.paper.specs.Packed.{halves, codes_ok, header_at, record_ok, pointer_of, pointers_at, no_pointer, code_for, leaf_at};
-ghost use Rattle.packed_records.specs.Records.{pointer_is, header_ok, BytesOf, child_is, child_to, TagLow};
+ghost use Rattle.packed_records.specs.Records.{pointer_is, header_ok, BytesOf, child_is, child_to};
+
+mod target;
 
 use limits::{CHILDREN, FARTHEST_SHORT, HALF_BYTES, LEAF_BYTES, LONG_PLACES, SHORT_PLACES};
 use numbers::{be16, be32, be64};
+use paper::Broken;
+pub use target::Target;
 
 // The low bit of each of a header's eight codes.
 const LOW_BITS: u32 = 0x5555;
@@ -16,7 +20,8 @@ const LOW_BITS: u32 = 0x5555;
 // The bytes of a record of eight 4-byte pointers: no record is longer.
 const LONGEST: usize = 34;
 
-// A child's pointer: its code (0 none, 1 of 2 bytes, 2 of 4), its mirror, and the child's place.
+// A child's pointer: its code (0 none, 1 of 2 bytes, 2 of 4), its mirror, and the child's place. The code stays the number that a header
+// holds: rules count with it (it is the half-words of the pointer, and a place calls for one), so an enum would be turned back into it.
 #[derive(Clone, Copy)]
 pub struct Pointer {
     pub code: u32,
@@ -29,14 +34,6 @@ pub struct Pointer {
 struct PointerBytes {
     from: usize,
     code: u32,
-}
-
-// What a pointer leads to: nothing; a place that calls for the other width; with this tag, this place one list down.
-#[derive(Clone, Copy)]
-pub enum Taken {
-    None,
-    Wrong,
-    To(u32, u32),
 }
 
 // The half-words of a record up to the pointer of child n: its header and the pointers before. The codes are added two by two,
@@ -126,7 +123,7 @@ pub fn pointer_from(list: &[u8], from: usize, code: u32) -> Pointer
 
 // Where the bytes of the pointer of child i of the record at a place begin, and its code.
 fn bytes_of(list: &[u8], place: u32, i: u32) -> PointerBytes
-    requires t { T (record_ok list.now place) }
+    requires good { T (record_ok list.now place) }
     requires i_bound { i < 8 }
     ensures { BytesOf list.now place i result.from result.code }
 {
@@ -155,33 +152,37 @@ pub fn code_for(place: u32) -> u32
     if place <= FARTHEST_SHORT { 1 } else { 2 }
 }
 
-// What the pointer of this code whose bytes begin at a position leads to.
-fn child_from(list: &[u8], from: usize, code: u32) -> Taken
+// What the pointer of this code whose bytes begin at a position leads to: broken where its place calls for the other width.
+fn child_from(list: &[u8], from: usize, code: u32) -> Result<Option<Target>, Broken>
     requires { (code < 3) × (from + 2 * code ≤ length list.now) }
-    ensures result_value { child_is result ≡ child_to (pointer_of code (num (2 * code) (drop from list.now))) }
-    ensures tag_low { TagLow result }
+    ensures { child_is result ≡ child_to (pointer_of code (num (2 * code) (drop from list.now))) }
 {
     if code == 0 {
-        return Taken::None;
+        return Ok(None);
     }
     if code == 1 {
         let short = be16(list, from);
-        return Taken::To(short / SHORT_PLACES, short % SHORT_PLACES);
+        return Ok(Some(Target {
+            mirror: short / SHORT_PLACES,
+            place: short % SHORT_PLACES,
+        }));
     }
     let long = be32(list, from);
     let place = long % LONG_PLACES;
     if code_for(place) == 1 {
-        return Taken::Wrong;
+        return Err(Broken);
     }
-    Taken::To(long / LONG_PLACES, place)
+    Ok(Some(Target {
+        mirror: long / LONG_PLACES,
+        place,
+    }))
 }
 
 // What child i of the record at a place is.
-pub fn child(list: &[u8], place: u32, i: u32) -> Taken
-    requires t { T (record_ok list.now place) }
+pub fn child(list: &[u8], place: u32, i: u32) -> Result<Option<Target>, Broken>
+    requires good { T (record_ok list.now place) }
     requires i_bound { i < 8 }
-    ensures result_value { child_is result ≡ child_to (get_or (pointers_at list.now place) i no_pointer) }
-    ensures tag_low { TagLow result }
+    ensures { child_is result ≡ child_to (get_or (pointers_at list.now place) i no_pointer) }
 {
     let bytes = bytes_of(list, place, i);
     child_from(list, bytes.from, bytes.code)

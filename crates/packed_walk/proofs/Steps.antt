@@ -17,7 +17,8 @@ use Rattle.paper.specs.Outline.{edge}
 use Rattle.paper.specs.Store.{leaf_no}
 use Rattle.paper.specs.Walk.{End, damaged, absent, in_leaf, Step, Walk, unless, after, path_after, onward, Child, none, wrong, to, walk_in}
 use Rattle.paper.specs.Packed.{no_pointer, pointers_at, leaf_at, record_ok, leaf_ok}
-use Rattle.packed_walk.specs.declared.Ended.TheVariants.{Broken, InLeaf}
+use Rattle.std.specs.Prelude.{Ok, Err}
+use Rattle.packed_walk.specs.declared.Ended.TheVariants.{InLeaf}
 use Rattle.packed_records.specs.Records.{child_to}
 use Rattle.packed_walk.specs.Walk.{lists_reading, taken_at, Ending, ending_of, ending, leaf_ending}
 use Rattle.points.specs.Seeing.{seen_at, child_no_at}
@@ -100,10 +101,10 @@ module _ (l : List ℕ) (p i : ℕ) where
 -- ---- in a leaf
 
 module _ (l : List ℕ) (p m n : ℕ) where
-  pub leaf-broken : leaf_no (leaf_at l p) ≡ 0 → Broken ≡ leaf_ending l p m n
+  pub leaf-broken : leaf_no (leaf_at l p) ≡ 0 → Err (record {}) ≡ leaf_ending l p m n
   leaf-broken e = rw e refl
 
-  pub leaf-ends : (b : ℕ) → b ≡ leaf_no (leaf_at l p) → (b ≡ 0 → ⊥) → InLeaf b m (n + 1) ≡ leaf_ending l p m n
+  pub leaf-ends : (b : ℕ) → b ≡ leaf_no (leaf_at l p) → (b ≡ 0 → ⊥) → Ok (record { end = InLeaf b m; records = n + 1 }) ≡ leaf_ending l p m n
   leaf-ends b e z = rw (sym e, ne_eqb b 0 z) refl
 
   pub leaf_ending_lem : (v : Point) → ending v (leaf_ending l p m n) ≡ plus n (if_ok (leaf_ok l p) (record { end = in_leaf (leaf_no (leaf_at l p)) (seen_at 0 m v); records = 1 }))
@@ -113,7 +114,7 @@ module _ (l : List ℕ) (p m n : ℕ) where
       b : ℕ
       b = leaf_no (leaf_at l p)
 
-      go : (c : Bool) → eqb b 0 ≡ c → ending v (cond c Broken (InLeaf b m (n + 1))) ≡ plus n (if_ok (ltb 0 b) (record { end = in_leaf b (seen_at 0 m v); records = 1 }))
+      go : (c : Bool) → eqb b 0 ≡ c → ending v (cond c (Err (record {})) (Ok (record { end = InLeaf b m; records = n + 1 }))) ≡ plus n (if_ok (ltb 0 b) (record { end = in_leaf b (seen_at 0 m v); records = 1 }))
       go true e = rw (eqb-true b 0 e) refl
       go false e = rw (lt-ltb 0 b (omega (arith, eqb-false b 0 e))) refl
 

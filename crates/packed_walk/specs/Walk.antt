@@ -1,16 +1,18 @@
 -- The packed walk over an inner part and a leaf part, as the list starts cut them, and how code answers its end. Definitions only.
-use Rattle.std.specs.Prelude.{◌≡◌, Bool, true, false, cond, List, ℕ, zero, suc, ◌+◌, ◌-◌, ◌%◌, ◌≤◌, ◌<◌, eqb, length, take, drop, get_or}
+use Rattle.std.specs.Prelude.{◌≡◌, Result, Ok, Err, Bool, true, false, cond, List, ℕ, zero, suc, ◌+◌, ◌-◌, ◌%◌, ◌≤◌, ◌<◌, eqb, length, take, drop, get_or}
 use Rattle.paper.specs.Rooms.{Point, in_child}
 use Rattle.paper.specs.Leaf.{leaf_voxel}
 use Rattle.paper.specs.Outline.{edge}
 use Rattle.paper.specs.Store.{heights, leaf_no}
 use Rattle.paper.specs.Walk.{End, damaged, absent, in_leaf, Child, wrong, Walk, Reading, walk_in}
 use Rattle.paper.specs.Packed.{no_pointer, pointers_at, leaf_at, record_ok, leaf_ok}
-use Rattle.paper.specs.declared.Refusal.TheVariants.{BrokenRules}
+use Rattle.paper.specs.declared.Broken.{Broken}
+use Rattle.paper.specs.declared.Voxel.{Voxel}
+use Rattle.paper.specs.declared.Voxel.TheVariants.{Solid, Empty}
 use Rattle.paper.specs.declared.Found.{Found}
-use Rattle.paper.specs.declared.Found.TheVariants.{Refused, Solid, Empty}
 use Rattle.packed_walk.specs.declared.Ended.{Ended}
-use Rattle.packed_walk.specs.declared.Ended.TheVariants.{Broken, Absent, InLeaf}
+use Rattle.packed_walk.specs.declared.Ended.TheVariants.{Absent, InLeaf}
+use Rattle.packed_walk.specs.declared.Walked.{Walked}
 use Rattle.packed_records.specs.Records.{child_to}
 use Rattle.points.specs.Seeing.{seen_at}
 
@@ -59,24 +61,27 @@ abbrev pub ending_of : Walk → Ending
 ending_of w = record { end = w.end; records = length w.path }
 
 -- as code answers it on the way to v
-abbrev pub ending : Point → Ended → Ending
-ending v Broken = record { end = damaged; records = 0 }
-ending v (Absent h n) = record { end = absent h; records = n }
-ending v (InLeaf b m n) = record { end = in_leaf b (seen_at 0 m v); records = n }
+abbrev pub end_seen : Point → Ended → End
+end_seen v (Absent h) = absent h
+end_seen v (InLeaf b m) = in_leaf b (seen_at 0 m v)
+
+abbrev pub ending : Point → Result Walked Broken → Ending
+ending v (Ok w) = record { end = end_seen v w.end; records = w.records }
+ending v (Err e) = record { end = damaged; records = 0 }
 
 -- at leaf p seen under m, after n records
-abbrev pub leaf_ending : List ℕ → ℕ → ℕ → ℕ → Ended
-leaf_ending l p m n = let b : ℕ = leaf_no (leaf_at l p) in cond (eqb b 0) Broken (InLeaf b m (n + 1))
+abbrev pub leaf_ending : List ℕ → ℕ → ℕ → ℕ → Result Walked Broken
+leaf_ending l p m n = let b : ℕ = leaf_no (leaf_at l p) in cond (eqb b 0) (Err (record {})) (Ok (record { end = InLeaf b m; records = n + 1 }))
 
 -- the answer for it
-abbrev pub solid_or : Bool → ℕ → Found
-solid_or true n = Solid n
-solid_or false n = Empty n 0
+abbrev pub solid_or : Bool → Voxel
+solid_or true = Solid
+solid_or false = Empty 0
 
-abbrev pub found_by : End → ℕ → Found
-found_by damaged n = Refused BrokenRules
-found_by (absent h) n = Empty n h
-found_by (in_leaf b u) n = solid_or (leaf_voxel b u) n
+abbrev pub found_by : End → ℕ → Result Found Broken
+found_by damaged n = Err (record {})
+found_by (absent h) n = Ok (record { voxel = Empty h; records = n })
+found_by (in_leaf b u) n = Ok (record { voxel = solid_or (leaf_voxel b u); records = n })
 
-abbrev pub found_at : Ending → Found
+abbrev pub found_at : Ending → Result Found Broken
 found_at e = found_by e.end e.records

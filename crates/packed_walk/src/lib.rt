@@ -4,23 +4,30 @@
 ghost use Rattle.std.specs.Prelude.{◌≡◌, ◌%◌, ◌<◌, length};
 ghost use Rattle.std.specs.Int.Bits.{bit_xor};
 ghost use Rattle.paper.specs.Store.{heights};
-ghost use Rattle.packed_records.specs.Records.{child_is, TagLow};
+ghost use Rattle.packed_records.specs.Records.{child_is};
 ghost use Rattle.packed_walk.specs.Walk.{Parts, ending, ending_of, leaf_ending, parts_walk, taken_at};
 ghost use Rattle.points.specs.Points.{at};
 ghost use Rattle.points.specs.Seeing.{child_no_at};
 
-use packed_records::{Taken, child, leaf, record_bad};
+use limits::LEAF_HEIGHT;
+use packed_records::{Target, child, leaf, record_bad};
+use paper::Broken;
 use points::{Point, child_number};
 
-// How a walk ends.
+// Where a walk ends.
 #[derive(Clone, Copy)]
 pub enum Ended {
-    // What was entered or taken is broken.
-    Broken,
-    // The child of this height is absent, after this many records.
-    Absent(u32, u32),
-    // In a leaf of these bits, seen under this mirror, after this many records, the leaf's among them.
-    InLeaf(u64, u32, u32),
+    // The child of this height is absent.
+    Absent(u32),
+    // In a leaf of these bits, seen under this mirror.
+    InLeaf(u64, u32),
+}
+
+// A walk that met nothing broken, with the number of records read, a leaf's among them.
+#[derive(Clone, Copy)]
+pub struct Walked {
+    pub end: Ended,
+    pub records: u32,
 }
 
 // Which child of a record of list k + 1 holds a point, the record being seen under a mirror.
@@ -32,35 +39,38 @@ fn number_seen(k: u32, mirror: u32, v: Point) -> u32
     child_number(k, v) ^ mirror
 }
 
-// What the child that holds a point is, of the record at a place of list k + 1, seen under a mirror; wrong where the record breaks a rule.
-// The record is tested first: fewer numbers are at hand at once.
-fn step(list: &[u8], place: u32, k: u32, mirror: u32, v: Point) -> Taken
+// What the child that holds a point is, of the record at a place of list k + 1, seen under a mirror. The record is tested first: fewer
+// numbers are at hand at once.
+fn step(list: &[u8], place: u32, k: u32, mirror: u32, v: Point) -> Result<Option<Target>, Broken>
     requires k_lt_heights { k < heights }
     requires mirror_bound { mirror < 8 }
-    ensures result_value { child_is result ≡ taken_at list.now place (bit_xor (child_no_at k (at v)) mirror) }
-    ensures tag_low { TagLow result }
+    ensures { child_is result ≡ taken_at list.now place (bit_xor (child_no_at k (at v)) mirror) }
 {
     if record_bad(list, place) {
-        return Taken::Wrong;
+        return Err(Broken);
     }
     child(list, place, number_seen(k, mirror, v))
 }
 
 // How the walk ends in a leaf, after `read` records; the leaf is one more.
-fn in_leaf(leaves: &[u8], place: u32, mirror: u32, read: u32) -> Ended
+fn in_leaf(leaves: &[u8], place: u32, mirror: u32, read: u32) -> Result<Walked, Broken>
     requires leaves_len { length leaves.now % 8 ≡ 0 }
     requires read_bound { read < 16 }
     ensures { result ≡ leaf_ending leaves.now place mirror read }
 {
     let bits = leaf(leaves, place);
     if bits == 0 {
-        return Ended::Broken;
+        return Err(Broken);
     }
-    Ended::InLeaf(bits, mirror, read + 1)
+    Ok(Walked {
+        end: Ended::InLeaf(bits, mirror),
+        records: read + 1,
+    })
 }
 
 // The walk from the top record, list by list, counting the records read. `starts` says where each list lies in the inner part, which
-// ends with list 1; a pointer past its list is found out where it leads.
+// ends with list 1; a pointer past its list is found out where it leads. The starts stay fifteen numbers: each is read once, since a list
+// ends where the one below it starts.
 pub fn walk(
     inner: &[u8],
     leaves: &[u8],
@@ -68,34 +78,28 @@ pub fn walk(
     top: u32,
     mirror: u32,
     v: Point,
-) -> Ended
+) -> Result<Walked, Broken>
     requires parts { Parts inner.now leaves.now starts top }
     requires mirror_bound { mirror < 8 }
     ensures { ending (at v) result ≡ ending_of (parts_walk inner.now leaves.now starts top mirror (at v)) }
 {
-    let mut k = top;
-    let mut start = starts[k as usize] as usize;
+    let mut start = starts[top as usize] as usize;
     let mut place = 0u32;
     let mut seen = mirror;
     let mut records = 0u32;
-    while 0 < k {
-        let end = starts[(k - 1) as usize] as usize;
-        let taken = step(&inner[start..end], place, k - 1, seen, v);
+    for k in (0..top).rev() {
+        let end = starts[k as usize] as usize;
+        let taken = step(&inner[start..end], place, k, seen, v)?;
         records += 1;
-        match taken {
-            Taken::None => {
-                return Ended::Absent(k + 1, records);
-            }
-            Taken::Wrong => {
-                return Ended::Broken;
-            }
-            Taken::To(tag, to) => {
-                place = to;
-                seen = tag ^ seen;
-            }
-        }
+        let Some(below) = taken else {
+            return Ok(Walked {
+                end: Ended::Absent(k + LEAF_HEIGHT),
+                records,
+            });
+        };
+        place = below.place;
+        seen = below.mirror ^ seen;
         start = end;
-        k -= 1;
     }
     in_leaf(leaves, place, seen, records)
 }

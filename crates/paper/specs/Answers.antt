@@ -1,21 +1,14 @@
--- The answers of the calls, read as the documents' number and values ('any answer that is an enum'). An accepted call has number 0; a refusal has its
+-- The answers of the calls, read as the documents' number and values. An accepted call has number 0; a refusal has its
 -- own in the table, and zeros for values. Definitions only.
-use Rattle.std.specs.Prelude.{List, [], ◌∷◌, ℕ}
+use Rattle.std.specs.Prelude.{List, [], ◌∷◌, ℕ, Bool, replicate, get_or, Result, Ok, Err, Option, None, Some, ⊤}
+use Rattle.paper.specs.Numbers.{bit_for}
 use Rattle.paper.specs.declared.Refusal.{Refusal}
 use Rattle.paper.specs.declared.Refusal.TheVariants.{BadSize, DamagedStore, BadVersion, BadLength, BadDepth, BrokenRules, ScenesFull, CellsFull, NoScene, Outside, ScratchShort, OutputShort, BadWish, TooDeep, LongPointer}
-use Rattle.paper.specs.declared.Started.{Started}
-use Rattle.paper.specs.declared.Added.{Added}
-use Rattle.paper.specs.declared.Seen.{Seen}
-use Rattle.paper.specs.declared.Occupied.{Occupied}
-use Rattle.paper.specs.declared.Counted.{Counted}
-use Rattle.paper.specs.declared.Kept.{Kept}
-use Rattle.paper.specs.declared.Written.{Written}
-use Rattle.paper.specs.declared.Checked.{Checked}
-use Rattle.paper.specs.declared.Found.{Found}
-use Rattle.paper.specs.declared.Chosen.{Chosen}
-use Rattle.paper.specs.declared.Opening.{Opening}
-use Rattle.paper.specs.declared.Sighted.{Sighted}
+use Rattle.paper.specs.declared.Voxel.{Voxel}
+use Rattle.paper.specs.declared.Sight.{Sight}
 use Rattle.paper.specs.declared.Searched.{Searched}
+use Rattle.paper.specs.declared.Found.{Found}
+use Rattle.paper.specs.declared.Opening.{Opening}
 
 -- the number and the values of an answer
 pub record Told : Type 0 where
@@ -25,7 +18,7 @@ pub record Told : Type 0 where
 abbrev pub told : ℕ → List ℕ → Told
 told n vs = record { number = n; values = vs }
 
--- the table of refusal numbers; 14 and 15 are document 02's, request 12
+-- the table of refusal numbers
 abbrev pub number_of : Refusal → ℕ
 number_of BadSize = 1
 number_of DamagedStore = 2
@@ -43,74 +36,82 @@ number_of BadWish = 13
 number_of TooDeep = 14
 number_of LongPointer = 15
 
+-- an answer with n values: those of what is accepted, or n zeros beside the refusal's number
+abbrev pub answer_told : {A : Type 0} → ℕ → (A → List ℕ) → Result A Refusal → Told
+answer_told n values (Ok a) = told 0 (values a)
+answer_told n values (Err r) = told (number_of r) (replicate n 0)
+
+-- an answer's number alone
+abbrev pub answer_number : {A : Type 0} → Result A Refusal → ℕ
+answer_number (Ok a) = 0
+answer_number (Err r) = number_of r
+
 -- new store: no value
-abbrev pub started : Started → Told
-started Started.Ready = told 0 []
-started (Started.Refused r) = told (number_of r) []
+abbrev pub started : Result ⊤ Refusal → Told
+started = answer_told 0 (λ u. [])
 
 -- add: the scene's number
-abbrev pub added : Added → Told
-added (Added.Scene n) = told 0 (n ∷ [])
-added (Added.Refused r) = told (number_of r) (0 ∷ [])
+abbrev pub added : Result ℕ Refusal → Told
+added = answer_told 1 (λ n. n ∷ [])
 
 -- voxel: 1 for solid, 0 for empty, then the height of the emptiness
-abbrev pub seen : Seen → Told
-seen Seen.Solid = told 0 (1 ∷ 0 ∷ [])
-seen (Seen.Empty h) = told 0 (0 ∷ h ∷ [])
-seen (Seen.Refused r) = told (number_of r) (0 ∷ 0 ∷ [])
+abbrev pub voxel_values : Voxel → List ℕ
+voxel_values Voxel.Solid = 1 ∷ 0 ∷ []
+voxel_values (Voxel.Empty h) = 0 ∷ h ∷ []
 
--- sight line (document 02, request 3): 1 where it is blocked, then the voxel that blocks it
-abbrev pub sighted : Sighted → Told
-sighted Sighted.Clear = told 0 (0 ∷ 0 ∷ 0 ∷ 0 ∷ [])
-sighted (Sighted.Blocked x y z) = told 0 (1 ∷ x ∷ y ∷ z ∷ [])
-sighted (Sighted.Refused r) = told (number_of r) (0 ∷ 0 ∷ 0 ∷ 0 ∷ [])
+abbrev pub seen : Result Voxel Refusal → Told
+seen = answer_told 2 voxel_values
+
+-- sight line: 1 where it is blocked, then the voxel that blocks it
+abbrev pub sight_values : Sight → List ℕ
+sight_values Sight.Clear = 0 ∷ 0 ∷ 0 ∷ 0 ∷ []
+sight_values (Sight.Blocked x y z) = 1 ∷ x ∷ y ∷ z ∷ []
+
+abbrev pub sighted : Result Sight Refusal → Told
+sighted = answer_told 4 sight_values
 
 -- cell: 1 for non-empty, 0 for empty
-abbrev pub occupied : Occupied → Told
-occupied Occupied.NonEmpty = told 0 (1 ∷ [])
-occupied Occupied.Empty = told 0 (0 ∷ [])
-occupied (Occupied.Refused r) = told (number_of r) (0 ∷ [])
+abbrev pub occupied : Result Bool Refusal → Told
+occupied = answer_told 1 (λ full. bit_for full ∷ [])
 
 -- box: the solid voxels
-abbrev pub counted : Counted → Told
-counted (Counted.Solid n) = told 0 (n ∷ [])
-counted (Counted.Refused r) = told (number_of r) (0 ∷ [])
+abbrev pub counted : Result ℕ Refusal → Told
+counted = answer_told 1 (λ n. n ∷ [])
 
--- anything in the way (document 02, request 5): 1 where the box holds a solid voxel, then the cells entered
-abbrev pub searched : Searched → Told
-searched (Searched.Solid n) = told 0 (1 ∷ n ∷ [])
-searched (Searched.Empty n) = told 0 (0 ∷ n ∷ [])
-searched (Searched.Refused r) = told (number_of r) (0 ∷ 0 ∷ [])
+-- anything in the way: 1 where the box holds a solid voxel, then the cells entered
+abbrev pub searched : Result Searched Refusal → Told
+searched = answer_told 2 (λ s. bit_for s.found ∷ s.entered ∷ [])
 
 -- kept: the cells kept at a height
-abbrev pub kept : Kept → Told
-kept (Kept.Cells n) = told 0 (n ∷ [])
-kept (Kept.Refused r) = told (number_of r) (0 ∷ [])
+abbrev pub kept : Result ℕ Refusal → Told
+kept = answer_told 1 (λ n. n ∷ [])
 
 -- outline out and pack: the length written
-abbrev pub written : Written → Told
-written (Written.Length n) = told 0 (n ∷ [])
-written (Written.Refused r) = told (number_of r) (0 ∷ [])
+abbrev pub written : Result ℕ Refusal → Told
+written = answer_told 1 (λ n. n ∷ [])
 
 -- packed check: the depth
-abbrev pub checked : Checked → Told
-checked (Checked.Depth d) = told 0 (d ∷ [])
-checked (Checked.Refused r) = told (number_of r) (0 ∷ [])
+abbrev pub checked : Result ℕ Refusal → Told
+checked = answer_told 1 (λ n. n ∷ [])
 
 -- packed voxel: 1 for solid, 0 for empty, then the records read, then the height of the emptiness
-abbrev pub found : Found → Told
-found (Found.Solid n) = told 0 (1 ∷ n ∷ 0 ∷ [])
-found (Found.Empty n h) = told 0 (0 ∷ n ∷ h ∷ [])
-found (Found.Refused r) = told (number_of r) (0 ∷ 0 ∷ 0 ∷ [])
+abbrev pub found_values : Found → List ℕ
+found_values f = get_or (voxel_values f.voxel) 0 0 ∷ f.records ∷ get_or (voxel_values f.voxel) 1 0 ∷ []
+
+abbrev pub found : Result Found Refusal → Told
+found = answer_told 3 found_values
 
 -- detail: the height
-abbrev pub chosen : Chosen → Told
-chosen (Chosen.Height h) = told 0 (h ∷ [])
-chosen (Chosen.Refused r) = told (number_of r) (0 ∷ [])
+abbrev pub chosen : Result ℕ Refusal → Told
+chosen = answer_told 1 (λ n. n ∷ [])
 
 -- opening: the depth and the list starts; the part that it holds is what `holds` gives
+abbrev pub refusal_number : Option Refusal → ℕ
+refusal_number None = 0
+refusal_number (Some r) = number_of r
+
 abbrev pub opened : Opening → Told
-opened o = told o.number (o.scene.depth ∷ o.scene.starts)
+opened o = told (refusal_number o.refusal) (o.scene.depth ∷ o.scene.starts)
 
 abbrev pub holds : Opening → List ℕ
 holds o = o.scene.bytes.now

@@ -1,7 +1,7 @@
 -- Document 02, request 5 ('Is anything in the way'): whether a box of a scene holds a solid voxel, with the number of cells entered: the search through
 -- the cells, its refusals in their order, and its whole outcome. Definitions only. Stored counts are not used.
 -- As for a box (Questions), a cell is seen under a mirror, and the box lies in its cube as seen.
-use Rattle.std.specs.Prelude.{Bool, true, false, cond, ◌&&◌, List, [], ◌∷◌, ℕ, zero, suc, ◌+◌, ◌-◌, ◌*◌, ◌^◌, eqb, ltb, length, get_or}
+use Rattle.std.specs.Prelude.{Bool, true, false, cond, ◌&&◌, List, [], ◌∷◌, ℕ, zero, suc, ◌+◌, ◌-◌, ◌*◌, ◌^◌, eqb, ltb, length, get_or, Result, Ok, Err}
 use Rattle.std.specs.Int.Bits.{bit_xor}
 use Rattle.paper.specs.Numbers.{any_below, sum, bit_for}
 use Rattle.paper.specs.Rooms.{Point, Room, mirrored, cell_of, sum3, box_count, has_voxel, clipped, non_empty}
@@ -11,10 +11,21 @@ use Rattle.paper.specs.Store.{Cell, cells_at, cell_at, leaf_no, tag_of, cell_no,
 use Rattle.paper.specs.Answers.{Outcome}
 use Rattle.paper.specs.Order.{first_number, settled}
 use Rattle.paper.specs.Calls.{question_order, box_outside, of_scene}
-use Rattle.paper.specs.declared.Search.{Search}
-use Rattle.paper.specs.declared.Search.TheVariants.{Met, Passed, Damaged}
+use Rattle.paper.specs.declared.Searched.{Searched}
+use Rattle.paper.specs.declared.Damaged.{Damaged as Unsound}
 
 -- ---- searches one after another
+
+-- what a search through a box finds: a solid voxel in the last of so many cells entered, none in so many, or damage
+pub data Search : Type 0 where
+  Met : ℕ → Search
+  Passed : ℕ → Search
+  Damaged : Search
+
+-- so read from an answer
+abbrev pub search_of : Result Searched Unsound → Search
+search_of (Ok s) = cond s.found (Met s.entered) (Passed s.entered)
+search_of (Err e) = Damaged
 
 -- n cells were entered before it
 abbrev pub further : ℕ → Search → Search

@@ -9,12 +9,11 @@ use Rattle.paper.specs.Store.{Cell, Store, most_scenes, used, capacity_of, scene
 use Rattle.paper.specs.Meaning.{root_room}
 use Rattle.paper.specs.Match.{Adding, full, added, add_tree}
 use Rattle.paper.specs.Walk.{End, is_damaged, solid_at, empty_height}
-use Rattle.paper.specs.Questions.{voxel_walk, cell_non_empty, cell_walk_damaged, box_tally, tally_damaged, tally_solid}
+use Rattle.paper.specs.Questions.{Tally, voxel_walk, cell_non_empty, cell_walk_damaged, box_tally, tally_damaged, tally_solid}
 use Rattle.paper.specs.Packed.{packed_version, packed_head, head_ok, packed_rules, file_walk, starts_of}
 use Rattle.paper.specs.Pack.{packed_file}
 use Rattle.paper.specs.Answers.{Outcome}
 use Rattle.paper.specs.Order.{Test, when, first_number, settled}
-use Rattle.paper.specs.declared.Tally.{Tally}
 
 -- the bytes written, then what was there beyond them ('past the written length')
 abbrev pub over : List ℕ → List ℕ → List ℕ

@@ -26,7 +26,7 @@ use Rattle.paper.specs.Lines.{Before, Between, tested}
 use Rattle.paper.specs.Sight.{sight_outcome}
 use Rattle.paper.specs.Anything.{cell_search, any_outcome, sharing}
 use Rattle.paper.specs.Headset.{meets_headset, headset_check_outcome, headset_pack_outcome}
-use Rattle.paper.specs.declared.Search.TheVariants.{Met}
+use Rattle.paper.specs.Anything.{Met}
 use Rattle.paper.specs.Samples.{samples, holds}
 
 -- ---- C1, mirror laws, once over the edge

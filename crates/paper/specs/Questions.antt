@@ -1,7 +1,7 @@
 -- Document 01, 'Questions', on a store's cells: the walk of a voxel question, what a cell or box question finds, and where it meets damage.
 -- Definitions only. K are the kept cells, list k those of height k + 2. The walks of a voxel and of a cell go down by coordinates, as the meaning of a
 -- pointer does; a box's (document 02, request 1) by children's numbers, each cell seen under a mirror.
-use Rattle.std.specs.Prelude.{Bool, true, false, cond, not, List, ℕ, zero, suc, ◌+◌, ◌-◌, ◌*◌, ◌^◌, eqb, leb, length, get_or}
+use Rattle.std.specs.Prelude.{Bool, true, false, cond, not, List, ℕ, zero, suc, ◌+◌, ◌-◌, ◌*◌, ◌^◌, eqb, leb, length, get_or, Result, Ok, Err}
 use Rattle.std.specs.Int.Bits.{bit_xor}
 use Rattle.paper.specs.Rooms.{Point, point, mirror, mirrored, in_child, cell_of, non_empty, box_count, has_voxel, is_whole, clipped}
 use Rattle.paper.specs.Leaf.{leaf_voxel}
@@ -9,8 +9,7 @@ use Rattle.paper.specs.Outline.{edge}
 use Rattle.paper.specs.Store.{Cell, cells_at, cell_at, leaf_no, tag_of, cell_no, bad_pointer, any_bad}
 use Rattle.paper.specs.Meaning.{pointer_for, root_room}
 use Rattle.paper.specs.Walk.{Child, none, to, Reading, Walk, root_walk}
-use Rattle.paper.specs.declared.Tally.{Tally}
-use Rattle.paper.specs.declared.Tally.TheVariants.{Solid, Damaged}
+use Rattle.paper.specs.declared.Damaged.{Damaged as Unsound}
 
 -- ---- voxel: the walk to it
 
@@ -87,6 +86,16 @@ abbrev pub cell_walk_damaged : List (List Cell) → ℕ → ℕ → ℕ → Poin
 cell_walk_damaged K D p h c = from_root (walk_damaged K (h - 2)) K D p (corner h c)
 
 -- ---- box (document 02, request 1): the walk that takes counts. A cell is seen under a mirror, and the box lies in its cube as seen
+
+-- what a walk over a box finds: so many solid voxels, or damage
+pub data Tally : Type 0 where
+  Solid : ℕ → Tally
+  Damaged : Tally
+
+-- so read from an answer
+abbrev pub tally_of : Result ℕ Unsound → Tally
+tally_of (Ok n) = Solid n
+tally_of (Err e) = Damaged
 
 -- two tallies added, and f 0, f 1 .. f (n - 1): damaged where one is
 abbrev pub plus : Tally → Tally → Tally

@@ -12,11 +12,37 @@ ghost use Rattle.points.specs.Seeing.{child_no_at, seen_at};
 use limits::{DEEPEST, LEAF_HEIGHT, LEAST_DEPTH};
 
 // A number for each axis: a voxel, a corner of a box, or steps along a line.
-#[derive(Clone, Copy)]
+#[derive(Clone, Copy, PartialEq, Eq)]
 pub struct Point {
     pub x: u32,
     pub y: u32,
     pub z: u32,
+}
+
+impl Point {
+    // The same done on each axis.
+    pub fn map<F: Fn(u32) -> u32>(self, f: F) -> Point
+        requires callable { F.pre f self.x × F.pre f self.y × F.pre f self.z }
+        ensures { F.post f self.x result.x × F.post f self.y result.y × F.post f self.z result.z }
+    {
+        Point {
+            x: f(self.x),
+            y: f(self.y),
+            z: f(self.z),
+        }
+    }
+
+    // On each axis what is made of the two numbers there.
+    pub fn zip<F: Fn(u32, u32) -> u32>(self, other: Point, f: F) -> Point
+        requires callable { F.pre f self.x other.x × F.pre f self.y other.y × F.pre f self.z other.z }
+        ensures { F.post f self.x other.x result.x × F.post f self.y other.y result.y × F.post f self.z other.z result.z }
+    {
+        Point {
+            x: f(self.x, other.x),
+            y: f(self.y, other.y),
+            z: f(self.z, other.z),
+        }
+    }
 }
 
 // Whether a depth is not 2 to 16.

@@ -4,9 +4,11 @@ use mathlib.Core.Path.{◌≡◌, sym, ◌∙◌, ap, ap₂}
 use mathlib.Core.Bool.{Bool, true, false, cond, not}
 use mathlib.Core.List.{List, [], ◌∷◌}
 use Prim.Native.Nat.{ℕ, suc, ◌<◌, ◌≤◌}
+use native.Mathlib.Nat.{suc-ne-zero}
 use native.Mathlib.Omega.{arith}
 use borrow.Author.Tests.{lt-ltb, le-ltb, ne_eqb}
 use lib.ListN.{length, replicate}
+use Rattle.std.specs.Prelude.{Err}
 use Rattle.paper.specs.Numbers.{all_below}
 use Rattle.paper.specs.Outline.{file_depth}
 use Rattle.paper.specs.Packed.{packed_version, packed_head, top_of, is_empty, top_ok, head_ok, packed_rules}
@@ -14,13 +16,17 @@ use Rattle.paper.specs.Answers.{told, outcome, number_of, checked}
 use Rattle.paper.specs.Order.{Test, when, first_number, settled}
 use Rattle.paper.specs.Calls.{cleared, packed_order, check_order, check_scratch_after, check_outcome}
 use Rattle.paper.specs.declared.Refusal.{Refusal}
-use Rattle.paper.specs.declared.Checked.TheVariants.{Refused}
 use Rattle.laws.proofs.Refusals.{settled-refused}
+use Rattle.laws.proofs.RefusalNumbers.{answer_of, refused-back}
 use Rattle.file_head.specs.Heads.{head_number}
-use Rattle.file_head.proofs.HeadTests.{Headed, head-range, head-stops, head-goes-on}
+use Rattle.file_head.proofs.HeadTests.{Headed, head-range, head-refuses, head-goes-on}
 use Rattle.proper_popular.specs.Places.{popular_rules}
 use Rattle.proper_lists.specs.Marking.{list_rules, scratch_at}
 use Rattle.proper_rules.specs.Rules.{root_low, marked_by, rules_by, packed_by}
+
+-- no refusal has the number 0
+pub refused-some : (why : Refusal) → number_of why ≡ 0 → ⊥
+refused-some why e = suc-ne-zero 0 (sym (refused-back 0 (λ x. 1) why) ∙ ap (answer_of 0 (λ x. 1)) e)
 
 module _ (file scratch : List ℕ) where
   abbrev later : List Test
@@ -36,15 +42,16 @@ module _ (file scratch : List ℕ) where
     unfolding first_number
     goes_on = rw (le-ltb (length scratch) (length file) enough)
 
-    pub way-bytes : (r : Refusal) (n : ℕ) → number_of r ≡ n → n ≡ head_number packed_version packed_head file → (n ≡ 0 → ⊥)
-        → outcome (checked (Refused r)) (scratch ∷ []) ≡ check_outcome file scratch
+    pub way-bytes : (r : Refusal) → number_of r ≡ head_number packed_version packed_head file → outcome (checked (Err r)) (scratch ∷ []) ≡ check_outcome file scratch
     unfolding check_outcome
-    way-bytes r n e f ne =
-        let stops : first_number (check_order file scratch) ≡ n = goes_on ∙ head-stops packed_version packed_head file later (λ z. ne (f ∙ z)) ∙ sym f in
+    way-bytes r f =
+        let n : ℕ = number_of r in
+        let ne : n ≡ 0 → ⊥ = refused-some r in
+        let stops : first_number (check_order file scratch) ≡ n = goes_on ∙ sym (head-refuses packed_version packed_head file later r f) in
         let low : n ≤ 5 = (head-range packed_version packed_head file n f ne).1 in
         let kept : check_scratch_after (first_number (check_order file scratch)) file scratch ≡ scratch =
         ap (λ (m : ℕ). check_scratch_after m file scratch) stops ∙ ap (λ (b : Bool). cond b (cleared (length file) scratch) scratch) (ne_eqb n 6 (λ z. omega (arith, z))) in
-        ap₂ (λ (m : ℕ) (l : List ℕ). outcome (told m (0 ∷ [])) (l ∷ [])) (e ∙ sym stops) (sym kept)
+        ap₂ (λ (m : ℕ) (l : List ℕ). outcome (told m (0 ∷ [])) (l ∷ [])) (sym stops) (sym kept)
         ∙ sym (settled-refused (first_number (check_order file scratch)) (file_depth file ∷ []) (cleared (length file) scratch ∷ []) (check_scratch_after (first_number (check_order file scratch)) file scratch ∷ []) (λ z. ne (sym stops ∙ z)))
 
     module _ (h : Headed packed_version packed_head file) where

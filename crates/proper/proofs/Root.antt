@@ -22,9 +22,9 @@ pub record RootMark (bs S : List ℕ) (a : ℕ) : Type 0 where
   pub inside : a < length S
   pub low : (m t : ℕ) → m ≡ get_or S a 0 → t ≡ root_tag bs → low_by m t ≡ root_low bs
 
-pub root-mark : (bs starts S : List ℕ) (k : ℕ) → Marked bs starts (suc (top_of bs)) S → k ≡ top_of bs → T (top_ok bs) → RootMark bs S (get_or starts k 0)
+pub root_mark : (bs starts S : List ℕ) (k : ℕ) → Marked bs starts (suc (top_of bs)) S → k ≡ top_of bs → T (top_ok bs) → RootMark bs S (get_or starts k 0)
 unfolding top_ok root_low
-root-mark bs starts S k marked ek one = record {
+root_mark bs starts S k marked ek one = record {
   tag = root-mirror bs known.opens.head (eqb-false (root_tag bs) 8 known.solid);
   inside = omega (arith, at, long, some, list-in bs starts known (top_of bs) (omega arith), end_in_lem bs starts known (top_of bs) (omega arith));
   low = λ m t em et. ap₂ low_by (em ∙ ap₂ (λ (s : List ℕ) (i : ℕ). get_or s i 0) marked.is at ∙ first-mark bs starts known (top_of bs) some ∙ ap (λ (i : ℕ). get_or (marks_at bs (top_of bs)) i 0) first) et;

@@ -1,6 +1,6 @@
 -- The top list of a file: whether it has exactly one record, by its bytes. By where the lists lie. Assumes nothing.
 use mathlib.Core.Path.{◌≡◌, refl, sym, ◌∙◌, ap, ap₂, subst}
-use mathlib.Core.Bool.{Bool, true, false, not}
+use mathlib.Core.Bool.{Bool, true, false}
 use mathlib.Core.List.{List}
 use Prim.Native.Nat.{ℕ, zero, suc, ◌+◌, ◌-◌, ◌*◌, ◌%◌, ◌<◌, ◌≤◌}
 use native.Mathlib.Omega.{arith}
@@ -92,13 +92,13 @@ module _ (bs starts : List ℕ) (known : Listed bs starts) where
     cut = ap₂ (λ (x y : ℕ). take (y - x) (drop x bs)) at_a at_b ∙ cut-is bs starts known k in_top
 
     -- the ways of the test
-    top-leaf : k ≡ 0 → not (eqb (length list) 8) ≡ not (top_ok bs)
+    top-leaf : k ≡ 0 → eqb (length list) 8 ≡ top_ok bs
     top-leaf z =
-        ap (λ (l : List ℕ). not (eqb (length l) 8)) (cut ∙ ap (list_at bs) z) ∙ ap not (leaf-one bs (sized bs starts known))
-        ∙ ap (λ (n : ℕ). not (one_at bs n)) (sym z) ∙ ap not (top_one bs k top)
+        ap (λ (l : List ℕ). eqb (length l) 8) (cut ∙ ap (list_at bs) z) ∙ leaf-one bs (sized bs starts known)
+        ∙ ap (one_at bs) (sym z) ∙ top_one bs k top
 
-    top-none : length list ≡ 0 → true ≡ not (top_ok bs)
-    top-none z = ap not (sym (ne_eqb (length (places_at bs k)) 1 (λ q. omega (arith, some-list k in_top q, ap length cut, z))) ∙ top_one bs k top)
+    top-none : length list ≡ 0 → false ≡ top_ok bs
+    top-none z = sym (ne_eqb (length (places_at bs k)) 1 (λ q. omega (arith, some-list k in_top q, ap length cut, z))) ∙ top_one bs k top
 
     module _ (inner : k ≡ 0 → ⊥) (some : length list ≡ 0 → ⊥) (rules : T (all_below (suc (top_of bs)) (list_rules bs))) where
       long : (j : ℕ) → k ≡ suc j → 2 * 0 < length (list_at bs (suc j))
@@ -119,31 +119,37 @@ module _ (bs starts : List ℕ) (known : Listed bs starts) where
       top-whole : T (record_ok list 0)
       top-whole = subst (λ (l : List ℕ). T (record_ok l 0)) (sym (cut ∙ ap (list_at bs) above)) (first-at (k - 1) above)
 
-      top-inner : (w : ℕ) → w ≡ width_at list 0 → not (eqb (2 * w) (length list)) ≡ not (top_ok bs)
+      top-inner : (w : ℕ) → w ≡ width_at list 0 → eqb (2 * w) (length list) ≡ top_ok bs
       top-inner w e =
           let h : suc (k - 1) ≤ top_of bs = omega (arith, in_top, above) in
-          ap (λ (n : ℕ). not (eqb (2 * n) (length list))) e
-          ∙ ap (λ (l : List ℕ). not (eqb (2 * width_at l 0) (length l))) (cut ∙ ap (list_at bs) above)
-          ∙ ap not (record-one (list_at bs (suc (k - 1))) (evens bs starts known (k - 1) h) (long (k - 1) above) (first-at (k - 1) above))
-          ∙ ap (λ (ps : List ℕ). not (eqb (length ps) 1)) (sym (places-inner bs starts known (k - 1) h))
-          ∙ ap (λ (n : ℕ). not (one_at bs n)) (sym above) ∙ ap not (top_one bs k top)
+          ap (λ (n : ℕ). eqb (2 * n) (length list)) e
+          ∙ ap (λ (l : List ℕ). eqb (2 * width_at l 0) (length l)) (cut ∙ ap (list_at bs) above)
+          ∙ record-one (list_at bs (suc (k - 1))) (evens bs starts known (k - 1) h) (long (k - 1) above) (first-at (k - 1) above)
+          ∙ ap (λ (ps : List ℕ). eqb (length ps) 1) (sym (places-inner bs starts known (k - 1) h))
+          ∙ ap (one_at bs) (sym above) ∙ top_one bs k top
 
 -- ---- all of it together, as code cuts
 
-pub record TopCut (bs : List ℕ) (k a b : ℕ) : Type 0 where
+pub record TopRoom (bs : List ℕ) (a b : ℕ) : Type 0 where
   pub order : a ≤ b
   pub reach : b ≤ length bs
-  pub leaf : k ≡ 0 → not (eqb (length (take (b - a) (drop a bs))) 8) ≡ not (top_ok bs)
-  pub none : length (take (b - a) (drop a bs)) ≡ 0 → true ≡ not (top_ok bs)
-  pub whole : (k ≡ 0 → ⊥) → (length (take (b - a) (drop a bs)) ≡ 0 → ⊥) → T (record_ok (take (b - a) (drop a bs)) 0)
-  pub inner : (k ≡ 0 → ⊥) → (length (take (b - a) (drop a bs)) ≡ 0 → ⊥) → (w : ℕ) → w ≡ width_at (take (b - a) (drop a bs)) 0
-      → not (eqb (2 * w) (length (take (b - a) (drop a bs)))) ≡ not (top_ok bs)
 
-pub top-cut : (bs starts : List ℕ) → Listed bs starts → T (all_below (suc (top_of bs)) (list_rules bs)) → (k b : ℕ) → k ≡ top_of bs → b ≡ end_in starts (length bs) k
-    → TopCut bs k (get_or starts k 0) b
-top-cut bs starts known rules k b top eb = record {
+pub top_room : (bs starts : List ℕ) → Listed bs starts → (k b : ℕ) → k ≡ top_of bs → b ≡ end_in starts (length bs) k → TopRoom bs (get_or starts k 0) b
+top_room bs starts known k b top eb = record {
   order = cut-order bs starts known k (get_or starts k 0) b top refl eb;
   reach = cut-reach bs starts known k (get_or starts k 0) b top refl eb;
+}
+
+pub record TopCut (bs : List ℕ) (k a b : ℕ) : Type 0 where
+  pub leaf : k ≡ 0 → eqb (length (take (b - a) (drop a bs))) 8 ≡ top_ok bs
+  pub none : length (take (b - a) (drop a bs)) ≡ 0 → false ≡ top_ok bs
+  pub whole : (k ≡ 0 → ⊥) → (length (take (b - a) (drop a bs)) ≡ 0 → ⊥) → T (record_ok (take (b - a) (drop a bs)) 0)
+  pub inner : (k ≡ 0 → ⊥) → (length (take (b - a) (drop a bs)) ≡ 0 → ⊥) → (w : ℕ) → w ≡ width_at (take (b - a) (drop a bs)) 0
+      → eqb (2 * w) (length (take (b - a) (drop a bs))) ≡ top_ok bs
+
+pub top_cut : (bs starts : List ℕ) → Listed bs starts → T (all_below (suc (top_of bs)) (list_rules bs)) → (k b : ℕ) → k ≡ top_of bs → b ≡ end_in starts (length bs) k
+    → TopCut bs k (get_or starts k 0) b
+top_cut bs starts known rules k b top eb = record {
   leaf = top-leaf bs starts known k (get_or starts k 0) b top refl eb;
   none = top-none bs starts known k (get_or starts k 0) b top refl eb;
   whole = λ inner some. top-whole bs starts known k (get_or starts k 0) b top refl eb inner some rules;

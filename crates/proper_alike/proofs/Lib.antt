@@ -2,3 +2,4 @@
 pub mod Pointing
 pub mod Keyed
 pub mod Slotted
+pub mod Front

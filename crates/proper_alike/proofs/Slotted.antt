@@ -3,25 +3,25 @@
 use mathlib.Core.Path.{◌≡◌, refl, sym, ◌∙◌, ap, ap₂}
 use mathlib.Core.Bool.{Bool, true, false, false≢true, not}
 use mathlib.Core.List.{List, [], ◌∷◌, ◌++◌, map}
-use Prim.Native.Nat.{ℕ, zero, suc, ◌+◌, ◌-◌, ◌*◌, ◌^◌, ◌<◌, ◌≤◌}
+use Prim.Native.Nat.{ℕ, zero, suc, ◌+◌, ◌*◌, ◌^◌, ◌<◌, ◌≤◌}
 use native.Mathlib.Nat.{zero-add}
 use native.Mathlib.Decide.{ℕ_discrete, dec_lt}
 use native.Mathlib.Numerals.{add-one}
 use native.Mathlib.Omega.{arith}
 use borrow.Author.Tests.{eq-eqb}
 use lib.Dec.{T, eqb, eqb→eq}
-use lib.ListN.{length, get_or, take, drop, replicate, length-map, take-append-drop}
-use lib.Seq.{append_snoc, length-take-le}
+use lib.ListN.{length, get_or, length-map}
+use lib.Seq.{append_snoc}
 use Rattle.paper.specs.Numbers.{all_below, any_below, all_in, is_in, count, tabulate, bytes}
 use Rattle.paper.specs.Runs.{Bytes}
 use Rattle.laws.proofs.Tests.{all-at, all-T, any_at, at-any, iff-eq, true-T, not-false}
-use Rattle.laws.proofs.Lists.{all_in-T, Once, is_in-get_or, map_at, tabulate-same, all_in-is_in}
+use Rattle.laws.proofs.Lists.{Once, is_in-get_or, map_at, tabulate-same, all_in-is_in}
 use Rattle.paper.specs.Leaf.{mirror_leaf}
 use Rattle.laws.proofs.Leaves.{mirror_leaf-lt}
 use Rattle.numbers.specs.Laid.{laid}
 use Rattle.proper_marks.specs.Places.{places_in, leaves_in}
 use Rattle.proper_marks.specs.Marks.{Grouped}
-use Rattle.proper_keys.specs.Keys.{leaf_key, record_key, key_of, element_ok}
+use Rattle.proper_keys.specs.Keys.{leaf_key, record_key}
 use Rattle.proper_keys.proofs.Leasts.{least_at}
 use Rattle.proper_sorted.specs.Slots.{slot_at, slots_of, distinct}
 use Rattle.proper_sorted.proofs.SlotBytes.{slot-laid, slot-laid-other}
@@ -150,28 +150,17 @@ map_same : (f : ℕ → ℕ) → ((a : ℕ) → f a ≡ a) → (xs : List ℕ) �
 map_same f e [] = refl
 map_same f e (x ∷ xs) = ap₂ ◌∷◌ (e x) (map_same f e xs)
 
-pub leaves-elements : (l xs : List ℕ) → T (all_in (element_ok 8 l) xs)
-leaves-elements l xs = all_in-T (element_ok 8 l) 0 xs (λ i h. tt)
-
-pub leaves-tell : (l : List ℕ) → Bytes l → (u : ℕ) (m xs : List ℕ) → xs ≡ map (leaf_key_at l) (leaves_in l)
-    → not (distinct (map (key_of 8 u m l) xs)) ≡ not (apart_in (leaves_match l) (leaves_in l))
-leaves-tell l by u m xs e =
-    ap (λ (ys : List ℕ). not (distinct ys)) (map_same (key_of 8 u m l) (λ a. refl) xs ∙ e)
+pub leaves-tell : (l : List ℕ) → Bytes l → (xs : List ℕ) → xs ≡ map (leaf_key_at l) (leaves_in l)
+    → not (distinct (map (λ (a : ℕ). a) xs)) ≡ not (apart_in (leaves_match l) (leaves_in l))
+leaves-tell l by xs e =
+    ap (λ (ys : List ℕ). not (distinct ys)) (map_same (λ (a : ℕ). a) (λ a. refl) xs ∙ e)
     ∙ keys-tell (leaf_key_at l) (leaves_match l) (leaves_in l) (λ p q i j. leaf-match l by p q)
 
-pub records-tell : (u : ℕ) (m l : List ℕ) → Bytes l → Bytes m → Grouped u m → T (all_in (record_rules u m l) (places_in l)) → (n xs : List ℕ) → n ≡ m → xs ≡ places_in l
-    → not (distinct (map (key_of 4 u n l) xs)) ≡ not (apart_in (records_match u m l) (places_in l))
-records-tell u m l bl bm groups rules n xs en ex =
-    ap₂ (λ (k ys : List ℕ). not (distinct (map (record_key u k l) ys))) en ex
+pub records-tell : (u : ℕ) (m l : List ℕ) → Bytes l → Bytes m → Grouped u m → T (all_in (record_rules u m l) (places_in l)) → (xs : List ℕ) → xs ≡ places_in l
+    → not (distinct (map (record_key u m l) xs)) ≡ not (apart_in (records_match u m l) (places_in l))
+records-tell u m l bl bm groups rules xs ex =
+    ap (λ (ys : List ℕ). not (distinct (map (record_key u m l) ys))) ex
     ∙ keys-tell (record_key u m l) (records_match u m l) (places_in l) (λ p q i j. key-match u m l p q (kept p i) (kept q j))
   where
     kept : (p : ℕ) → T (is_in p (places_in l)) → KeptAt u m l p
     kept p i = record-kept u m l bl bm groups p (all_in-is_in (record_rules u m l) (places_in l) p rules i)
-
--- the first bytes zero again, the others as they were
-pub share_back : (own : ℕ) (s t ys : List ℕ) → own ≤ length t → ys ≡ replicate (length (take (own - 0) (drop 0 t))) 0 → drop own t ≡ drop own s
-    → take own s ≡ replicate own 0 → take 0 t ++ (ys ++ drop (own - 0) (drop 0 t)) ≡ s
-share_back own s t ys h e d z =
-    let n : own - 0 ≡ own = omega arith in
-    let y : ys ≡ take own s = e ∙ ap (λ (k : ℕ). replicate (length (take k t)) 0) n ∙ ap (λ (k : ℕ). replicate k 0) (length-take-le own t h) ∙ sym z in
-    ap₂ ◌++◌ y (ap (λ (k : ℕ). drop k t) n ∙ d) ∙ take-append-drop own s

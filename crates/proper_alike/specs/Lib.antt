@@ -1,3 +1,3 @@
--- Definitions that the contracts cite: matching and the rules of a record by marks, and a list with its shares.
+-- Definitions that the contracts cite: matching and the rules of a record by marks, and places laid over a share.
 pub mod Matching
 pub mod Shares

@@ -1,6 +1,6 @@
 -- Matching as code tests it: by places and marks. A record's symmetry, its matching and the lowest tag of a pointer to it need the marks one list down
 -- only. Definitions only.
-use Rattle.std.specs.Prelude.{Bool, true, false, cond, not, ◌&&◌, List, ℕ, ◌≤◌, ◌<◌, eqb, ltb, length, get_or}
+use Rattle.std.specs.Prelude.{Bool, true, false, cond, not, ◌&&◌, List, ℕ, ◌<◌, eqb, ltb, length, get_or}
 use Rattle.std.specs.Int.Bits.{bit_xor}
 use Rattle.paper.specs.Numbers.{all_below, all_in}
 use Rattle.paper.specs.Leaf.{mirror_leaf}
@@ -22,9 +22,8 @@ place_match self t r s =
     let m : Bool = self r.place (bit_xor (bit_xor r.tag s.tag) t) in
     cond (eqb r.code 0) (eqb s.code 0) (cond (eqb s.code 0) false (cond (eqb r.place s.place) m false))
 
--- the tags of two pointers and a mirror, each one of eight; a place counts `unit` bytes among the marks
-pub record TwoTags (unit mirror tag other : ℕ) : Type 0 where
-  pub counts : unit ≤ 8
+-- the tags of two pointers and a mirror, each one of eight
+pub record TwoTags (mirror tag other : ℕ) : Type 0 where
   pub mirror_below : mirror < 8
   pub tag_below : tag < 8
   pub other_below : other < 8

@@ -5,4 +5,4 @@ mod alike; // symmetries and matching
 mod records; // one record
 
 pub use alike::{record_symmetry, two_leaves_match, two_match};
-pub use records::record_broken;
+pub use records::test_record;

@@ -1,5 +1,5 @@
 // One record: its rules and those of its pointers, by the marks one list down.
-ghost use Rattle.std.specs.Prelude.{◌≡◌, not, ◌≤◌, ◌<◌, T};
+ghost use Rattle.std.specs.Prelude.{◌≡◌, is_ok, ◌<◌, T};
 ghost use Rattle.paper.specs.Numbers.{all_in};
 ghost use Rattle.paper.specs.Packed.{pointers_at, record_ok};
 ghost use Rattle.packed_records.specs.Records.{pointer_is};
@@ -7,43 +7,45 @@ ghost use Rattle.proper_alike.specs.Matching.{pointer_rules, record_rules};
 
 use limits::CHILDREN;
 use packed_records::{Pointer, code_for, pointer_at, record_bad};
-use proper_marks::{mark, tag_high};
+use paper::Broken;
+use proper_keys::Records;
+use proper_marks::{Marks, tag_high};
 
-// Whether a pointer names no start, has the other width, or a tag that is not the lowest.
-fn pointer_bad(marks: &[u8], unit: usize, pointer: Pointer) -> bool
-    requires { (unit ≤ 8) × (pointer.tag < 8) }
-    ensures { result ≡ not (pointer_rules unit marks.now (pointer_is pointer)) }
+// A pointer's rules: it names the start of a record, has the width that its place calls for, and the lowest tag of its meaning.
+fn test_pointer(pointer: Pointer, marks: Marks) -> Result<(), Broken>
+    requires { pointer.tag < 8 }
+    ensures { is_ok result ≡ pointer_rules marks.entry.unit marks.entry.bytes.now (pointer_is pointer) }
 {
     if pointer.code == 0 {
-        return false;
+        return Ok(());
     }
-    let symmetry = mark(marks, unit, pointer.place);
-    (symmetry == 0) | (pointer.code != code_for(pointer.place)) | tag_high(symmetry, pointer.tag)
+    let symmetry = marks.at(pointer.place);
+    if (symmetry == 0)
+        | (pointer.code != code_for(pointer.place))
+        | tag_high(symmetry, pointer.tag)
+    {
+        return Err(Broken);
+    }
+    Ok(())
 }
 
-// Whether one of a record's pointers breaks a rule.
-fn pointers_bad(list: &[u8], place: u32, marks: &[u8], unit: usize) -> bool
-    requires t { T (record_ok list.now place) }
-    requires unit_bound { unit ≤ 8 }
-    ensures { result ≡ not (all_in (pointer_rules unit marks.now) (pointers_at list.now place)) }
+// The rules of a record's pointers.
+fn test_pointers(records: Records, place: u32) -> Result<(), Broken>
+    requires { T (record_ok records.list.now place) }
+    ensures { is_ok result ≡ all_in (pointer_rules records.entry.marks.unit records.entry.marks.bytes.now) (pointers_at records.entry.list.now place) }
 {
-    let mut i = 0u32;
-    while i < CHILDREN {
-        if pointer_bad(marks, unit, pointer_at(list, place, i)) {
-            return true;
-        }
-        i += 1;
+    for i in 0..CHILDREN {
+        test_pointer(pointer_at(records.list, place, i), records.marks)?;
     }
-    false
+    Ok(())
 }
 
-// Whether a record or one of its pointers breaks a rule.
-pub fn record_broken(list: &[u8], place: u32, marks: &[u8], unit: usize) -> bool
-    requires { unit ≤ 8 }
-    ensures { result ≡ not (record_rules unit marks.now list.now place) }
+// The rules of a record: it is whole, and its pointers keep theirs.
+pub fn test_record(records: Records, place: u32) -> Result<(), Broken>
+    ensures { is_ok result ≡ record_rules records.entry.marks.unit records.entry.marks.bytes.now records.entry.list.now place }
 {
-    if record_bad(list, place) {
-        return true;
+    if record_bad(records.list, place) {
+        return Err(Broken);
     }
-    pointers_bad(list, place, marks, unit)
+    test_pointers(records, place)
 }

@@ -1,7 +1,7 @@
 -- A list and its shares as code cuts them from the file and from the scratch, and the scratch with the share put back; the list's rules by its own bytes.
 -- By where the lists lie in the file. Assumes nothing.
 use mathlib.Core.Path.{◌≡◌, sym, ◌∙◌, ap, ap₂, subst}
-use mathlib.Core.Bool.{Bool, cond, ◌&&◌}
+use mathlib.Core.Bool.{◌&&◌}
 use mathlib.Core.List.{List, ◌++◌}
 use Prim.Native.Nat.{ℕ, zero, suc, ◌+◌, ◌-◌, ◌<◌, ◌≤◌}
 use native.Mathlib.Numerals.{add-one}
@@ -15,8 +15,7 @@ use Rattle.proper_marks.specs.Places.{LeafList}
 use Rattle.proper_marks.specs.Marks.{Grouped}
 use Rattle.proper_marks.proofs.InFile.{start_is, end_is, list-in, end_in_lem, cut-is, places-leaf, places-inner, leaf-list, record-list}
 use Rattle.proper_alike.specs.Matching.{leaves_match, records_match, record_rules, apart_in}
-use Rattle.proper_alike.specs.Shares.{Shares}
-use Rattle.proper_lists.specs.Marking.{leaves_rules, leaf_marks, inner_rules, record_marks, marks_at, list_rules, scratch_at, Marked}
+use Rattle.proper_lists.specs.Marking.{Shares, leaves_rules, leaf_marks, inner_rules, record_marks, marks_at, list_rules, scratch_at, Marked}
 use Rattle.proper_lists.proofs.Groups.{marks-grouped}
 use Rattle.proper_lists.proofs.Scratch.{scratch-length, leaf-part, leaf-back, inner-part, inner_back, shares-long, shares-own, shares-marks}
 
@@ -47,20 +46,18 @@ pub record LeafCut (bs S : List ℕ) (a : ℕ) : Type 0 where
   pub leaves : LeafList (part a (length bs) bs)
   pub share : part a (length S) S ≡ replicate (length (part a (length bs) bs)) 0
   pub tells : leaves_rules (part a (length bs) bs) ≡ list_rules bs 0
-  pub back : (r : Bool) (ys : List ℕ) → ys ≡ cond r (part a (length S) S) (leaf_marks (part a (length bs) bs) (part a (length S) S))
-      → put_in a (length S) ys S ≡ cond r S (scratch_at bs 1)
+  pub marked : (ys : List ℕ) → ys ≡ leaf_marks (part a (length bs) bs) (part a (length S) S) → put_in a (length S) ys S ≡ scratch_at bs 1
 
-pub leaf-cut : (bs starts S : List ℕ) → Marked bs starts 0 S → LeafCut bs S (get_or starts 0 0)
-leaf-cut bs starts S known = record {
+pub leaf_cut : (bs starts S : List ℕ) → Marked bs starts 0 S → LeafCut bs S (get_or starts 0 0)
+leaf_cut bs starts S known = record {
   start = omega (arith, at_a, list-in bs starts listed 0 (omega arith));
   same = same;
   leaves = subst LeafList (sym leaves-are) (leaf-list bs starts listed);
   share = share-is ∙ ap (λ (l : List ℕ). replicate (length l) 0) (sym leaves-are);
   tells = ap leaves_rules leaves-are ∙ sym (rules-leaf bs starts listed);
-  back = λ r ys e.
+  marked = λ ys e.
       ap (put_in a (length S) ys) known.is
-      ∙ leaf-back bs starts listed a (length S - a) at_a wide r ys (e ∙ ap₂ (λ (z l : List ℕ). cond r z (leaf_marks l z)) share-is leaves-are)
-      ∙ ap (λ (z : List ℕ). cond r z (scratch_at bs 1)) (sym known.is);
+      ∙ leaf-back bs starts listed a (length S - a) at_a wide ys (e ∙ ap₂ (λ (z l : List ℕ). leaf_marks l z) share-is leaves-are);
 }
   where
     listed : Listed bs starts
@@ -86,31 +83,49 @@ leaf-cut bs starts S known = record {
 
 -- ---- list k + 1, from a to b, and its shares, from a to c
 
-pub record ListCut (bs S : List ℕ) (k a b c : ℕ) : Type 0 where
+pub record ListRoom (bs S : List ℕ) (a b c : ℕ) : Type 0 where
   pub upper : a ≤ b
   pub lower : b ≤ c
   pub end : c ≤ length bs
   pub same : length S ≡ length bs
-  pub shares : Shares (unit_at k) (part a b bs) (part a c S)
-  pub tells : inner_rules (unit_at k) (drop (length (part a b bs)) (part a c S)) (part a b bs) ≡ list_rules bs (suc k)
-  pub back : (r : Bool) (ys : List ℕ) → ys ≡ cond r (part a c S) (record_marks (unit_at k) (drop (length (part a b bs)) (part a c S)) (part a b bs) (part a c S))
-      → put_in a c ys S ≡ cond r S (scratch_at bs (suc (suc k)))
 
-pub list-cut : (bs starts S : List ℕ) (k c : ℕ) → Bytes bs → Marked bs starts (suc k) S → k < top_of bs → c ≡ end_in starts (length bs) k
-    → ListCut bs S k (get_or starts (k + 1) 0) (get_or starts k 0) c
-list-cut bs starts S k c by known h ec = record {
+pub list_room : (bs starts S : List ℕ) (k c : ℕ) → Marked bs starts (suc k) S → k < top_of bs → c ≡ end_in starts (length bs) k
+    → ListRoom bs S (get_or starts (k + 1) 0) (get_or starts k 0) c
+list_room bs starts S k c known h ec = record {
   upper = omega (arith, at_a, at_b, list-in bs starts listed (suc k) h);
   lower = omega (arith, at_b, at_c, list-in bs starts listed k (omega arith));
   end = omega (arith, at_c, end_in_lem bs starts listed k (omega arith));
   same = ap length known.is ∙ scratch-length bs starts listed (suc k) (omega arith);
+}
+  where
+    listed : Listed bs starts
+    listed = known.listed
+
+    at_a : get_or starts (k + 1) 0 ≡ start_at bs (suc k)
+    at_a = ap (λ (i : ℕ). get_or starts i 0) (add-one k) ∙ start_is bs starts listed (suc k) h
+
+    at_b : get_or starts k 0 ≡ start_at bs k
+    at_b = start_is bs starts listed k (omega arith)
+
+    at_c : c ≡ end_at bs k
+    at_c = ec ∙ end_is bs starts listed k (omega arith)
+
+pub record ListCut (bs S : List ℕ) (k a b c : ℕ) : Type 0 where
+  pub shares : Shares (unit_at k) (part a b bs) (part a c S)
+  pub tells : inner_rules (unit_at k) (drop (length (part a b bs)) (part a c S)) (part a b bs) ≡ list_rules bs (suc k)
+  pub marked : (ys : List ℕ) → ys ≡ record_marks (unit_at k) (drop (length (part a b bs)) (part a c S)) (part a b bs) (part a c S)
+      → put_in a c ys S ≡ scratch_at bs (suc (suc k))
+
+pub list_cut : (bs starts S : List ℕ) (k c : ℕ) → Bytes bs → Marked bs starts (suc k) S → k < top_of bs → c ≡ end_in starts (length bs) k
+    → ListCut bs S k (get_or starts (k + 1) 0) (get_or starts k 0) c
+list_cut bs starts S k c by known h ec = record {
   shares = subst (λ (l : List ℕ). Shares (unit_at k) l (part a c S)) (sym list-is) (subst (Shares (unit_at k) (list_at bs (suc k))) (sym shares-are) shared);
   tells = ap₂ (inner_rules (unit_at k)) marks-are list-is ∙ sym (rules-inner bs starts listed k h);
-  back = λ r ys e.
+  marked = λ ys e.
       ap (put_in a c ys) known.is
-      ∙ inner_back bs starts listed k h a (c - a) at_a wide r ys
-      (e ∙ ap₂ (λ (m l : List ℕ). cond r (part a c S) (record_marks (unit_at k) m l (part a c S))) marks-are list-is
-      ∙ ap (λ (z : List ℕ). cond r z (record_marks (unit_at k) (marks_at bs k) (list_at bs (suc k)) z)) shares-are)
-      ∙ ap (λ (z : List ℕ). cond r z (scratch_at bs (suc (suc k)))) (sym known.is);
+      ∙ inner_back bs starts listed k h a (c - a) at_a wide ys
+      (e ∙ ap₂ (λ (m l : List ℕ). record_marks (unit_at k) m l (part a c S)) marks-are list-is
+      ∙ ap (λ (z : List ℕ). record_marks (unit_at k) (marks_at bs k) (list_at bs (suc k)) z) shares-are);
 }
   where
     listed : Listed bs starts

@@ -1,7 +1,6 @@
 -- The scratch of a check, by the list starts: before and after a list is marked, and the list's share in it. By where the lists lie in the file. Assumes
 -- nothing.
 use mathlib.Core.Path.{◌≡◌, refl, sym, ◌∙◌, ap, ap₂, subst}
-use mathlib.Core.Bool.{Bool, true, false, cond}
 use mathlib.Core.List.{List, [], ◌∷◌, ◌++◌, append-nil, append_assoc}
 use Prim.Native.Nat.{ℕ, zero, suc, ◌+◌, ◌*◌, ◌/◌, ◌<◌, ◌≤◌}
 use native.Mathlib.Omega.{arith}
@@ -35,6 +34,12 @@ marks-first f u [] z m h = refl
 marks-first f u (p ∷ ps) z m h =
     ap (marks_on f u ps) (set-append_left z m (u * p) (f p) (h p (in_head p ps)))
     ∙ marks-first f u ps (set z (u * p) (f p)) m (λ q t. subst (λ (n : ℕ). u * q < n) (sym (length-set z (u * p) (f p))) (h q (in-later q p ps t)))
+
+-- a list's own share marked, with the marks one list down after it
+pub marked_beside : (u : ℕ) (m l z shares : List ℕ) → shares ≡ z ++ m → length z ≡ length l → record_marks u m l z ++ m ≡ record_marks u m l shares
+marked_beside u m l z shares e n =
+    sym (ap (record_marks u m l) e
+    ∙ marks-first (record_symmetry u m l) 2 (places_in l) z m (λ p t. subst (λ (k : ℕ). 2 * p < k) (sym n) (in-inside l (length l / 2) 0 p t)))
 
 module _ (bs starts : List ℕ) (known : Listed bs starts) where
   abbrev zeros : ℕ → List ℕ
@@ -111,16 +116,12 @@ module _ (bs starts : List ℕ) (known : Listed bs starts) where
   leaf-part a m ea em =
       rw (ea, em, scratch-leaf) (part-is (zeros (start_at bs 0)) (zeros (own 0)) [] (start_at bs 0) (own 0) (length-replicate (start_at bs 0) 0) (length-replicate (own 0) 0))
 
-  pub leaf-back : (a m : ℕ) → a ≡ start_at bs 0 → m ≡ own 0 → (r : Bool) (ys : List ℕ) → ys ≡ cond r (zeros (own 0)) (leaf_marks (list_at bs 0) (zeros (own 0)))
-      → take a (scratch_at bs 0) ++ (ys ++ drop m (drop a (scratch_at bs 0))) ≡ cond r (scratch_at bs 0) (scratch_at bs 1)
-  leaf-back a m ea em r ys ey =
+  pub leaf-back : (a m : ℕ) → a ≡ start_at bs 0 → m ≡ own 0 → (ys : List ℕ) → ys ≡ leaf_marks (list_at bs 0) (zeros (own 0))
+      → take a (scratch_at bs 0) ++ (ys ++ drop m (drop a (scratch_at bs 0))) ≡ scratch_at bs 1
+  leaf-back a m ea em ys ey =
       rw (ea, em) (ap (λ (S : List ℕ). take (start_at bs 0) S ++ (ys ++ drop (own 0) (drop (start_at bs 0) S))) scratch-leaf
       ∙ put_back (zeros (start_at bs 0)) (zeros (own 0)) [] (start_at bs 0) (own 0) (length-replicate (start_at bs 0) 0) (length-replicate (own 0) 0) ys
-      ∙ ap (λ (y : List ℕ). zeros (start_at bs 0) ++ (y ++ [])) ey ∙ go r)
-    where
-      go : (r : Bool) → zeros (start_at bs 0) ++ (cond r (zeros (own 0)) (leaf_marks (list_at bs 0) (zeros (own 0))) ++ []) ≡ cond r (scratch_at bs 0) (scratch_at bs 1)
-      go true = sym scratch-leaf
-      go false = leaf-marked
+      ∙ ap (λ (y : List ℕ). zeros (start_at bs 0) ++ (y ++ [])) ey ∙ leaf-marked)
 
   module _ (k : ℕ) (h : suc k ≤ top_of bs) where
     abbrev shares : List ℕ
@@ -136,17 +137,12 @@ module _ (bs starts : List ℕ) (known : Listed bs starts) where
     inner-part a m ea em =
         rw (ea, em, scratch-inner k h) (part-is (zeros (start_at bs (suc k))) shares (after k) (start_at bs (suc k)) wide (length-replicate (start_at bs (suc k)) 0) wide_is)
 
-    pub inner_back : (a m : ℕ) → a ≡ start_at bs (suc k) → m ≡ wide → (r : Bool) (ys : List ℕ)
-        → ys ≡ cond r shares (record_marks (unit_at k) (marks_at bs k) (list_at bs (suc k)) shares)
-        → take a (scratch_at bs (suc k)) ++ (ys ++ drop m (drop a (scratch_at bs (suc k)))) ≡ cond r (scratch_at bs (suc k)) (scratch_at bs (suc (suc k)))
-    inner_back a m ea em r ys ey =
+    pub inner_back : (a m : ℕ) → a ≡ start_at bs (suc k) → m ≡ wide → (ys : List ℕ) → ys ≡ record_marks (unit_at k) (marks_at bs k) (list_at bs (suc k)) shares
+        → take a (scratch_at bs (suc k)) ++ (ys ++ drop m (drop a (scratch_at bs (suc k)))) ≡ scratch_at bs (suc (suc k))
+    inner_back a m ea em ys ey =
         rw (ea, em) (ap (λ (S : List ℕ). take (start_at bs (suc k)) S ++ (ys ++ drop wide (drop (start_at bs (suc k)) S))) (scratch-inner k h)
         ∙ put_back (zeros (start_at bs (suc k))) shares (after k) (start_at bs (suc k)) wide (length-replicate (start_at bs (suc k)) 0) wide_is ys
-        ∙ ap (λ (y : List ℕ). zeros (start_at bs (suc k)) ++ (y ++ after k)) ey ∙ go r)
-      where
-        go : (r : Bool) → zeros (start_at bs (suc k)) ++ (cond r shares (record_marks (unit_at k) (marks_at bs k) (list_at bs (suc k)) shares) ++ after k) ≡ cond r (scratch_at bs (suc k)) (scratch_at bs (suc (suc k)))
-        go true = sym (scratch-inner k h)
-        go false = inner-marked k h
+        ∙ ap (λ (y : List ℕ). zeros (start_at bs (suc k)) ++ (y ++ after k)) ey ∙ inner-marked k h)
 
     pub shares-long : own (suc k) ≤ length shares
     shares-long = omega (arith, wide_is)

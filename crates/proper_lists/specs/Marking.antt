@@ -1,10 +1,11 @@
 -- What phase 1 of a check does: the rules of each list, tested by places and marks, and the marks of each list, written over its share. First by the bytes
 -- that a part of the code is handed, then in a file. Definitions only.
-use Rattle.std.specs.Prelude.{◌≡◌, Bool, ◌&&◌, List, [], ◌∷◌, ◌++◌, ℕ, zero, suc, ◌*◌, T, length, set, replicate}
+use Rattle.std.specs.Prelude.{◌≡◌, Bool, ◌&&◌, List, [], ◌∷◌, ◌++◌, ℕ, zero, suc, ◌*◌, ◌≤◌, T, length, set, take, drop, replicate}
 use Rattle.paper.specs.Numbers.{all_below, all_in}
 use Rattle.paper.specs.Packed.{start_at, list_at, leaf_ok, places_at}
 use Rattle.packed_lists.specs.Ends.{unit_at, Listed}
-use Rattle.proper_marks.specs.Places.{places_in, leaves_in}
+use Rattle.proper_marks.specs.Places.{places_in, leaves_in, RecordList}
+use Rattle.proper_marks.specs.Marks.{Grouped}
 use Rattle.proper_alike.specs.Matching.{leaves_match, records_match, leaf_symmetry, record_symmetry, record_rules, apart_in}
 
 -- ---- a list by its bytes
@@ -27,6 +28,14 @@ inner_rules u m l = all_in (record_rules u m l) (places_in l) && apart_in (recor
 
 abbrev pub record_marks : ℕ → List ℕ → List ℕ → List ℕ → List ℕ
 record_marks u m l z = marks_on (record_symmetry u m l) 2 (places_in l) z
+
+-- a list of records and its shares: the list's own, which is zero, and after it the marks one list down, each a group of mirrors; a place counts `unit` bytes there
+pub record Shares (unit : ℕ) (list shares : List ℕ) : Type 0 where
+  pub records : RecordList list
+  pub long : length list ≤ length shares
+  pub own : take (length list) shares ≡ replicate (length list) 0
+  pub grouped : Grouped unit (drop (length list) shares)
+  pub counts : unit ≤ 8
 
 -- ---- list k of a file
 

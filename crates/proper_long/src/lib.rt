@@ -4,14 +4,14 @@
 ghost use Rattle.std.specs.Prelude.{◌≡◌, not, ◌<◌, T};
 ghost use Rattle.paper.specs.Numbers.{all_in, all_below};
 ghost use Rattle.paper.specs.Packed.{top_of, record_ok, packed_rules, short_at, short_list, all_short};
+ghost use Rattle.laws.proofs.PackedWalk.{SoundLists};
 ghost use Rattle.packed_lists.specs.Header.{Tested};
 ghost use Rattle.proper_marks.specs.Places.{places_in, WholeList};
-ghost use Rattle.proper_long.specs.Longs.{codes_short, Sound};
+ghost use Rattle.proper_long.specs.Longs.{codes_short};
 
 use limits::{DEPTH_POSITION, EMPTY_MARK, HALF_BYTES, LEAF_HEIGHT, MIRROR_POSITION};
-use numbers::{be16, wide};
-use packed_lists::starts;
-use proper_marks::place_after;
+use numbers::be16;
+use proper_marks::{Lists, place_after};
 
 // The high bit of each of a header's eight codes.
 const HIGH_BITS: u32 = 0xaaaa;
@@ -36,6 +36,7 @@ fn records_long(list: &[u8]) -> bool
     requires { WholeList list.now }
     ensures { result ≡ not (all_in (short_at list.now) (places_in list.now)) }
 {
+    // By hand: records differ in width, and an iterator's item would be tested again.
     let mut place = 0u32;
     while HALF_BYTES * (place as usize) < list.len() {
         if record_long(list, place) {
@@ -47,28 +48,23 @@ fn records_long(list: &[u8]) -> bool
 }
 
 // Whether a pointer to a record of list `below` is long.
-fn list_long(file: &[u8], starts: [u32; 15], below: u32) -> bool
-    requires sound { Sound file.now starts }
-    requires below_bound { below < top_of file.now }
-    ensures { result ≡ not (short_list file.now below) }
+fn list_long(lists: &Lists, below: u32) -> bool
+    requires sound { SoundLists lists.now.file.now }
+    requires below_top { below < lists.now.top }
+    ensures { result ≡ not (short_list lists.now.file.now below) }
 {
-    let a = starts[(below + 1) as usize] as usize;
-    let b = starts[below as usize] as usize;
-    records_long(&file[a..b])
+    records_long(lists.list(below + 1))
 }
 
 // Whether a pointer of a list above the leaves is long.
-fn lists_long(file: &[u8], starts: [u32; 15], top: u32) -> bool
-    requires sound { Sound file.now starts }
-    requires top_value { top ≡ top_of file.now }
-    ensures { result ≡ not (all_below (top_of file.now) (short_list file.now)) }
+fn lists_long(lists: &Lists) -> bool
+    requires { SoundLists lists.now.file.now }
+    ensures { result ≡ not (all_below (top_of lists.now.file.now) (short_list lists.now.file.now)) }
 {
-    let mut below = 0u32;
-    while below < top {
-        if list_long(file, starts, below) {
+    for below in 0..lists.top {
+        if list_long(lists, below) {
             return true;
         }
-        below += 1;
     }
     false
 }
@@ -82,6 +78,7 @@ pub fn any_long(file: &[u8]) -> bool
     if file[MIRROR_POSITION] == EMPTY_MARK {
         return false;
     }
-    let top = wide(file[DEPTH_POSITION]) - LEAF_HEIGHT;
-    lists_long(file, starts(file), top)
+    let top = u32::from(file[DEPTH_POSITION]) - LEAF_HEIGHT;
+    let lists = Lists::of(file, top);
+    lists_long(&lists)
 }

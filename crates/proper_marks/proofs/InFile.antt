@@ -1,6 +1,6 @@
 -- The lists in the file, by the list starts: where each lies, its length, and its places by its own bytes. By the sizes, which add up to the length.
 -- Assumes nothing.
-use mathlib.Core.Path.{◌≡◌, refl, ◌∙◌, ap, subst}
+use mathlib.Core.Path.{◌≡◌, refl, ◌∙◌, ap, ap₂, subst}
 use mathlib.Core.Bool.{Bool, true, cond}
 use mathlib.Core.List.{List}
 use Prim.Native.Nat.{ℕ, zero, suc, ◌+◌, ◌-◌, ◌*◌, ◌/◌, ◌%◌, ◌<◌, ◌≤◌, ◌^◌}
@@ -14,7 +14,7 @@ use Rattle.paper.specs.Packed.{top_of, is_empty, size_at, tail_at, start_at, lis
 use Rattle.laws.proofs.PackedLists.{sizes-whole, tail-in, leaves-length, inner-length}
 use Rattle.laws.proofs.Tests.{and_right}
 use Rattle.laws.proofs.Lists.{get_or-tabulate}
-use Rattle.proper_marks.specs.Places.{places_in, leaves_in, LeafList, RecordList}
+use Rattle.proper_marks.specs.Places.{places_in, leaves_in, LeafList, RecordList, Lies}
 use Rattle.packed_lists.specs.Ends.{unit_at, end_at, end_in, Listed}
 use Rattle.proper_marks.proofs.Along.{part-all}
 
@@ -91,3 +91,13 @@ module _ (bs starts : List ℕ) (known : Listed bs starts) where
 
   pub record-list : (k : ℕ) → suc k ≤ top_of bs → RecordList (list_at bs (suc k))
   record-list k h = record { even = evens k h; short = list-short (suc k) h }
+
+  -- where it lies
+  pub lies : (k : ℕ) → k ≤ top_of bs → Lies bs k (get_or starts k 0) (end_in starts (length bs) k)
+  lies k h = record {
+    start = start_is k h;
+    end = end_is k h;
+    order = omega (arith, start_is k h, end_is k h, list-in k h);
+    inside = omega (arith, end_is k h, end_in_lem k h);
+    is = ap₂ (λ (a b : ℕ). take (b - a) (drop a bs)) (start_is k h) (end_is k h) ∙ cut-is k h;
+  }

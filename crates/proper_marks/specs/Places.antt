@@ -1,7 +1,8 @@
 -- The places of a list of bytes, and what is known of a list whose places are gone along. Definitions only.
-use Rattle.std.specs.Prelude.{◌≡◌, List, ℕ, ◌+◌, ◌*◌, ◌/◌, ◌%◌, ◌^◌, ◌≤◌, ◌<◌, T, length}
+use Rattle.std.specs.Prelude.{◌≡◌, List, ℕ, ◌+◌, ◌-◌, ◌*◌, ◌/◌, ◌%◌, ◌^◌, ◌≤◌, ◌<◌, T, length, take, drop}
 use Rattle.paper.specs.Numbers.{all_in, count}
-use Rattle.paper.specs.Packed.{header_at, halves, record_ok, starts_from}
+use Rattle.paper.specs.Packed.{header_at, halves, record_ok, starts_from, start_at, list_at}
+use Rattle.packed_lists.specs.Ends.{end_at}
 
 -- at which its records start, divided from the front
 abbrev pub places_in : List ℕ → List ℕ
@@ -35,3 +36,13 @@ pub record After (l : List ℕ) (p r : ℕ) : Type 0 where
   pub is : r ≡ p + width_at l p
   pub later : p + 2 ≤ r
   pub inside : 2 * r ≤ length l
+
+-- ---- in a file
+
+-- list k lies from a to b
+pub record Lies (bs : List ℕ) (k a b : ℕ) : Type 0 where
+  pub start : a ≡ start_at bs k
+  pub end : b ≡ end_at bs k
+  pub order : a ≤ b
+  pub inside : b ≤ length bs
+  pub is : take (b - a) (drop a bs) ≡ list_at bs k

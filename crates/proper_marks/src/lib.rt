@@ -7,18 +7,16 @@ ghost use Rattle.paper.specs.Packed.{record_ok};
 ghost use Rattle.proper_marks.specs.Places.{RecordList, After};
 ghost use Rattle.proper_marks.specs.Marks.{mark_of, low_tag, low_by};
 
-use numbers::wide;
+mod in_file; // the lists of a file
+
+pub use in_file::Lists;
 use packed_records::width;
 
 // All bytes zero.
 pub fn clear(scratch: &mut [u8])
     ensures { scratch.new ≡ replicate (length scratch.old) 0 }
 {
-    let mut i = 0usize;
-    while i < scratch.len() {
-        scratch[i] = 0;
-        i += 1;
-    }
+    scratch.fill(0);
 }
 
 // The place after a record: where the next one starts, or the list's end.
@@ -30,16 +28,23 @@ pub fn place_after(list: &[u8], place: u32) -> u32
     place + width(list, place)
 }
 
-// The mark of a place, 0 where none is. `unit` is how many bytes a place counts, 8 for leaves and 2 for half-words.
-pub fn mark(marks: &[u8], unit: usize, place: u32) -> u32
-    requires { unit ≤ 8 }
-    ensures { (result ≡ mark_of unit marks.now place) × (result < 256) }
-{
-    let at = unit * (place as usize);
-    if marks.len() <= at {
-        return 0;
+// A list's marks, as the records one list up name them: `unit` is how many bytes a place counts there, 8 for leaves and 2 for half-words.
+#[derive(Clone, Copy)]
+pub struct Marks<'a> {
+    pub bytes: &'a [u8],
+    pub unit: usize,
+    ghost few: { unit ≤ 8 },
+}
+
+impl Marks<'_> {
+    // The mark of a place, 0 where none is: a number, since it stands so in the scratch.
+    pub fn at(self, place: u32) -> u32
+        ensures { (result ≡ mark_of self.entry.unit self.entry.bytes.now place) × (result < 256) }
+    {
+        self.bytes
+            .get(self.unit * (place as usize))
+            .map_or(0, |mark| u32::from(*mark))
     }
-    wide(marks[at])
 }
 
 // The lowest tag with the same meaning, for a record with this symmetry.
@@ -50,12 +55,10 @@ pub fn low_tag(symmetry: u32, tag: u32) -> u32
     if symmetry == 1 {
         return tag;
     }
-    let mut lower = 0u32;
-    while lower < tag {
+    for lower in 0..tag {
         if (symmetry >> (lower ^ tag)) % 2 == 1 {
             return lower;
         }
-        lower += 1;
     }
     tag
 }

@@ -4,7 +4,6 @@ use mathlib.Core.Path.{◌≡◌, refl, sym, ◌∙◌, ap, subst}
 use mathlib.Core.List.{List}
 use Prim.Native.Nat.{ℕ, ◌+◌, ◌*◌, ◌≤◌}
 use native.Mathlib.Numerals.{add-one}
-use native.Mathlib.Omega.{arith}
 use borrow.Author.Tests.{eq-eqb, ne_eqb}
 use lib.Dec.{T, leb→le}
 use lib.ListN.{get_or}
@@ -45,6 +44,3 @@ pointers-none u rs m = refl
 pub pointers-more : (u : ℕ) (rs : List PackedPointer) (i : ℕ) (m old new : List ℕ) → old ≡ count_pointers u rs i m → new ≡ count_pointer u rs i old → new ≡ count_pointers u rs (i + 1) m
 unfolding count_pointers
 pointers-more u rs i m old new e n = n ∙ ap (count_pointer u rs i) e ∙ ap (λ (j : ℕ). count_pointers u rs j m) (sym (add-one i))
-
-pub pointers-all : (u : ℕ) (rs : List PackedPointer) (i : ℕ) (m old : List ℕ) → i ≤ 8 → 8 ≤ i → old ≡ count_pointers u rs i m → old ≡ count_pointers u rs 8 m
-pointers-all u rs i m old a b e = let q : i ≡ 8 = omega arith in e ∙ ap (λ (j : ℕ). count_pointers u rs j m) q

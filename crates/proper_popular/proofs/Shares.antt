@@ -7,16 +7,16 @@ use Prim.Native.Nat.{ℕ, zero, suc, ◌+◌, ◌-◌, ◌/◌, ◌%◌, ◌^◌
 use native.Mathlib.Numerals.{add-one}
 use native.Mathlib.Omega.{arith}
 use lib.Dec.{T}
-use lib.ListN.{length, get_or, take, drop, replicate, length-replicate}
+use lib.ListN.{length, take, drop, replicate, length-replicate}
 use lib.Seq.{take_all, take-take}
 use Rattle.paper.specs.Numbers.{all_in, count}
 use Rattle.paper.specs.Packed.{top_of, start_at, list_at, record_ok, places_at}
 use Rattle.paper.specs.Runs.{Bytes}
 use Rattle.proper_popular.specs.Places.{popular_rules, starts_in}
-use Rattle.packed_lists.specs.Ends.{unit_at, end_at, end_in, Listed}
-use Rattle.proper_marks.specs.Places.{places_in, leaves_in, WholeList}
-use Rattle.proper_popular.specs.Counting.{count_records, countable, counts_fall, Shared, Uncounted}
-use Rattle.proper_marks.proofs.InFile.{start_is, end_is, list-in, end_in_lem, cut-is, places-leaf, places-inner, eights, record-list}
+use Rattle.packed_lists.specs.Ends.{unit_at, Listed}
+use Rattle.proper_marks.specs.Places.{places_in, leaves_in, WholeList, Lies}
+use Rattle.proper_popular.specs.Counting.{count_records, countable, counts_fall, Shared, Clean}
+use Rattle.proper_marks.proofs.InFile.{list-in, places-leaf, places-inner, eights, record-list}
 use Rattle.proper_popular.proofs.Counts.{window}
 use Rattle.proper_popular.proofs.Starts.{all_whole, all-countable, popular-is}
 
@@ -62,102 +62,67 @@ part-zero a b s h l e =
     let n : a + (b - a) ≡ b = omega arith in
     window (b - a) a s (omega arith) ∙ ap (λ (i : ℕ). drop a (take i s)) n ∙ ap (drop a) e ∙ drop-zeros a b
 
--- ---- list k from a to b, the one above it from c to a, and the list's share, as code cuts them
+-- ---- list k, which lies from a to b, the one above it, and the list's share, as code has them
 
 -- what lies from a to b
 abbrev pub part : ℕ → ℕ → List ℕ → List ℕ
 part a b l = take (b - a) (drop a l)
 
-pub record ShareCut (bs S : List ℕ) (k a b c : ℕ) : Type 0 where
-  pub upper : c ≤ a
-  pub own : a ≤ b
-  pub end : b ≤ length bs
-  pub same : length S ≡ length bs
-  pub shared : Shared k (part c a bs) (part a b bs) (length (part a b S))
-  pub tells : counts_fall (unit_at k) (count_records (unit_at k) (part c a bs) (places_in (part c a bs)) (part a b S)) (starts_in k (part a b bs)) ≡ popular_rules bs k
-  pub below : (m : List ℕ) → take a m ≡ take a S → take (start_at bs k) m ≡ zeros (start_at bs k)
+module _ (bs starts S : List ℕ) (k a b : ℕ) (above list : List ℕ) (by : Bytes bs) (listed : Listed bs starts) (clean : Clean bs k S) (h : k < top_of bs) (lies : Lies bs k a b) (up : above ≡ list_at bs (k + 1)) (own : list ≡ list_at bs k) where
+  short : length bs < 2 ^ 32
+  short = listed.opens.tested.short
 
-pub share-cut : (bs starts S : List ℕ) (k b : ℕ) → Bytes bs → Uncounted bs starts k S → k < top_of bs → b ≡ end_in starts (length bs) k
-    → ShareCut bs S k (get_or starts k 0) b (get_or starts (k + 1) 0)
-share-cut bs starts S k b by known h eb = record {
-  upper = omega (arith, at_a, at_c, list-in bs starts listed (suc k) h);
-  own = own-order;
-  end = own-end;
-  same = known.long;
-  shared = subst (λ (l : List ℕ). Shared k l (part a b bs) (length (part a b S))) (sym upper_is)
-      (subst (λ (l : List ℕ). Shared k (list_at bs (suc k)) l (length (part a b S))) (sym own_is)
-      (subst (Shared k (list_at bs (suc k)) (list_at bs k)) (sym (ap length share-is ∙ length-replicate (length (list_at bs k)) 0)) shared_at));
-  tells = ap (λ (l : List ℕ). falls l (part a b S) (starts_in k (part a b bs)) (places_in l)) upper_is
-      ∙ ap₂ (λ (z l : List ℕ). falls (list_at bs (suc k)) z (starts_in k l) (places_in (list_at bs (suc k)))) share-is own_is
+  upper : above ≡ list_at bs (suc k)
+  upper = up ∙ ap (list_at bs) (add-one k)
+
+  -- the counters of the records at `ps` of a list, tested along the places qs
+  abbrev falls : (above share qs ps : List ℕ) → Bool
+  falls above share qs ps = counts_fall (unit_at k) (count_records (unit_at k) above ps share) qs
+
+  share-is : part a b S ≡ zeros (length (list_at bs k))
+  share-is =
+      let e : b - a ≡ length (list_at bs k) = omega (arith, lies.start, lies.end, list-in bs starts listed k (omega arith)) in
+      part-zero a b S lies.order (omega (arith, lies.inside, clean.long)) (subst (λ (n : ℕ). take n S ≡ zeros n) (sym lies.end) clean.zero) ∙ ap zeros e
+
+  starts_in_lem : (j : ℕ) → j ≤ top_of bs → starts_in j (list_at bs j) ≡ places_at bs j
+  starts_in_lem zero l = sym (places-leaf bs starts listed)
+  starts_in_lem (suc j) l = sym (places-inner bs starts listed j l)
+
+  eights-of : (j : ℕ) → j ≡ 0 → length (list_at bs j) % 8 ≡ 0
+  eights-of zero e = eights bs starts listed
+  eights-of (suc j) e = absurd (omega arith)
+
+  whole_of : (j : ℕ) → j ≤ top_of bs → (j ≡ 0 → ⊥) → WholeList (list_at bs j)
+  whole_of zero l n = absurd (n refl)
+  whole_of (suc j) l n = record {
+    list = record-list bs starts listed j l;
+    whole = subst (λ (r : List ℕ). T (all_in (record_ok (list_at bs (suc j))) r)) (places-inner bs starts listed j l) (all_whole bs by short clean.sound j l);
+  }
+
+  shared_at : Shared k (list_at bs (suc k)) (list_at bs k) (length (list_at bs k))
+  shared_at = record {
+    fits =
+        subst (λ (r : List ℕ). T (all_in (countable (unit_at k) (length (list_at bs k)) (list_at bs (suc k))) r)) (places-inner bs starts listed k h)
+        (all-countable bs by short clean.sound k h);
+    over = record-list bs starts listed k h;
+    long = refl;
+    eights = eights-of k;
+    whole = whole_of k (omega arith);
+  }
+
+  pub share-shared : Shared k above list (length (part a b S))
+  share-shared =
+      subst (λ (l : List ℕ). Shared k l list (length (part a b S))) (sym upper)
+      (subst (λ (l : List ℕ). Shared k (list_at bs (suc k)) l (length (part a b S))) (sym own)
+      (subst (Shared k (list_at bs (suc k)) (list_at bs k)) (sym (ap length share-is ∙ length-replicate (length (list_at bs k)) 0)) shared_at))
+
+  pub share-tells : counts_fall (unit_at k) (count_records (unit_at k) above (places_in above) (part a b S)) (starts_in k list) ≡ popular_rules bs k
+  share-tells =
+      ap (λ (l : List ℕ). falls l (part a b S) (starts_in k list) (places_in l)) upper
+      ∙ ap₂ (λ (z l : List ℕ). falls (list_at bs (suc k)) z (starts_in k l) (places_in (list_at bs (suc k)))) share-is own
       ∙ ap₂ (falls (list_at bs (suc k)) (zeros (length (list_at bs k)))) (starts_in_lem k (omega arith)) (sym (places-inner bs starts listed k h))
-      ∙ popular-is bs by short known.sound k h;
-  below = λ m e. subst (λ (n : ℕ). take n m ≡ zeros n) at_a (e ∙ front-zero a b S own-order (subst (λ (n : ℕ). take n S ≡ zeros n) (sym at_b) known.zero));
-}
-  where
-    listed : Listed bs starts
-    listed = known.listed
+      ∙ popular-is bs by short clean.sound k h
 
-    short : length bs < 2 ^ 32
-    short = listed.opens.tested.short
-
-    a : ℕ
-    a = get_or starts k 0
-
-    c : ℕ
-    c = get_or starts (k + 1) 0
-
-    -- the counters of the records at `ps` of the list `above`, tested along the places qs
-    falls : (above share qs ps : List ℕ) → Bool
-    falls above share qs ps = counts_fall (unit_at k) (count_records (unit_at k) above ps share) qs
-
-    at_a : a ≡ start_at bs k
-    at_a = start_is bs starts listed k (omega arith)
-
-    at_b : b ≡ end_at bs k
-    at_b = eb ∙ end_is bs starts listed k (omega arith)
-
-    at_c : c ≡ start_at bs (suc k)
-    at_c = ap (λ (j : ℕ). get_or starts j 0) (add-one k) ∙ start_is bs starts listed (suc k) h
-
-    own-order : a ≤ b
-    own-order = omega (arith, at_a, at_b, list-in bs starts listed k (omega arith))
-
-    own-end : b ≤ length bs
-    own-end = omega (arith, at_b, end_in_lem bs starts listed k (omega arith))
-
-    upper_is : part c a bs ≡ list_at bs (suc k)
-    upper_is = ap₂ (λ (i j : ℕ). part j i bs) at_a at_c ∙ cut-is bs starts listed (suc k) h
-
-    own_is : part a b bs ≡ list_at bs k
-    own_is = ap₂ (λ (i j : ℕ). part j i bs) at_b at_a ∙ cut-is bs starts listed k (omega arith)
-
-    share-is : part a b S ≡ zeros (length (list_at bs k))
-    share-is =
-        let e : b - a ≡ length (list_at bs k) = omega (arith, at_a, at_b, list-in bs starts listed k (omega arith)) in
-        part-zero a b S own-order (omega (arith, own-end, known.long)) (subst (λ (n : ℕ). take n S ≡ zeros n) (sym at_b) known.zero) ∙ ap zeros e
-
-    starts_in_lem : (j : ℕ) → j ≤ top_of bs → starts_in j (list_at bs j) ≡ places_at bs j
-    starts_in_lem zero l = sym (places-leaf bs starts listed)
-    starts_in_lem (suc j) l = sym (places-inner bs starts listed j l)
-
-    eights-of : (j : ℕ) → j ≡ 0 → length (list_at bs j) % 8 ≡ 0
-    eights-of zero e = eights bs starts listed
-    eights-of (suc j) e = absurd (omega arith)
-
-    whole_of : (j : ℕ) → j ≤ top_of bs → (j ≡ 0 → ⊥) → WholeList (list_at bs j)
-    whole_of zero l n = absurd (n refl)
-    whole_of (suc j) l n = record {
-      list = record-list bs starts listed j l;
-      whole = subst (λ (r : List ℕ). T (all_in (record_ok (list_at bs (suc j))) r)) (places-inner bs starts listed j l) (all_whole bs by short known.sound j l);
-    }
-
-    shared_at : Shared k (list_at bs (suc k)) (list_at bs k) (length (list_at bs k))
-    shared_at = record {
-      fits =
-          subst (λ (r : List ℕ). T (all_in (countable (unit_at k) (length (list_at bs k)) (list_at bs (suc k))) r)) (places-inner bs starts listed k h)
-          (all-countable bs by short known.sound k h);
-      over = record-list bs starts listed k h;
-      long = refl;
-      eights = eights-of k;
-      whole = whole_of k (omega arith);
-    }
+  pub share-below : (m : List ℕ) → take a m ≡ take a S → take (start_at bs k) m ≡ zeros (start_at bs k)
+  share-below m e =
+      subst (λ (n : ℕ). take n m ≡ zeros n) lies.start (e ∙ front-zero a b S lies.order (subst (λ (n : ℕ). take n S ≡ zeros n) (sym lies.end) clean.zero))

@@ -4,7 +4,7 @@ use Rattle.paper.specs.Numbers.{all_in, num, bytes}
 use Rattle.paper.specs.Packed.{PackedPointer, no_pointer, pointers_at, record_ok}
 use Rattle.numbers.specs.Laid.{laid}
 use Rattle.proper_marks.specs.Places.{places_in, RecordList, WholeList}
-use Rattle.packed_lists.specs.Ends.{unit_at, end_at, Listed}
+use Rattle.packed_lists.specs.Ends.{unit_at, end_at}
 use Rattle.laws.proofs.PackedWalk.{SoundLists}
 
 -- the number at place x: four bytes
@@ -63,8 +63,7 @@ pub record Shared (k : ℕ) (above list : List ℕ) (n : ℕ) : Type 0 where
 -- ---- before list k is counted
 
 -- the lists are sound, and as far as list k ends the scratch S is zero
-pub record Uncounted (bs starts : List ℕ) (k : ℕ) (S : List ℕ) : Type 0 where
-  pub listed : Listed bs starts
+pub record Clean (bs : List ℕ) (k : ℕ) (S : List ℕ) : Type 0 where
   pub sound : SoundLists bs
   pub long : length S ≡ length bs
   pub zero : take (end_at bs k) S ≡ replicate (end_at bs k) 0

@@ -3,5 +3,5 @@ pub mod SlotBytes
 pub mod Exchanges
 pub mod Mixing
 pub mod Heaping
-pub mod Ordering
 pub mod Telling
+pub mod Sorting

@@ -1,22 +1,16 @@
 #![tactic(auto)]
 
-// Document 01's program on many inputs: each stands on standard input behind its length, two bytes, high first.
-use numbers::wide;
-
-// Reports each input of these bytes, one after the other.
+// The program of docs/RULES.md on many inputs: each stands on standard input behind its length, two bytes, high first.
+// Reports each input of these bytes, one after the other: its length says where the next begins, so what is left is cut, not counted.
 fn report_all(all: &[u8]) {
-    let mut at = 0usize;
-    while at < all.len() {
-        let left = &all[at..];
-        if left.len() < 2 {
-            return;
-        }
-        let end = (256 * wide(left[0]) + wide(left[1]) + 2) as usize;
+    let mut left = all;
+    while left.len() >= 2 {
+        let end = (256 * u32::from(left[0]) + u32::from(left[1]) + 2) as usize;
         if left.len() < end {
             return;
         }
         reporting::report(&left[2..end]);
-        at += end;
+        left = &left[end..];
     }
 }
 

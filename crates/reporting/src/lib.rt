@@ -1,17 +1,16 @@
 #![tactic(auto)]
 
-// Document 01's program: an outline is added to a store of capacity 32, and its answer, the cells kept at each height, the solid
+// The program of docs/RULES.md: an outline is added to a store of capacity 32, and its answer, the cells kept at each height, the solid
 // voxels of the whole room and the packed length are printed.
 ghost use Rattle.std.specs.Prelude.{◌≤◌};
 
 use limits::{DEEPEST, DEPTH_POSITION, LEAST_DEPTH};
-use numbers::wide;
 use rooms::Point;
 
 // The longest input; a longer one prints `answer 4` alone.
 pub const MOST_INPUT: usize = 8192;
 
-// The store's capacity, and its words: 160 + 142 C. Scratch of packing: 60 C words. The output of packing.
+// The store's capacity, and its words: 4,000 + 157 C. Scratch of packing: 60 C words. The output of packing.
 const CAPACITY: u32 = 32;
 
 const STORE_WORDS: usize = 9024;
@@ -35,7 +34,7 @@ fn depth(file: &[u8]) -> u32
     if file.len() <= DEPTH_POSITION {
         return 0;
     }
-    let said = wide(file[DEPTH_POSITION]);
+    let said = u32::from(file[DEPTH_POSITION]);
     if DEEPEST < said {
         return 0;
     }
@@ -46,12 +45,10 @@ fn depth(file: &[u8]) -> u32
 fn kept_lines(store: &[u32], depth: u32)
     requires { depth ≤ 16 }
 {
-    let mut height = depth;
-    while LEAST_DEPTH <= height {
+    for height in (LEAST_DEPTH..depth + 1).rev() {
         io::write_all(1, b"height ");
-        io::print_decimal(1, height as u64);
-        line(b" kept", rooms::kept(store, height).value() as u64);
-        height -= 1;
+        io::print_decimal(1, u64::from(height));
+        line(b" kept", u64::from(rooms::kept(store, height).unwrap_or(0)));
     }
 }
 
@@ -67,7 +64,7 @@ fn solid_line(store: &[u32], depth: u32)
         z: edge,
     };
     let count = rooms::box_count(store, 0, low, high);
-    line(b"solid", count.value());
+    line(b"solid", count.unwrap_or(0));
 }
 
 // The packed length of scene 0, 0 where the output doesn't hold it.
@@ -75,7 +72,7 @@ fn packed_line(store: &[u32]) {
     let mut scratch = [0u32; SCRATCH_WORDS];
     let mut out = [0u8; MOST_PACKED];
     let length = rooms::pack(store, 0, &mut scratch, &mut out);
-    line(b"packed", length.value() as u64);
+    line(b"packed", u64::from(length.unwrap_or(0)));
 }
 
 // What the program prints for an input.
@@ -85,10 +82,10 @@ pub fn report(input: &[u8]) {
         return;
     }
     let mut store = [0u32; STORE_WORDS];
-    rooms::new_store(&mut store, CAPACITY);
-    let number = rooms::add(&mut store, input).number();
-    line(b"answer", number as u64);
-    if number != 0 {
+    let _ = rooms::new_store(&mut store, CAPACITY);
+    let answer = rooms::add(&mut store, input);
+    line(b"answer", u64::from(rooms::number(answer)));
+    if answer.is_err() {
         return;
     }
     let deep = depth(input);

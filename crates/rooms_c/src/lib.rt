@@ -7,7 +7,9 @@
 ghost use Rattle.paper.specs.Rooms.{point};
 ghost use Rattle.rooms_c.specs.Exports.{RoomsNewPromise, RoomsAddPromise, RoomsVoxelPromise, RoomsSightPromise, RoomsCellPromise, RoomsBoxPromise, RoomsAnyPromise, RoomsKeptPromise, RoomsOutlinePromise, RoomsPackPromise, RoomsHeadsetPackPromise, RoomsCheckPromise, RoomsHeadsetCheckPromise, RoomsPackedVoxelPromise, RoomsOpenPromise, RoomsAskPromise, RoomsDetailPromise};
 
-use rooms::Point;
+use rooms::{
+    Point, blocked_voxel, found_entered, non_empty, number, solid_height, solid_records_height,
+};
 use rooms_numbers::{ask_numbers, detail_numbers, open_numbers};
 
 // New store.
@@ -16,7 +18,7 @@ pub extern "C" fn rooms_new(store: &mut [u32], capacity: u32) -> u32
     ensures { RoomsNewPromise capacity store.old result store.new }
 {
     let answer = rooms::new_store(store, capacity);
-    answer.number()
+    number(answer)
 }
 
 // Add: the scene's number.
@@ -25,8 +27,8 @@ pub extern "C" fn rooms_add(store: &mut [u32], file: &[u8], scene: &mut u32) -> 
     ensures { RoomsAddPromise store.old file.now result scene.new store.new }
 {
     let answer = rooms::add(store, file);
-    *scene = answer.value();
-    answer.number()
+    *scene = answer.unwrap_or(0);
+    number(answer)
 }
 
 // Voxel: 1 for solid, 0 for empty, and the height of the emptiness.
@@ -43,9 +45,8 @@ pub extern "C" fn rooms_voxel(
     ensures { RoomsVoxelPromise store.now scene (point x y z) result solid.new height.new }
 {
     let answer = rooms::voxel(store, scene, Point { x: x, y: y, z: z });
-    *solid = answer.value();
-    *height = answer.height();
-    answer.number()
+    [*solid, *height] = solid_height(answer);
+    number(answer)
 }
 
 // Sight line: 1 where it is blocked, and the voxel that blocks it.
@@ -77,11 +78,8 @@ pub extern "C" fn rooms_sight(
         z: toz,
     };
     let answer = rooms::sight(store, scene, from, to);
-    *blocked = answer.value();
-    *x = answer.x();
-    *y = answer.y();
-    *z = answer.z();
-    answer.number()
+    [*blocked, *x, *y, *z] = blocked_voxel(answer);
+    number(answer)
 }
 
 // Cell: 1 for non-empty, 0 for empty, x, y and z counted in cells of its height.
@@ -98,8 +96,8 @@ pub extern "C" fn rooms_cell(
     ensures { RoomsCellPromise store.now scene height (point x y z) result full.new }
 {
     let answer = rooms::cell(store, scene, height, Point { x: x, y: y, z: z });
-    *full = answer.value();
-    answer.number()
+    *full = non_empty(answer);
+    number(answer)
 }
 
 // Box: the number of solid voxels from the low corner up to the high one, which is outside.
@@ -128,8 +126,8 @@ pub extern "C" fn rooms_box(
         z: highz,
     };
     let answer = rooms::box_count(store, scene, low, high);
-    *count = answer.value();
-    answer.number()
+    *count = answer.unwrap_or(0);
+    number(answer)
 }
 
 // Anything in the way: 1 where the box holds a solid voxel, else 0, and the number of cells entered.
@@ -159,9 +157,8 @@ pub extern "C" fn rooms_any(
         z: hz,
     };
     let answer = rooms::anything(store, scene, low, high);
-    *solid = answer.value();
-    *entered = answer.entered();
-    answer.number()
+    (*solid, *entered) = found_entered(answer);
+    number(answer)
 }
 
 // Kept: the cells kept at a height.
@@ -170,8 +167,8 @@ pub extern "C" fn rooms_kept(store: &[u32], height: u32, count: &mut u32) -> u32
     ensures { RoomsKeptPromise store.now height result count.new }
 {
     let answer = rooms::kept(store, height);
-    *count = answer.value();
-    answer.number()
+    *count = answer.unwrap_or(0);
+    number(answer)
 }
 
 // Outline out: the outline of a scene, and its length.
@@ -180,8 +177,8 @@ pub extern "C" fn rooms_outline(store: &[u32], scene: u32, out: &mut [u8], lengt
     ensures { RoomsOutlinePromise store.now scene out.old result length.new out.new }
 {
     let answer = rooms::outline_out(store, scene, out);
-    *length = answer.value();
-    answer.number()
+    *length = answer.unwrap_or(0);
+    number(answer)
 }
 
 // Pack: a scene as a packed file, and its length.
@@ -196,8 +193,8 @@ pub extern "C" fn rooms_pack(
     ensures { RoomsPackPromise store.now scene scratch.old out.old result length.new scratch.new out.new }
 {
     let answer = rooms::pack(store, scene, scratch, out);
-    *length = answer.value();
-    answer.number()
+    *length = answer.unwrap_or(0);
+    number(answer)
 }
 
 // Pack for the headset: a scene that meets its profile as a packed file, and its length.
@@ -212,8 +209,8 @@ pub extern "C" fn rooms_headset_pack(
     ensures { RoomsHeadsetPackPromise store.now scene scratch.old out.old result length.new scratch.new out.new }
 {
     let answer = rooms::headset_pack(store, scene, scratch, out);
-    *length = answer.value();
-    answer.number()
+    *length = answer.unwrap_or(0);
+    number(answer)
 }
 
 // Packed check: the depth of a proper file.
@@ -222,8 +219,8 @@ pub extern "C" fn rooms_check(file: &[u8], scratch: &mut [u8], depth: &mut u32) 
     ensures { RoomsCheckPromise file.now scratch.old result depth.new scratch.new }
 {
     let answer = rooms::check(file, scratch);
-    *depth = answer.value();
-    answer.number()
+    *depth = answer.unwrap_or(0);
+    number(answer)
 }
 
 // Headset check: the depth of a proper file that meets the headset's profile.
@@ -232,8 +229,8 @@ pub extern "C" fn rooms_headset_check(file: &[u8], scratch: &mut [u8], depth: &m
     ensures { RoomsHeadsetCheckPromise file.now scratch.old result depth.new scratch.new }
 {
     let answer = rooms::headset_check(file, scratch);
-    *depth = answer.value();
-    answer.number()
+    *depth = answer.unwrap_or(0);
+    number(answer)
 }
 
 // Packed voxel: 1 for solid, 0 for empty, the number of records read on the way, and the height of the emptiness.
@@ -250,10 +247,8 @@ pub extern "C" fn rooms_packed_voxel(
     ensures { RoomsPackedVoxelPromise file.now (point x y z) result solid.new records.new height.new }
 {
     let answer = rooms::packed_voxel(file, Point { x: x, y: y, z: z });
-    *solid = answer.value();
-    *records = answer.records();
-    *height = answer.height();
-    answer.number()
+    [*solid, *records, *height] = solid_records_height(answer);
+    number(answer)
 }
 
 // Opening: the depth and the fifteen list starts, written to the first sixteen numbers.
@@ -261,7 +256,8 @@ pub extern "C" fn rooms_packed_voxel(
 pub extern "C" fn rooms_open(file: &[u8], numbers: &mut [u32]) -> u32
     ensures { RoomsOpenPromise file.now numbers.old result numbers.new }
 {
-    open_numbers(file, numbers)
+    let answer = open_numbers(file, numbers);
+    number(answer)
 }
 
 // A question on bytes held beside the numbers that an opening wrote.
@@ -279,10 +275,8 @@ pub extern "C" fn rooms_ask(
     ensures { RoomsAskPromise file.now numbers.now (point x y z) result solid.new records.new height.new }
 {
     let answer = ask_numbers(file, numbers, Point { x: x, y: y, z: z });
-    *solid = answer.value();
-    *records = answer.records();
-    *height = answer.height();
-    answer.number()
+    [*solid, *records, *height] = solid_records_height(answer);
+    number(answer)
 }
 
 // Detail: the height at which to draw a scene of this depth; the wish is given by its kind and two numbers.
@@ -291,6 +285,6 @@ pub extern "C" fn rooms_detail(depth: u32, kind: u32, a: f64, b: f64, height: &m
     ensures { RoomsDetailPromise depth kind a b result height.new }
 {
     let answer = detail_numbers(depth, kind, a, b);
-    *height = answer.value();
-    answer.number()
+    *height = answer.unwrap_or(0);
+    number(answer)
 }

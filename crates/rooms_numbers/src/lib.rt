@@ -2,49 +2,41 @@
 
 // The calls that C makes with numbers in the place of a struct or of a wish: an opened scene by sixteen numbers, a wish by its kind and two numbers.
 ghost use Rattle.std.specs.Prelude.{◌≡◌, [], ◌∷◌, ◌≤◌, length};
-ghost use Rattle.paper.specs.Answers.{told, outcome, found, chosen};
+ghost use Rattle.paper.specs.Answers.{outcome, started, found, chosen};
 ghost use Rattle.paper.specs.Calls.{over};
 ghost use Rattle.points.specs.Points.{at};
 ghost use Rattle.rooms_numbers.specs.Numbers.{opened_numbers, starts_held, wish_given, open_c_outcome, ask_c_outcome, detail_c_outcome};
 
-use rooms::{Chosen, DistanceFactor, Found, Point, Refusal, Wish};
+use rooms::{DistanceFactor, Found, Point, Refusal, Wish};
 
 // The numbers of an opened scene: the depth, then the fifteen list starts.
 const OPENED_NUMBERS: usize = 16;
 
-const STARTS: usize = 15;
-
-// Opening: the depth and the fifteen list starts, written to the first sixteen numbers; refused by 3, 4, 5, 6, then 12
-// where there are fewer.
-pub fn open_numbers(file: &[u8], numbers: &mut [u32]) -> u32
-    ensures { outcome (told result []) (numbers.new ∷ []) ≡ open_c_outcome file.now numbers.old }
+/// Opening: the depth and the fifteen list starts, written to the first sixteen numbers; refused by 3, 4, 5, 6, then 12
+/// where there are fewer, with the numbers as they were.
+pub fn open_numbers(file: &[u8], numbers: &mut [u32]) -> Result<(), Refusal>
+    ensures { outcome (started result) (numbers.new ∷ []) ≡ open_c_outcome file.now numbers.old }
 {
-    let header = rooms::read_header(file);
-    let number = header.number;
-    let room = numbers.len();
-    if number != 0 {
-        return number;
+    let header = rooms::read_header(file)?;
+    if numbers.len() < OPENED_NUMBERS {
+        return Err(Refusal::OutputShort);
     }
-    if room < OPENED_NUMBERS {
-        return 12;
-    }
-    let starts = header.starts;
-    write_numbers(numbers, header.depth, starts);
-    0
+    write_numbers(numbers, header.depth, header.starts);
+    Ok(())
 }
 
-// A question on bytes held beside the numbers that an opening wrote: 6 where there are fewer than sixteen, then as on an opened scene.
-pub fn ask_numbers(file: &[u8], numbers: &[u32], v: Point) -> Found
+/// A question on bytes held beside the numbers that an opening wrote: 6 where there are fewer than sixteen, then as on an opened scene.
+pub fn ask_numbers(file: &[u8], numbers: &[u32], v: Point) -> Result<Found, Refusal>
     ensures { outcome (found result) [] ≡ ask_c_outcome file.now numbers.now (at v) }
 {
     if numbers.len() < OPENED_NUMBERS {
-        return Found::Refused(Refusal::BrokenRules);
+        return Err(Refusal::BrokenRules);
     }
     rooms::ask_bytes(file, numbers[0], read_starts(numbers), v)
 }
 
-// Detail: the height at which to draw a scene of this depth; the wish is given by its kind and two numbers.
-pub fn detail_numbers(depth: u32, kind: u32, a: f64, b: f64) -> Chosen
+/// Detail: the height at which to draw a scene of this depth; the wish is given by its kind and two numbers.
+pub fn detail_numbers(depth: u32, kind: u32, a: f64, b: f64) -> Result<u32, Refusal>
     ensures { outcome (chosen result) [] ≡ detail_c_outcome depth kind a b }
 {
     rooms::detail(depth, wish_of(kind, a, b))
@@ -75,11 +67,7 @@ fn write_numbers(numbers: &mut [u32], depth: u32, starts: [u32; 15])
     ensures { numbers.new ≡ over (depth ∷ starts) numbers.old }
 {
     numbers[0] = depth;
-    let mut k = 0usize;
-    while k < STARTS {
-        numbers[k + 1] = starts[k];
-        k += 1;
-    }
+    numbers[1..OPENED_NUMBERS].copy_from_slice(&starts);
 }
 
 // The list starts among the numbers: those after the first.
@@ -88,10 +76,6 @@ fn read_starts(numbers: &[u32]) -> [u32; 15]
     ensures { result ≡ starts_held numbers.now }
 {
     let mut starts = [0u32; 15];
-    let mut k = 0usize;
-    while k < STARTS {
-        starts[k] = numbers[k + 1];
-        k += 1;
-    }
+    starts.copy_from_slice(&numbers[1..OPENED_NUMBERS]);
     starts
 }

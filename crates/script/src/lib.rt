@@ -5,6 +5,7 @@
 mod asks; // what a command asks for
 mod calls; // the commands that ask the store
 mod changes; // the commands that change the store or the current packed file
+mod command; // the commands, by their letters
 mod fill; // what lent memory holds before a call
 mod given; // the numbers behind a command byte
 mod turns; // one command after the other

@@ -1,12 +1,13 @@
 // A script's commands, one after the other.
-ghost use Rattle.std.specs.Prelude.{◌+◌, ◌<◌, ◌≤◌, length};
+ghost use Rattle.std.specs.Prelude.{◌+◌, ◌<◌, ◌≤◌, length, IfSome};
 ghost use Rattle.script.specs.Steps.{Inside, Parts};
 
 use crate::asks::{Asked, Memory, read};
-use crate::calls::ask;
-use crate::changes::{change, taken};
-use crate::scenes::look;
+use crate::changes::taken;
+use crate::command::Command;
+use crate::sums::sum_words;
 use crate::text::{put, say};
+use crate::{calls, changes, scenes};
 
 // How far a script is played: the place of the next command, the words of the store, the bytes of the current packed file,
 // and the bytes of text not written yet.
@@ -20,8 +21,8 @@ pub struct Played {
 
 // Plays a command on the memory that it is lent, and answers the numbers of its lines. `bytes` stand in the script behind its
 // numbers.
-fn command(
-    code: u8,
+fn play_command(
+    command: Command,
     given: &[u8],
     bytes: &[u8],
     store: &mut [u32],
@@ -29,16 +30,33 @@ fn command(
     out: &mut [u8],
     scratch: &mut [u32],
 ) -> [u64; 6] {
-    match code {
-        b'N' | b'A' | b'W' | b'X' | b'L' => change(code, given, bytes, store, file),
-        b'v' | b'q' | b'c' | b'h' | b'D' => look(code, given, file, out),
-        _ => ask(code, given, store, scratch, out),
+    match command {
+        Command::NewStore => changes::new_store(given, store),
+        Command::Add => changes::add(bytes, store),
+        Command::Load => changes::load(bytes, file),
+        Command::SetByte => changes::set_byte(given, file),
+        Command::SetWord => changes::set_word(given, store),
+        Command::Voxel => calls::voxel(given, store),
+        Command::Sight => calls::sight(given, store),
+        Command::Cell => calls::cell(given, store),
+        Command::Box => calls::box_count(given, store),
+        Command::Anything => calls::anything(given, store),
+        Command::Kept => calls::kept(given, store),
+        Command::Outline => calls::outline_out(given, store, out),
+        Command::Pack => calls::pack(given, store, scratch, out),
+        Command::HeadsetPack => calls::headset_pack(given, store, scratch, out),
+        Command::PackedVoxel => scenes::packed_voxel(given, file),
+        Command::Open => scenes::open_and_ask(given, file),
+        Command::Check => scenes::check(file, out),
+        Command::HeadsetCheck => scenes::headset_check(file, out),
+        Command::Detail => scenes::detail(given),
+        Command::Sum => [sum_words(store), 0, 0, 0, 0, 0],
     }
 }
 
 // Plays a command on the part of each memory that it asks for.
 fn lend(
-    code: u8,
+    command: Command,
     given: &[u8],
     asked: Asked,
     store: &mut [u32],
@@ -54,8 +72,8 @@ fn lend(
     let size = asked.part.size;
     let room = asked.part.room;
     let spare = asked.part.scratch;
-    command(
-        code,
+    play_command(
+        command,
         given,
         &given[from..end],
         &mut store[..words],
@@ -65,7 +83,7 @@ fn lend(
     )
 }
 
-// Plays the next command. Where there is none, or it is cut short or past a limit, the place stays.
+// Plays the next command; none where its letter is none, or it is cut short or past a limit.
 fn turn(
     script: &[u8],
     played: Played,
@@ -74,15 +92,13 @@ fn turn(
     out: &mut [u8],
     scratch: &mut [u32],
     text: &mut [u8],
-) -> Played
+) -> Option<Played>
     requires inside { Inside script.now store.old file.old text.old played.at played.words played.size played.used }
     requires at_in_bounds { played.at < length script.now }
-    ensures inside_2 { Inside script.now store.old file.old text.old result.at result.words result.size 0 }
-    ensures at_le_at { (played.at ≤ result.at) × (result.used ≤ length text.old) }
+    ensures inside_after { IfSome result (λ next. Inside script.now store.old file.old text.old next.at next.words next.size 0) }
+    ensures on { IfSome result (λ next. (played.at < next.at) × (next.used ≤ length text.old)) }
 {
-    let at = played.at;
-    let code = script[at];
-    let start = at + 1;
+    let start = played.at + 1;
     let given = &script[start..];
     let most = Memory {
         words: store.len(),
@@ -90,18 +106,15 @@ fn turn(
         room: out.len(),
         scratch: scratch.len(),
     };
-    let asked = read(code, given, played.words, played.size, most);
-    if asked.stop {
-        return played;
-    }
-    let next = start + asked.end;
-    let numbers = lend(code, given, asked, store, file, out, scratch);
-    Played {
-        at: next,
+    let command = Command::of(script[played.at])?;
+    let asked = read(command, given, played.words, played.size, most)?;
+    let numbers = lend(command, given, asked, store, file, out, scratch);
+    Some(Played {
+        at: start + asked.end,
         words: asked.part.words,
-        size: taken(code, numbers, out, file, asked.part.size),
-        used: say(text, played.used, code, numbers),
-    }
+        size: taken(command, numbers, out, file, asked.part.size),
+        used: say(text, played.used, command, numbers),
+    })
 }
 
 // The most bytes of one command's lines.
@@ -127,7 +140,7 @@ fn say_stop(text: &mut [u8], used: usize)
     io::write_all(1, &text[..stopped]);
 }
 
-// Plays a script on this memory and writes what it prints.
+// Plays a script on this memory and writes what it prints. Each turn says where the next command stands: the loop goes by that.
 pub fn play(
     script: &[u8],
     store: &mut [u32],
@@ -145,17 +158,13 @@ pub fn play(
         used: 0,
     };
     while played.at < script.len() {
-        let before = played.at;
-        let next = turn(script, played, store, file, out, scratch, text);
-        if next.at == before {
-            say_stop(text, next.used);
+        let Some(next) = turn(script, played, store, file, out, scratch, text) else {
+            say_stop(text, played.used);
             return;
-        }
+        };
         played = Played {
-            at: next.at,
-            words: next.words,
-            size: next.size,
             used: flushed(text, next.used),
+            ..next
         };
     }
     let used = played.used;

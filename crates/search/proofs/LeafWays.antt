@@ -11,7 +11,7 @@ use Rattle.paper.specs.Rooms.{Point, in_child, mirrored, box_count, origin, far}
 use Rattle.paper.specs.Leaf.{leaf_voxel}
 use Rattle.paper.specs.Store.{leaf_no, leaf_solid, kept_of, cell_at}
 use Rattle.paper.specs.Anything.{cell_search}
-use Rattle.paper.specs.declared.Search.TheVariants.{Met, Passed}
+use Rattle.paper.specs.Anything.{Met, Passed}
 use Rattle.laws.proofs.Boxes.{box-mirrored}
 use Rattle.laws.proofs.Counts.{leaf-whole}
 use Rattle.boxes_parts.specs.Parts.{past_in}

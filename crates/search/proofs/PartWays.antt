@@ -2,30 +2,30 @@
 -- with the box, tested; then the children, one after another: one that is none or shares no voxel is passed over, in any other the box is cut to it. By
 -- the cuts of a box. Assumes nothing.
 use mathlib.Core.Path.{◌≡◌, refl, sym, ap, ap₂, ◌∙◌}
-use mathlib.Core.Bool.{Bool, true, false, cond, not, ◌&&◌, ◌||◌, true≢false}
+use mathlib.Core.Bool.{Bool, true, false, cond, ◌&&◌}
 use mathlib.Core.List.{List}
 use Prim.Native.Nat.{ℕ, suc, ◌-◌, ◌<◌}
 use native.Mathlib.Omega.{arith}
 use lib.Bits.{bit_xor}
 use lib.Dec.{eqb}
 use lib.ListN.{get_or}
-use borrow.Author.Tests.{eq-eqb}
+use borrow.Author.Tests.{eq-eqb, ne_eqb}
 use Rattle.paper.specs.Rooms.{Point, in_child, has_voxel, is_whole, clipped, origin, far}
 use Rattle.paper.specs.Outline.{edge}
 use Rattle.paper.specs.Store.{Cell, heights, kept_count, kept_of, cell_at, tag_of, cell_no, bad_pointer}
 use Rattle.paper.specs.Anything.{pointer_search, cell_search, shared_bad}
-use Rattle.paper.specs.declared.Search.{Search}
-use Rattle.paper.specs.declared.Search.TheVariants.{Passed, Damaged}
+use Rattle.paper.specs.Anything.{Search}
+use Rattle.paper.specs.Anything.{Passed, Damaged}
 use Rattle.laws.proofs.Tests.{none-at}
 use Rattle.laws.proofs.Kept.{kept-length}
 use Rattle.laws.proofs.Invariant.{named-kept}
 use Rattle.laws.proofs.BoxTallies.{whole-box}
 use Rattle.laws.proofs.SearchLaws.{rest_from, cell_bad_lem, cell-open}
-use Rattle.points.specs.Seeing.{child_no_at}
-use Rattle.boxes_parts.specs.Parts.{past_in, Spans, shares_in}
-use Rattle.boxes_parts.proofs.Cuts.{start_in, end_in, cut-start, cut-end, cut-none}
+use Rattle.points.specs.Points.{at}
+use Rattle.boxes_parts.specs.declared.Part.{Part}
+use Rattle.boxes_parts.specs.Parts.{NoPart, ChildPart, low_cut, high_cut, past_in, Spans}
 use Rattle.search.specs.Searching.{search_part, whole_search, cell_bad, children_search}
-use Rattle.search.proofs.Sharing.{sharing-voxel}
+use Rattle.search.proofs.Sharing.{span-voxel}
 
 -- ---- a cell of list k
 
@@ -92,59 +92,43 @@ module _ (ws : List ℕ) (k : ℕ) (c : Cell) (m : ℕ) (low last : Point) where
   unfolding children_search
   children-begin = refl
 
-  module _ (hk : k < heights) (i : ℕ) (hi : i < 8) where
+  module _ (i : ℕ) where
     abbrev pointer : ℕ
     pointer = get_or c (bit_xor i m) 0
 
-    abbrev sharing : Bool
-    sharing = shares_in (child_no_at k low) (child_no_at k last) i
-
     abbrev low_in : Point
-    low_in = clipped (edge k) i (in_child (edge (suc k)) low)
+    low_in = low_cut k i low
 
     abbrev high_in : Point
-    high_in = clipped (edge k) i (past_in (edge (suc k)) last)
+    high_in = high_cut k i last
 
     -- by the two tests
     abbrev search_by_tests : Bool → Bool → Search
     search_by_tests v a = cond v (cond a (Passed 0) (cell_search (kept_of ws) k (cell_no pointer) (bit_xor (tag_of pointer) m) low_in high_in)) (Passed 0)
 
-    -- none, or it shares no voxel
-    pub child-skipped : (eqb pointer 0 || not sharing) ≡ true → part_child ws k c m low last i ≡ Passed 0
-    child-skipped e = go (eqb pointer 0) sharing refl refl e
-      where
-        none : (v : Bool) → search_by_tests v true ≡ Passed 0
-        none true = refl
-        none false = refl
+    none : (v : Bool) → search_by_tests v true ≡ Passed 0
+    none true = refl
+    none false = refl
 
-        go : (a s : Bool) → eqb pointer 0 ≡ a → sharing ≡ s → (a || not s) ≡ true → search_by_tests (has_voxel low_in high_in) (eqb pointer 0) ≡ Passed 0
-        go true s p q t = ap (search_by_tests (has_voxel low_in high_in)) p ∙ none (has_voxel low_in high_in)
-        go false true p q t = absurd (true≢false (sym t))
-        go false false p q t = ap (λ (v : Bool). search_by_tests v (eqb pointer 0)) (cut-none k hk low last i hi q)
+    -- no child
+    pub child-absent : pointer ≡ 0 → part_child ws k c m low last i ≡ Passed 0
+    child-absent z = ap (search_by_tests (has_voxel low_in high_in)) (eq-eqb pointer 0 z) ∙ none (has_voxel low_in high_in)
 
-    module _ (s : Spans (edge (suc k)) low last) (e : (eqb pointer 0 || not sharing) ≡ false) where
-      -- it is there and shares a voxel
-      both : (eqb pointer 0 ≡ false) × (sharing ≡ true)
-      both = go (eqb pointer 0) sharing e
-        where
-          go : (a b : Bool) → (a || not b) ≡ false → (a ≡ false) × (b ≡ true)
-          go true b t = absurd (true≢false t)
-          go false true t = (refl, refl)
-          go false false t = absurd (true≢false t)
+    -- one that has no part of the box
+    pub child-apart : NoPart k i low last → part_child ws k c m low last i ≡ Passed 0
+    child-apart e = ap (λ (v : Bool). search_by_tests v (eqb pointer 0)) e
 
-      pub child-shares : sharing ≡ true
-      child-shares = both.1
+    -- one that has
+    module _ (part : Part) (p : ChildPart k i low last part) (s : Spans (edge (suc k)) low last) (there : pointer ≡ 0 → ⊥) where
+      voxel : has_voxel low_in high_in ≡ true
+      voxel = ap₂ has_voxel p.begins p.ends ∙ span-voxel (edge k) (at part.low) (at part.last) (p.spans s)
 
-      pub child-there : pointer ≡ 0 → ⊥
-      child-there z = true≢false (sym (eq-eqb pointer 0 z) ∙ both.0)
-
-      pub child-entered : search_part ws k (cell_no pointer) (bit_xor (tag_of pointer) m) (start_in k i low) (end_in k i last) ≡ part_child ws k c m low last i
+      pub child-entered : search_part ws k (cell_no pointer) (bit_xor (tag_of pointer) m) (at part.low) (at part.last) ≡ part_child ws k c m low last i
       child-entered =
-          sym (ap₂ search_by_tests (sharing-voxel k hk low last s i hi ∙ both.1) both.0
-          ∙ ap₂ (cell_search (kept_of ws) k (cell_no pointer) (bit_xor (tag_of pointer) m)) (cut-start k hk low last i hi both.1) (cut-end k hk low last i hi both.1))
+          sym (ap₂ search_by_tests voxel (ne_eqb pointer 0 there) ∙ ap₂ (cell_search (kept_of ws) k (cell_no pointer) (bit_xor (tag_of pointer) m)) p.begins p.ends)
 
-      pub child-kept : (n : ℕ) → cell_bad n k c m (in_child (edge (suc k)) low) (past_in (edge (suc k)) last) ≡ false → cell_no pointer < n
-      child-kept n b =
+      pub child-kept : (n : ℕ) → i < 8 → cell_bad n k c m (in_child (edge (suc k)) low) (past_in (edge (suc k)) last) ≡ false → cell_no pointer < n
+      child-kept n hi b =
           let t : has_voxel low_in high_in && bad_pointer n pointer ≡ false =
-          none-at 8 (λ j. has_voxel (clipped (edge k) j (in_child (edge (suc k)) low)) (clipped (edge k) j (past_in (edge (suc k)) last)) && bad_pointer n (get_or c (bit_xor j m) 0)) b i hi in
-          named-kept n pointer (sym (ap (λ (v : Bool). v && bad_pointer n pointer) (sharing-voxel k hk low last s i hi ∙ both.1)) ∙ t) child-there
+          none-at 8 (λ j. has_voxel (low_cut k j low) (high_cut k j last) && bad_pointer n (get_or c (bit_xor j m) 0)) b i hi in
+          named-kept n pointer (sym (ap (λ (v : Bool). v && bad_pointer n pointer) voxel) ∙ t) there

@@ -1,9 +1,8 @@
 -- The children of a cell that share a voxel with the box, by the numbers of those that its first voxel and its last lie in; and whether one of them has
--- a bad pointer, tested one after another. By the cuts of a box. Assumes nothing.
+-- a bad pointer. By the cuts of a box. Assumes nothing.
 use mathlib.Core.Path.{◌≡◌, refl, sym, ap, ap₂, ◌∙◌}
-use mathlib.Core.Bool.{Bool, true, false, cond, ◌&&◌, ◌||◌}
-use Prim.Native.Nat.{ℕ, zero, suc, ◌+◌, ◌-◌, ◌%◌, ◌<◌}
-use native.Mathlib.Numerals.{sub-one}
+use mathlib.Core.Bool.{Bool, true, false, ◌&&◌}
+use Prim.Native.Nat.{ℕ, suc, ◌+◌, ◌%◌, ◌<◌}
 use native.Mathlib.Omega.{arith}
 use lib.Bits.{bit_xor}
 use lib.Dec.{ltb}
@@ -56,24 +55,3 @@ module _ (k : ℕ) (hk : k < heights) (low last : Point) (s : Spans (edge (suc k
     sharing-bad =
         any_same 8 bad_at (λ i. has_voxel (low_in i) (high_in i) && bad_pointer n (get_or c (bit_xor i m) 0)) (λ i hi.
         ap (λ (b : Bool). b && bad_pointer n (get_or c (bit_xor i m) 0)) (sym (sharing-voxel i hi)))
-
--- ---- a loop that counts i down, with what is found in b
-
-pub bad-falls : (p : ℕ → Bool) (i : ℕ) (b r : Bool) → (i ≡ 0 → ⊥) → r ≡ p (i - 1) → ((b || r) || any_below (i - 1) p) ≡ (b || any_below i p)
-bad-falls p zero b r z e = absurd (z refl)
-bad-falls p (suc i) b r z e =
-    ap (λ (t : Bool). (b || t) || any_below (suc i - 1) p) e
-    ∙ ap (λ (j : ℕ). (b || p j) || any_below j p) (sub-one (suc i))
-    ∙ turn b (p i) (any_below i p)
-  where
-    turn : (a t u : Bool) → ((a || t) || u) ≡ (a || cond t true u)
-    turn true t u = refl
-    turn false true u = refl
-    turn false false u = refl
-
-pub bad-done : (p : ℕ → Bool) (i : ℕ) (b : Bool) → i ≡ 0 → (b || any_below i p) ≡ b
-bad-done p i b z = ap (λ (j : ℕ). b || any_below j p) z ∙ none b
-  where
-    none : (a : Bool) → (a || false) ≡ a
-    none true = refl
-    none false = refl

@@ -18,8 +18,8 @@ use Rattle.paper.specs.Rooms.{origin, far, is_whole, has_voxel, clipped}
 use Rattle.paper.specs.Outline.{edge}
 use Rattle.paper.specs.Store.{Cell, heights, kept_count, kept_of, cells_at, cell_at, tag_of, cell_no, bad_pointer, any_bad}
 use Rattle.paper.specs.Anything.{further, in_order, shared_bad, cell_search}
-use Rattle.paper.specs.declared.Search.{Search}
-use Rattle.paper.specs.declared.Search.TheVariants.{Passed, Damaged}
+use Rattle.paper.specs.Anything.{Search}
+use Rattle.paper.specs.Anything.{Passed, Damaged}
 use Rattle.laws.proofs.Tests.{any_at, at-any, any_same, none-at, iff-eq, T_true, true-T}
 use Rattle.laws.proofs.Eight.{xor8-lt, xor8-back}
 use Rattle.laws.proofs.Kept.{kept-length}

@@ -8,8 +8,8 @@ use Rattle.paper.specs.Store.{Cell, heights, kept_count, kept_of, cell_no, bad_p
 use Rattle.paper.specs.Answers.{Told, told}
 use Rattle.paper.specs.Calls.{box_outside}
 use Rattle.paper.specs.Anything.{further, in_order, pointer_search, cell_search, search_told, scene_search, any_damaged}
-use Rattle.paper.specs.declared.Search.{Search}
-use Rattle.paper.specs.declared.Search.TheVariants.{Met, Passed, Damaged}
+use Rattle.paper.specs.Anything.{Search}
+use Rattle.paper.specs.Anything.{Met, Passed, Damaged}
 use Rattle.store_entry.specs.Entry.{past_entry}
 use Rattle.boxes_parts.specs.Parts.{past_in}
 

@@ -15,8 +15,8 @@ use Rattle.paper.specs.Rooms.{Point, OneCell}
 use Rattle.paper.specs.Store.{Cell, cells_at, cell_at, tag_of, cell_no, any_bad}
 use Rattle.points.specs.Seeing.{child_no_at}
 use Rattle.walk.specs.Walk.{taken_from, walk_to}
-use Rattle.walk.specs.declared.Ended.{Ended}
-use Rattle.walk.specs.declared.Ended.TheVariants.{Absent, At, Damaged}
+use Rattle.walk.specs.Walk.{Ended}
+use Rattle.walk.specs.Walk.{Absent, At, Damaged}
 use Rattle.walk.proofs.Steps.{walk-stop}
 
 -- one coordinate: what lies in one cell lies in one greater cell

@@ -1,9 +1,9 @@
 -- One step of a walk with its path, and what stands in the path where the walk ends: from the list of the last cell entered upwards, the cells at which
 -- the walk stopped there ends. By the clauses of both, and induction on the list. Assumes nothing.
 use mathlib.Core.Path.{◌≡◌, refl, sym, ap, ap₂, ◌∙◌, subst}
-use mathlib.Core.Bool.{Bool, true, false, cond}
+use mathlib.Core.Bool.{Bool, true, false, cond, true≢false}
 use mathlib.Core.Logic.{◌⊎◌, inl, inr}
-use mathlib.Core.List.{List}
+use mathlib.Core.List.{List, [], ◌∷◌}
 use Prim.Native.Nat.{ℕ, zero, suc, ◌+◌, ◌-◌, ◌/◌, ◌%◌, ◌<◌, ◌≤◌}
 use native.Mathlib.Nat.{mod-lt, eq-or-lt_of_le}
 use native.Mathlib.Omega.{arith}
@@ -15,13 +15,19 @@ use lib.ListN.{length, get_or, set, length-set}
 use lib.Seq.{get_or-set_same, get_or-set_other}
 use Rattle.paper.specs.Rooms.{Point, OneCell}
 use Rattle.paper.specs.Store.{Cell, cells_at, cell_at, tag_of, cell_no, any_bad, kept_of}
+use Rattle.std.specs.Prelude.{Result, Ok, Err, IsErr}
+use Rattle.paper.specs.Answers.{told}
+use Rattle.paper.specs.declared.Damaged.{Damaged as Unsound}
+use Rattle.paper.specs.declared.Voxel.{Voxel}
+use Rattle.walk.specs.declared.image.End.{End}
+use Rattle.walk.specs.Reached.{ended}
 use Rattle.points.proofs.Seen.{tag-joins}
 use Rattle.walk.specs.Walk.{taken_from, walk_to, AtKept}
-use Rattle.walk.specs.declared.Ended.{Ended}
-use Rattle.walk.specs.declared.Ended.TheVariants.{Absent, At, Damaged}
+use Rattle.walk.specs.Walk.{Ended}
+use Rattle.walk.specs.Walk.{Absent, At, Damaged}
 use Rattle.walk.proofs.Steps.{walk-stop}
 use Rattle.walk.proofs.Roots.{taken-kept, walk_kept}
-use Rattle.sight.specs.Paths.{Lowest, OnPath, PathTo, Reached, Ready, Stands, Walked, number_in, mirror_in, entry, descended, walk_from}
+use Rattle.sight.specs.Paths.{Lowest, OnPath, PathTo, Reached, Ready, Stands, Walked, number_in, mirror_in, entry, descended, walk_from, voxel_of}
 use Rattle.sight.proofs.Cells.{walk-one, walk_through}
 
 -- ---- one step
@@ -296,7 +302,6 @@ module _ {ws path : List ℕ} {low top : ℕ} {last v : Point} {k : ℕ} (r : Re
   pub next-on : OnPath ws path k
   next-on =
       record {
-        header = r.header;
         list = omega (arith, s.up_to, r.sought.listed);
         sized = r.sized;
         kept = (r.cells k s.from s.up_to).kept;
@@ -321,3 +326,13 @@ module _ {ws path : List ℕ} {low top : ℕ} {last v : Point} {k : ℕ} (r : Re
         sized = descended-sized K k v path;
         cells = λ i e. path-next K top (number_in path top) (mirror_in path top) last v low k path r.cells s.from s.up_to fits s.one i e;
       })
+
+-- ---- answers of damage
+
+pub err-ended : (r : Result End Unsound) → IsErr r → Damaged ≡ ended r
+err-ended (Err e) h = refl
+err-ended (Ok x) h = absurd (true≢false (sym h))
+
+pub err-voxel : (r : Result Voxel Unsound) → IsErr r → told 2 (0 ∷ 0 ∷ []) ≡ voxel_of r
+err-voxel (Err e) h = refl
+err-voxel (Ok x) h = absurd (true≢false (sym h))

@@ -24,7 +24,7 @@ use Rattle.laws.proofs.FirstFailing.{first-same, first-is, passes_none}
 use Rattle.laws.proofs.LineMeeting.{met-inside}
 use Rattle.laws.proofs.LineTested.{tested_met_lem}
 use Rattle.store_entry.specs.Entry.{past_entry}
-use Rattle.store_entry.specs.declared.Entry.TheVariants.{Refused}
+use Rattle.store_entry.specs.Entry.{Refused}
 use Rattle.store_entry.proofs.Asked.{refused_by}
 use Rattle.store_entry.proofs.Entries.{Entered, Says, past-outside, past-inside, past-settled}
 use Rattle.walk.specs.Walk.{end_told}

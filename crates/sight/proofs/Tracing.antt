@@ -15,12 +15,13 @@ use lib.ListN.{length, get_or, set, length-set}
 use lib.Seq.{get_or-set_same}
 use Rattle.paper.specs.Numbers.{bit_for}
 use Rattle.paper.specs.Rooms.{Point, point, Inside, OneCell, depth_ok, deepest}
-use Rattle.paper.specs.Store.{Cell, cells_at, tag_of, cell_no, heights, kept_count, kept_of, most_capacity}
+use Rattle.paper.specs.Store.{Cell, bad_pointer, cells_at, tag_of, cell_no, heights, kept_count, kept_of, most_capacity}
 use Rattle.paper.specs.Walk.{End, damaged, absent, in_leaf, Walk, is_damaged, solid_at, empty_height}
 use Rattle.paper.specs.Questions.{child_for, kept_reading, voxel_walk}
-use Rattle.paper.specs.Answers.{Told, told, number_of, seen}
-use Rattle.paper.specs.declared.Refusal.{Refusal}
-use Rattle.paper.specs.declared.Seen.{Seen}
+use Rattle.std.specs.Prelude.{Result, Ok, Err}
+use Rattle.paper.specs.Answers.{Told, told}
+use Rattle.paper.specs.declared.Damaged.{Damaged as Unsound}
+use Rattle.paper.specs.declared.Voxel.{Voxel}
 use Rattle.paper.specs.Lines.{distances, voxel_at, same_point, whole_of, first_failing}
 use Rattle.paper.specs.Sight.{blocked_at}
 use Rattle.laws.specs.Lines.{leave_of}
@@ -28,37 +29,31 @@ use Rattle.laws.proofs.CellVoxels.{voxel-absent}
 use Rattle.laws.proofs.Invariant.{named-kept}
 use Rattle.laws.proofs.Kept.{kept-length}
 use Rattle.laws.proofs.Matching.{tag-lt}
-use Rattle.laws.proofs.RefusalNumbers.{answer_of, refused-back}
 use Rattle.laws.proofs.StoreFacts.{depth-range}
 use Rattle.laws.proofs.WalkClaim.{root-low, walk-shared}
 use Rattle.laws.proofs.LineSteps.{OnLine, line-most, most-whole, leave-on, leave-further}
 use Rattle.laws.proofs.LineMeeting.{distances-inside, voxel-inside}
 use Rattle.laws.proofs.LineTested.{first}
 use Rattle.laws.proofs.LineSkipping.{rest_of, rest_end, rest-fails, rest-skips, tested-first}
-use Rattle.store.proofs.HeaderFacts.{header}
 use Rattle.store_entry.specs.Entry.{past_entry}
 use Rattle.walk.specs.Walk.{walk_to, end_of, end_told}
-use Rattle.walk.specs.declared.Ended.{Ended}
-use Rattle.walk.specs.declared.Ended.TheVariants.{Absent, At, Damaged}
+use Rattle.walk.specs.Walk.{Ended}
+use Rattle.walk.specs.Walk.{Absent, At, Damaged}
 use Rattle.walk.proofs.Steps.{walk-stop}
 use Rattle.walk.proofs.Roots.{voxel-root}
 use Rattle.walk.proofs.Voxels.{not_none}
 use Rattle.lines.specs.Cells.{cell_holding, last_of}
 use Rattle.lines.proofs.Cells.{last-from, cell-passes}
-use Rattle.sight.specs.Paths.{PathFrom, Reached, Ready, Stands, Walked, number_in, mirror_in, entry, walk_from}
-use Rattle.sight.specs.Tracing.{Line, empty_end, traced, damaged_at, traced_told}
+use Rattle.sight.specs.Paths.{PathFrom, Reached, Ready, Stands, Walked, number_in, mirror_in, entry, walk_from, voxel_of}
+use Rattle.sight.specs.Tracing.{empty_end, traced, damaged_at, traced_told}
 use Rattle.sight.proofs.Descents.{entry-number, absent-most}
 
 -- ---- what a voxel question on the way tells
 
-abbrev pub Means : Seen → End → Type 0
-Means (Seen.Refused r) e = is_damaged e ≡ true
-Means Seen.Solid e = (is_damaged e ≡ false) × (solid_at e ≡ true)
-Means (Seen.Empty h) e = (is_damaged e ≡ false) × (solid_at e ≡ false) × (empty_height e ≡ h)
-
--- no refusal has number 0
-refused-some : (r : Refusal) → number_of r ≡ 0 → ⊥
-refused-some r e = suc-ne-zero 0 (sym (refused-back 0 (λ x. 1) r) ∙ ap (answer_of 0 (λ x. 1)) e)
+abbrev pub Means : Result Voxel Unsound → End → Type 0
+Means (Err x) e = is_damaged e ≡ true
+Means (Ok Voxel.Solid) e = (is_damaged e ≡ false) × (solid_at e ≡ true)
+Means (Ok (Voxel.Empty h)) e = (is_damaged e ≡ false) × (solid_at e ≡ false) × (empty_height e ≡ h)
 
 abbrev flag : Told → ℕ
 flag t = get_or t.values 0 0
@@ -66,20 +61,20 @@ flag t = get_or t.values 0 0
 abbrev height : Told → ℕ
 height t = get_or t.values 1 0
 
-pub seen-means : (r : Seen) (e : End) → seen r ≡ end_told e → Means r e
-seen-means (Seen.Refused r) damaged q = refl
-seen-means (Seen.Refused r) (absent h) q = absurd (refused-some r (ap (λ (t : Told). t.number) q))
-seen-means (Seen.Refused r) (in_leaf n u) q = absurd (refused-some r (ap (λ (t : Told). t.number) q))
-seen-means Seen.Solid damaged q = absurd (suc-ne-zero 1 (sym (ap (λ (t : Told). t.number) q)))
-seen-means Seen.Solid (absent h) q = absurd (suc-ne-zero 0 (ap flag q))
-seen-means Seen.Solid (in_leaf n u) q = (refl, go (solid_at (in_leaf n u)) (ap flag q))
+pub seen-means : (r : Result Voxel Unsound) (e : End) → voxel_of r ≡ end_told e → Means r e
+seen-means (Err x) damaged q = refl
+seen-means (Err x) (absent h) q = absurd (suc-ne-zero 1 (ap (λ (t : Told). t.number) q))
+seen-means (Err x) (in_leaf n u) q = absurd (suc-ne-zero 1 (ap (λ (t : Told). t.number) q))
+seen-means (Ok Voxel.Solid) damaged q = absurd (suc-ne-zero 1 (sym (ap (λ (t : Told). t.number) q)))
+seen-means (Ok Voxel.Solid) (absent h) q = absurd (suc-ne-zero 0 (ap flag q))
+seen-means (Ok Voxel.Solid) (in_leaf n u) q = (refl, go (solid_at (in_leaf n u)) (ap flag q))
   where
     go : (b : Bool) → 1 ≡ bit_for b → b ≡ true
     go true f = refl
     go false f = absurd (suc-ne-zero 0 f)
-seen-means (Seen.Empty h) damaged q = absurd (suc-ne-zero 1 (sym (ap (λ (t : Told). t.number) q)))
-seen-means (Seen.Empty h) (absent g) q = (refl, refl, sym (ap height q))
-seen-means (Seen.Empty h) (in_leaf n u) q = (refl, go (solid_at (in_leaf n u)) (ap flag q), sym (ap height q))
+seen-means (Ok (Voxel.Empty h)) damaged q = absurd (suc-ne-zero 1 (sym (ap (λ (t : Told). t.number) q)))
+seen-means (Ok (Voxel.Empty h)) (absent g) q = (refl, refl, sym (ap height q))
+seen-means (Ok (Voxel.Empty h)) (in_leaf n u) q = (refl, go (solid_at (in_leaf n u)) (ap flag q), sym (ap height q))
   where
     go : (b : Bool) → 0 ≡ bit_for b → b ≡ false
     go true f = absurd (suc-ne-zero 0 (sym f))
@@ -101,6 +96,15 @@ low_end K k n m v = go (walk_to K 0 k n m v) refl
     go Damaged q = omega arith
 
 -- ---- a line through a scene
+
+-- between two voxels inside it, its root pointer being not none
+pub record Line (ws : List ℕ) (D p : ℕ) (a b : Point) : Type 0 where
+  pub deep : T (depth_ok D)
+  pub sound : bad_pointer (kept_count ws (D - 2)) p ≡ false
+  pub few : kept_count ws (D - 2) ≤ most_capacity
+  pub named : p ≡ 0 → ⊥
+  pub from_in : Inside (2 ^ D) a
+  pub to_in : Inside (2 ^ D) b
 
 module _ (K : List (List Cell)) (D p : ℕ) where
   -- how the walk to a voxel ends
@@ -139,13 +143,13 @@ module _ {ws : List ℕ} {D p : ℕ} {a b : Point} (line : Line ws D p a b) wher
   K = kept_of ws
 
   pub line-deep : (2 ≤ D) × (D ≤ deepest)
-  line-deep = depth-range D line.scene.deep
+  line-deep = depth-range D line.deep
 
   pub line-from : Inside (2 ^ deepest) a
-  line-from = inside-deepest D a line.scene.deep line.from_in
+  line-from = inside-deepest D a line.deep line.from_in
 
   pub line-to : Inside (2 ^ deepest) b
-  line-to = inside-deepest D b line.scene.deep line.to_in
+  line-to = inside-deepest D b line.deep line.to_in
 
   -- few steps on each axis, as code counts them
   pub line-few : (d : Point) → d ≡ distances a b → Inside (2 ^ deepest) d
@@ -156,10 +160,10 @@ module _ {ws : List ℕ} {D p : ℕ} {a b : Point} (line : Line ws D p a b) wher
   line-top = omega (arith, line-deep)
 
   root-there : cell_no p < kept_count ws (D - 2)
-  root-there = named-kept (kept_count ws (D - 2)) p line.scene.sound line.named
+  root-there = named-kept (kept_count ws (D - 2)) p line.sound line.named
 
   pub root-few : cell_no p < most_capacity
-  root-few = let h = header ws line.scene.header in omega (arith, root-there, h.counts (D - 2) line-top, h.most)
+  root-few = omega (arith, root-there, line.few)
 
   root_kept : cell_no p < length (cells_at (kept_of ws) (D - 2))
   root_kept = subst (λ (n : ℕ). cell_no p < n) (sym (kept-length ws (D - 2) line-top)) root-there
@@ -222,7 +226,6 @@ module _ {ws : List ℕ} {D p : ℕ} {a b s last : Point} {low : ℕ} {P : List 
       let e : D ≡ D - 2 + 2 = omega (arith, (line-deep t.line).0) in
       let up : (x : Point) → Inside (2 ^ D) x → Inside (2 ^ (D - 2 + 2)) x = λ x i. subst (λ (n : ℕ). Inside (2 ^ n) x) e i in
       record {
-        header = t.line.scene.header;
         sized = t.going.sized;
         cells = t.going.cells;
         sought = record { order = t.going.lows; listed = line-top t.line; first = up last t.going.within; second = up v turn_inside };
@@ -234,10 +237,10 @@ module _ {ws : List ℕ} {D p : ℕ} {a b s last : Point} {low : ℕ} {P : List 
       let K = kept_of ws in
       let en : number_in P top ≡ cell_no p = ap (λ (w : ℕ). w / 8) t.going.root ∙ digits_div (cell_no p) (tag-lt p) in
       let em : mirror_in P top ≡ tag_of p = ap (λ (w : ℕ). w % 8) t.going.root ∙ digits_mod (cell_no p) (tag-lt p) in
-      ap₂ (λ (n m : ℕ). end_of K v (walk_to K 0 top n m v)) en em ∙ voxel-root K D p v t.line.scene.deep turn_inside (not_none p t.line.named)
+      ap₂ (λ (n m : ℕ). end_of K v (walk_to K 0 top n m v)) en em ∙ voxel-root K D p v t.line.deep turn_inside (not_none p t.line.named)
 
   -- what the question tells of the voxel
-  pub turn-means : (r : Seen) → seen r ≡ end_told (end_of (kept_of ws) v (walk_from (kept_of ws) P (D - 2) v)) → Means r (end_at (kept_of ws) D p v)
+  pub turn-means : (r : Result Voxel Unsound) → voxel_of r ≡ end_told (end_of (kept_of ws) v (walk_from (kept_of ws) P (D - 2) v)) → Means r (end_at (kept_of ws) D p v)
   turn-means r e = seen-means r (end_at (kept_of ws) D p v) (e ∙ ap end_told turn_end)
 
   -- the voxel decides
@@ -248,24 +251,24 @@ module _ {ws : List ℕ} {D p : ℕ} {a b s last : Point} {low : ℕ} {P : List 
       ∙ ap (map (voxel_at a b)) (rest-fails passes (distances a b) s t.going.on t.short (ap (λ (x : Point). empty_end (end_at (kept_of ws) D p x)) (sym t.is) ∙ e))
       ∙ ap some (sym t.is)
 
-  pub turn-damaged : (r : Refusal) → Means (Seen.Refused r) (end_at (kept_of ws) D p v) → told 2 (0 ∷ 0 ∷ 0 ∷ 0 ∷ []) ≡ traced_told (kept_of ws) D p a b
+  pub turn-damaged : (r : Unsound) → Means (Err r) (end_at (kept_of ws) D p v) → told 2 (0 ∷ 0 ∷ 0 ∷ 0 ∷ []) ≡ traced_told (kept_of ws) D p a b
   turn-damaged r m =
       ap (λ (x : Bool). past_entry false x (blocked_at (some v))) (sym m)
       ∙ told-by (kept_of ws) D p a b (some v) (decided (ap (λ (x : Bool). not x && not (solid_at (end_at (kept_of ws) D p v))) m))
 
-  pub turn-blocked : Means Seen.Solid (end_at (kept_of ws) D p v) → told 0 (1 ∷ v.x ∷ v.y ∷ v.z ∷ []) ≡ traced_told (kept_of ws) D p a b
+  pub turn-blocked : Means (Ok Voxel.Solid) (end_at (kept_of ws) D p v) → told 0 (1 ∷ v.x ∷ v.y ∷ v.z ∷ []) ≡ traced_told (kept_of ws) D p a b
   turn-blocked m =
       ap (λ (x : Bool). past_entry false x (blocked_at (some v))) (sym m.0)
       ∙ told-by (kept_of ws) D p a b (some v) (decided (ap₂ (λ (x y : Bool). not x && not y) m.0 m.1))
 
   -- it is empty, and the cell shown is left
-  module _ (height : ℕ) (m : Means (Seen.Empty height) (end_at (kept_of ws) D p v)) where
+  module _ (height : ℕ) (m : Means (Ok (Voxel.Empty height)) (end_at (kept_of ws) D p v)) where
     -- every voxel of that cell has the same walk
     shared-empty : (w : Point) → cell_holding height w ≡ cell_holding height (voxel_at a b s) → empty_end (end_at (kept_of ws) D p w) ≡ true
     unfolding voxel_walk
     shared-empty w q =
         let K = kept_of ws in
-        let deep = t.line.scene.deep in
+        let deep = t.line.deep in
         let e : cell_holding height w ≡ cell_holding height v = q ∙ ap (cell_holding height) (sym t.is) in
         let one : OneCell height v w =
         record { one_x = sym (ap (λ (x : Point). x.x) e); one_y = sym (ap (λ (x : Point). x.y) e); one_z = sym (ap (λ (x : Point). x.z) e) } in

@@ -1,12 +1,13 @@
 -- The cells entered on the way to a voxel, as code keeps them: a word for each list, eight times the cell's number and the mirror under which it is
 -- seen. Definitions only.
-use Rattle.std.specs.Prelude.{◌≡◌, Bool, true, cond, not, ◌||◌, List, ℕ, zero, suc, ◌+◌, ◌*◌, ◌/◌, ◌%◌, ◌^◌, ◌<◌, ◌≤◌, T, eqb, length, get_or, set}
+use Rattle.std.specs.Prelude.{◌≡◌, Bool, true, cond, not, ◌||◌, List, ℕ, zero, suc, ◌+◌, ◌*◌, ◌/◌, ◌%◌, ◌^◌, ◌<◌, ◌≤◌, [], ◌∷◌, eqb, length, get_or, set, Result, Ok, Err}
 use Rattle.std.specs.Int.Bits.{bit_xor}
 use Rattle.paper.specs.Rooms.{Point, Inside, OneCell}
-use Rattle.paper.specs.Store.{Cell, cells_at, cell_at, tag_of, cell_no, any_bad, header_ok, heights, kept_of}
-use Rattle.walk.specs.Walk.{taken_from, walk_to}
-use Rattle.walk.specs.declared.Ended.{Ended}
-use Rattle.walk.specs.declared.Ended.TheVariants.{Absent, At, Damaged}
+use Rattle.paper.specs.Store.{Cell, cells_at, cell_at, tag_of, cell_no, any_bad, heights, kept_of}
+use Rattle.paper.specs.Answers.{Told, told, voxel_values}
+use Rattle.paper.specs.declared.Damaged.{Damaged as Unsound}
+use Rattle.paper.specs.declared.Voxel.{Voxel}
+use Rattle.walk.specs.Walk.{Ended, Absent, At, Damaged, taken_from, walk_to}
 
 -- ---- the lowest cell that holds two points
 
@@ -43,7 +44,6 @@ entry n m = n * 8 + m
 
 -- a path whose cell of list k is kept
 pub record OnPath (ws path : List ℕ) (k : ℕ) : Type 0 where
-  pub header : T (header_ok ws)
   pub list : k < heights
   pub sized : length path ≡ heights
   pub kept : number_in path k < length (cells_at (kept_of ws) k)
@@ -84,7 +84,6 @@ Reached Damaged i = ⊥
 
 -- a path to the voxel asked last, from list `low` up, by which the next may be asked
 pub record Ready (ws path : List ℕ) (low top : ℕ) (last v : Point) : Type 0 where
-  pub header : T (header_ok ws)
   pub sized : length path ≡ heights
   pub cells : PathFrom (kept_of ws) top last low path
   pub sought : Sought low top last v
@@ -94,3 +93,8 @@ pub record Walked (K : List (List Cell)) (path : List ℕ) (top : ℕ) (v : Poin
   pub root : get_or left top 0 ≡ get_or path top 0
   pub sized : length left ≡ length path
   pub cells : (i : ℕ) → Reached (walk_from K path top v) i → PathTo K top (number_in path top) (mirror_in path top) v i left
+
+-- a voxel asked, as a voxel question tells it
+abbrev pub voxel_of : Result Voxel Unsound → Told
+voxel_of (Ok v) = told 0 (voxel_values v)
+voxel_of (Err e) = told 2 (0 ∷ 0 ∷ [])

@@ -1,23 +1,17 @@
 -- A sight line by the walks to its voxels, past the tests of the scene. Definitions only.
-use Rattle.std.specs.Prelude.{◌≡◌, Bool, false, not, ◌&&◌, ◌||◌, List, ℕ, ◌^◌}
+use Rattle.std.specs.Prelude.{Bool, false, not, ◌&&◌, ◌||◌, List, [], ◌∷◌, ℕ, ◌^◌, Result, Ok, Err}
 use Rattle.std.proofs.Math.Option.{Option, some}
 use Rattle.std.proofs.Math.Option as O
-use Rattle.paper.specs.Rooms.{Point, Inside, inside}
+use Rattle.paper.specs.Rooms.{Point, inside}
 use Rattle.paper.specs.Store.{Cell}
 use Rattle.paper.specs.Walk.{End, is_damaged, solid_at}
 use Rattle.paper.specs.Questions.{voxel_walk}
 use Rattle.paper.specs.Lines.{tested, first_failing}
 use Rattle.paper.specs.Sight.{blocked_at}
-use Rattle.paper.specs.Answers.{Told}
+use Rattle.paper.specs.Answers.{Told, told, sight_values}
+use Rattle.paper.specs.declared.Damaged.{Damaged}
+use Rattle.paper.specs.declared.Sight.{Sight}
 use Rattle.store_entry.specs.Entry.{past_entry}
-use Rattle.walk.specs.Walk.{Scene}
-
--- a line between two voxels inside a scene whose root pointer is not none
-pub record Line (ws : List ℕ) (D p : ℕ) (a b : Point) : Type 0 where
-  pub scene : Scene ws D p
-  pub named : p ≡ 0 → ⊥
-  pub from_in : Inside (2 ^ D) a
-  pub to_in : Inside (2 ^ D) b
 
 -- a walk that ends in an empty voxel
 abbrev pub empty_end : End → Bool
@@ -39,3 +33,8 @@ traced_told K D p a b = past_entry false (damaged_at K D p (traced K D p a b)) (
 -- told past the tests of the scene
 abbrev pub sight_told : List (List Cell) → ℕ → ℕ → Point → Point → Told
 sight_told K D p a b = past_entry (not (inside (2 ^ D) a) || not (inside (2 ^ D) b)) (damaged_at K D p (traced K D p a b)) (blocked_at (traced K D p a b))
+
+-- a line traced, as the call tells it
+abbrev pub sight_of : Result Sight Damaged → Told
+sight_of (Ok s) = told 0 (sight_values s)
+sight_of (Err e) = told 2 (0 ∷ 0 ∷ 0 ∷ 0 ∷ [])

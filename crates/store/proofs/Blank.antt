@@ -1,48 +1,40 @@
--- Words that are all zero, one word after the other: a run of none is blank, and a run's first word decides or leaves the rest.
--- By what the list has from that word on. Assumes nothing.
+-- Words that are all zero, one after the other: a first word decides or leaves the rest, and of none nothing is left. By what the list has from a word
+-- on. Assumes nothing.
 use mathlib.Core.Path.{◌≡◌, refl, sym, ap, ◌∙◌}
-use mathlib.Core.Bool.{Bool, true, false, not, ◌&&◌, ◌||◌}
-use mathlib.Core.List.{List}
-use Prim.Native.Nat.{ℕ, suc, ◌+◌, ◌-◌, ◌≤◌, ◌<◌}
+use mathlib.Core.Bool.{Bool, true, false, not, ◌&&◌, ◌||◌, or-false}
+use mathlib.Core.List.{List, []}
+use Prim.Native.Nat.{ℕ, suc, ◌+◌, ◌≤◌, ◌<◌}
 use native.Mathlib.Numerals.{add-one}
-use native.Mathlib.Omega.{arith}
-use lib.ListN.{length, get_or}
+use lib.ListN.{length, drop, get_or}
 use lib.Seq.{drop-cons}
+use Rattle.std.proofs.lemmas.List.{drop_all}
 use lib.Dec.{eqb}
 use borrow.Author.Tests.{ne_eqb, eqb-true, eqb-false}
 use Rattle.paper.specs.Numbers.{all_in}
-use Rattle.paper.specs.Store.{blank}
 
-zero-first : (ws : List ℕ) (a n : ℕ) → a < length ws → get_or ws a 0 ≡ 0 → blank ws a (suc n) ≡ blank ws (suc a) n
-unfolding blank all_in
-zero-first ws a n h e = rw (drop-cons ws a 0 h, e)
+-- all words are zero
+abbrev pub all_zero : List ℕ → Bool
+all_zero l = all_in (eqb 0) l
 
-other-first : (ws : List ℕ) (a n : ℕ) → a < length ws → (get_or ws a 0 ≡ 0 → ⊥) → blank ws a (suc n) ≡ false
-unfolding blank all_in
-other-first ws a n h z = rw (drop-cons ws a 0 h, ne_eqb 0 (get_or ws a 0) (λ q. z (sym q)))
-
--- the words from i up to e, which lies in the list
-
-pub blank_none : (ws : List ℕ) (i e : ℕ) → e ≤ i → blank ws i (e - i) ≡ true
-unfolding blank all_in
-blank_none ws i e h = let z : e - i ≡ 0 = omega arith in rw z
-
-module _ (ws : List ℕ) (i e : ℕ) (l : i < e) (h : e ≤ length ws) where
-  one_more : e - i ≡ suc (e - (i + 1))
-  one_more = omega arith
-
-  first_word : blank ws i (e - i) ≡ (eqb (get_or ws i 0) 0 && blank ws (i + 1) (e - (i + 1)))
-  first_word = go (eqb (get_or ws i 0) 0) refl
+module _ (l : List ℕ) (i : ℕ) where
+  first_word : i < length l → all_zero (drop i l) ≡ (eqb (get_or l i 0) 0 && all_zero (drop (i + 1) l))
+  unfolding all_in
+  first_word h = go (eqb (get_or l i 0) 0) refl
     where
-      go : (b : Bool) → eqb (get_or ws i 0) 0 ≡ b → blank ws i (e - i) ≡ (b && blank ws (i + 1) (e - (i + 1)))
-      go true t = rw one_more (rw (add-one i) (zero-first ws i (e - suc i) (omega arith) (eqb-true (get_or ws i 0) 0 t)))
-      go false f = rw one_more (other-first ws i (e - (i + 1)) (omega arith) (eqb-false (get_or ws i 0) 0 f))
+      go : (b : Bool) → eqb (get_or l i 0) 0 ≡ b → all_zero (drop i l) ≡ (b && all_zero (drop (i + 1) l))
+      go true t = rw (drop-cons l i 0 h, add-one i, eqb-true (get_or l i 0) 0 t)
+      go false f = rw (drop-cons l i 0 h, ne_eqb 0 (get_or l i 0) (λ q. eqb-false (get_or l i 0) 0 f (sym q)))
 
   -- what was gathered before word i, with that word, and what the words from i on say
-  pub blank-gathered : (A : Bool) {B : Bool} → B ≡ (A || not (blank ws i (e - i))) → B ≡ (A || not (eqb (get_or ws i 0) 0) || not (blank ws (i + 1) (e - (i + 1))))
-  blank-gathered A {B} g = g ∙ ap (λ (b : Bool). A || not b) first_word ∙ regroup A (eqb (get_or ws i 0) 0) (blank ws (i + 1) (e - (i + 1)))
+  pub blank-gathered : i < length l → (A : Bool) {B : Bool} → B ≡ (A || not (all_zero (drop i l))) → B ≡ (A || not (eqb (get_or l i 0) 0) || not (all_zero (drop (i + 1) l)))
+  blank-gathered h A {B} g = g ∙ ap (λ (b : Bool). A || not b) (first_word h) ∙ regroup A (eqb (get_or l i 0) 0) (all_zero (drop (i + 1) l))
     where
       regroup : (x y z : Bool) → (x || not (y && z)) ≡ (x || not y || not z)
       regroup true y z = refl
       regroup false true z = refl
       regroup false false z = refl
+
+  -- all of them
+  pub blank-all : length l ≤ i → (A : Bool) {B : Bool} → B ≡ (A || not (all_zero (drop i l))) → B ≡ A
+  unfolding all_in
+  blank-all h A g = g ∙ ap (λ (r : List ℕ). A || not (all_zero r)) (drop_all i l h) ∙ or-false A

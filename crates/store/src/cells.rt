@@ -4,9 +4,9 @@ ghost use Rattle.std.specs.Prelude.{◌≡◌, ◌+◌, ◌≤◌, ◌<◌, T, l
 ghost use Rattle.paper.specs.Store.{most_capacity, heights, kept_count, cell_position, kept_of, cell_at, leaf_no, pair_no, count_of, header_ok};
 ghost use Rattle.laws.specs.Chains.{exchanged};
 
-use crate::header::{FIRST_LIST, capacity};
+use crate::header::FIRST_LIST;
+use crate::lent::Store;
 use leaf::leaf_solid;
-use numbers::wider;
 
 // The words that a store has for a leaf, and for any other cell.
 pub const LEAF_STRIDE: usize = 2;
@@ -42,30 +42,9 @@ fn pair(store: &[u32], at: usize) -> u64
     requires { at + 2 ≤ length store.now }
     ensures { result ≡ pair_no (drop at store.now) }
 {
-    let high = wider(store[at]);
-    let low = wider(store[at + 1]);
+    let high = u64::from(store[at]);
+    let low = u64::from(store[at + 1]);
     high * HIGH_WORD + low
-}
-
-// Leaf n: its two words as one number.
-pub fn leaf_at(store: &[u32], n: u32) -> u64
-    requires t { T (header_ok store.now) }
-    requires n_bound { n < kept_count store.now 0 }
-    ensures { result ≡ leaf_no (cell_at (kept_of store.now) 0 n) }
-{
-    pair(store, cell_position(capacity(store), 0, n))
-}
-
-// Leaf n as its two words stand, read with the first one low: one load where memory is so ordered. For comparing.
-pub fn leaf_exchanged_at(store: &[u32], n: u32) -> u64
-    requires t { T (header_ok store.now) }
-    requires n_bound { n < kept_count store.now 0 }
-    ensures { result ≡ exchanged (leaf_no (cell_at (kept_of store.now) 0 n)) }
-{
-    let at = cell_position(capacity(store), 0, n);
-    let first = wider(store[at]);
-    let second = wider(store[at + 1]);
-    second * HIGH_WORD + first
 }
 
 // Eight words from `at` on, as one value.
@@ -85,25 +64,44 @@ fn eight(store: &[u32], at: usize) -> [u32; 8]
     ]
 }
 
-// Cell n of list k, k not 0: its eight pointers.
-pub fn cell_at(store: &[u32], k: u32, n: u32) -> [u32; 8]
-    requires t { T (header_ok store.now) }
-    requires le_k { (1 ≤ k) × (k < heights) }
-    requires n_bound { n < kept_count store.now k }
-    ensures { result ≡ cell_at (kept_of store.now) k n }
-{
-    eight(store, cell_position(capacity(store), k, n))
-}
-
-// How many solid voxels cell n of list k has, as the words say: of a leaf by its bits, of any other by its count.
-pub fn count_at(store: &[u32], k: u32, n: u32) -> u64
-    requires t { T (header_ok store.now) }
-    requires k_lt_heights { k < heights }
-    requires n_bound { n < kept_count store.now k }
-    ensures { result ≡ count_of store.now k n }
-{
-    if k == 0 {
-        return leaf_solid(leaf_at(store, n));
+impl<'a> Store<'a> {
+    // Leaf n: its two words as one number.
+    pub fn leaf_at(self, n: u32) -> u64
+        requires n_bound { n < kept_count self.words.now 0 }
+        ensures { result ≡ leaf_no (cell_at (kept_of self.entry.words.now) 0 n) }
+    {
+        pair(self.words, cell_position(self.capacity(), 0, n))
     }
-    pair(store, cell_position(capacity(store), k, n) + POINTERS)
+
+    // Leaf n as its two words stand, read with the first one low: one load where memory is so ordered. For comparing.
+    pub fn leaf_exchanged_at(self, n: u32) -> u64
+        requires n_bound { n < kept_count self.words.now 0 }
+        ensures { result ≡ exchanged (leaf_no (cell_at (kept_of self.entry.words.now) 0 n)) }
+    {
+        let at = cell_position(self.capacity(), 0, n);
+        let first = u64::from(self.words[at]);
+        let second = u64::from(self.words[at + 1]);
+        second * HIGH_WORD + first
+    }
+
+    // Cell n of list k, k not 0: its eight pointers.
+    pub fn cell_at(self, k: u32, n: u32) -> [u32; 8]
+        requires inner { (1 ≤ k) × (k < heights) }
+        requires n_bound { n < kept_count self.words.now k }
+        ensures { result ≡ cell_at (kept_of self.entry.words.now) k n }
+    {
+        eight(self.words, cell_position(self.capacity(), k, n))
+    }
+
+    // How many solid voxels cell n of list k has, as the words say: of a leaf by its bits, of any other by its count.
+    pub fn count_at(self, k: u32, n: u32) -> u64
+        requires k_lt_heights { k < heights }
+        requires n_bound { n < kept_count self.words.now k }
+        ensures { result ≡ count_of self.entry.words.now k n }
+    {
+        if k == 0 {
+            return leaf_solid(self.leaf_at(n));
+        }
+        pair(self.words, cell_position(self.capacity(), k, n) + POINTERS)
+    }
 }

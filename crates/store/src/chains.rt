@@ -2,8 +2,8 @@
 ghost use Rattle.std.specs.Prelude.{◌≡◌, ◌≤◌, ◌<◌, T, get_or};
 ghost use Rattle.paper.specs.Store.{most_capacity, heights, chains, capacity_of, head_position, next_position, chain_of, kept_count, kept_of, cell_at, header_ok};
 
-use crate::cells::{cell_at, leaf_at};
-use crate::header::{CHAINS, FIRST_LIST, HEIGHTS, LISTS_PER_UNIT, capacity};
+use crate::header::{CHAINS, FIRST_LIST, HEIGHTS, LISTS_PER_UNIT};
+use crate::lent::Store;
 use leaf::leaf_solid;
 use store_pointers::cell_chain;
 
@@ -25,33 +25,32 @@ pub fn next_position(c: u32, k: u32, n: u32) -> usize
     head_position(c, HEIGHTS, 0) + (c as usize) * (k as usize) + (n as usize)
 }
 
-// The head of chain j of list k.
-pub fn head_at(store: &[u32], k: u32, j: u32) -> u32
-    requires t { T (header_ok store.now) }
-    requires k_lt_heights { (k < heights) × (j < chains) }
-    ensures { result ≡ get_or store.now (head_position (capacity_of store.now) k j) 0 }
-{
-    store[head_position(capacity(store), k, j)]
-}
-
-// What follows cell n of list k in its chain.
-pub fn next_at(store: &[u32], k: u32, n: u32) -> u32
-    requires t { T (header_ok store.now) }
-    requires k_lt_heights { (k < heights) × (n < capacity_of store.now) }
-    ensures { result ≡ get_or store.now (next_position (capacity_of store.now) k n) 0 }
-{
-    store[next_position(capacity(store), k, n)]
-}
-
-// The chain of kept cell n of list k.
-pub fn chain_at(store: &[u32], k: u32, n: u32) -> u32
-    requires t { T (header_ok store.now) }
-    requires k_lt_heights { k < heights }
-    requires n_bound { n < kept_count store.now k }
-    ensures { result ≡ chain_of k (cell_at (kept_of store.now) k n) }
-{
-    if k == 0 {
-        return leaf_solid(leaf_at(store, n)) as u32;
+impl<'a> Store<'a> {
+    // The head of chain j of list k.
+    pub fn head_at(self, k: u32, j: u32) -> u32
+        requires k_lt_heights { (k < heights) × (j < chains) }
+        ensures { result ≡ get_or self.entry.words.now (head_position (capacity_of self.entry.words.now) k j) 0 }
+    {
+        self.words[head_position(self.capacity(), k, j)]
     }
-    cell_chain(cell_at(store, k, n))
+
+    // What follows cell n of list k in its chain.
+    pub fn next_at(self, k: u32, n: u32) -> u32
+        requires k_lt_heights { (k < heights) × (n < capacity_of self.words.now) }
+        ensures { result ≡ get_or self.entry.words.now (next_position (capacity_of self.entry.words.now) k n) 0 }
+    {
+        self.words[next_position(self.capacity(), k, n)]
+    }
+
+    // The chain of kept cell n of list k.
+    pub fn chain_at(self, k: u32, n: u32) -> u32
+        requires k_lt_heights { k < heights }
+        requires n_bound { n < kept_count self.words.now k }
+        ensures { result ≡ chain_of k (cell_at (kept_of self.entry.words.now) k n) }
+    {
+        if k == 0 {
+            return leaf_solid(self.leaf_at(n)) as u32;
+        }
+        cell_chain(self.cell_at(k, n))
+    }
 }

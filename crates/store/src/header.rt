@@ -3,6 +3,8 @@ ghost use Rattle.std.specs.Prelude.{◌≡◌, not, ◌&&◌, ◌+◌, ◌≤◌
 ghost use Rattle.paper.specs.Numbers.{all_below};
 ghost use Rattle.paper.specs.Store.{most_capacity, most_scenes, heights, used, capacity_of, scenes_held, is_held, kept_count, scene_position, blank, capacity_ok, header_ok};
 
+use crate::lent::Store;
+
 // A capacity is 1 to 65,536.
 const LEAST_CAPACITY: u32 = 1;
 
@@ -57,82 +59,45 @@ pub fn size_bad(capacity: u32, words: usize) -> bool
 }
 
 // Whether a list's count is above the capacity. Here and below no early exit: so it compiles to vector instructions.
-fn counts_bad(store: &[u32]) -> bool
-    requires { scene_position most_scenes ≤ length store.now }
-    ensures { result ≡ not (all_below heights (λ k. leb (kept_count store.now k) (capacity_of store.now))) }
+fn counts_bad(words: &[u32]) -> bool
+    requires { scene_position most_scenes ≤ length words.now }
+    ensures { result ≡ not (all_below heights (λ k. leb (kept_count words.now k) (capacity_of words.now))) }
 {
     let mut bad = false;
-    let mut k = 0u32;
-    while k < HEIGHTS {
-        bad = bad | (store[0] < store[(FIRST_COUNT + k) as usize]);
-        k += 1;
+    for k in 0..HEIGHTS {
+        bad |= words[0] < words[(FIRST_COUNT + k) as usize];
     }
     bad
 }
 
 // Whether one of n words from `at` on is not zero.
-pub fn not_blank(store: &[u32], at: usize, n: usize) -> bool
-    requires { at + n ≤ length store.now }
-    ensures { result ≡ not (blank store.now at n) }
+pub fn not_blank(words: &[u32], at: usize, n: usize) -> bool
+    requires { at + n ≤ length words.now }
+    ensures { result ≡ not (blank words.now at n) }
 {
-    let end = at + n;
     let mut bad = false;
-    let mut i = at;
-    while i < end {
-        bad = bad | (store[i] != 0);
-        i += 1;
+    for word in &words[at..at + n] {
+        bad |= *word != 0;
     }
     bad
 }
 
 // Whether the header is damaged: words 0 to 31 out of range, or the slice too short.
-pub fn header_bad(store: &[u32]) -> bool
-    ensures { result ≡ not (header_ok store.now) }
+#[inline(never)]
+pub fn header_bad(words: &[u32]) -> bool
+    ensures { result ≡ not (header_ok words.now) }
 {
-    if store.len() < FIRST_LIST {
+    if words.len() < FIRST_LIST {
         return true;
     }
-    if size_bad(store[0], store.len()) {
+    if size_bad(words[0], words.len()) {
         return true;
     }
-    if MOST_SCENES < store[1] {
+    if MOST_SCENES < words[1] {
         return true;
     }
-    if counts_bad(store) {
+    if counts_bad(words) {
         return true;
     }
-    not_blank(store, ZEROS, ZERO_WORDS)
-}
-
-// The capacity.
-pub fn capacity(store: &[u32]) -> u32
-    requires { T (header_ok store.now) }
-    ensures { result ≡ capacity_of store.now }
-{
-    store[0]
-}
-
-// How many scenes are held.
-pub fn scenes_held(store: &[u32]) -> u32
-    requires { T (header_ok store.now) }
-    ensures { result ≡ scenes_held store.now }
-{
-    store[1]
-}
-
-// Whether no scene is held under number n.
-pub fn not_held(store: &[u32], n: u32) -> bool
-    requires { T (header_ok store.now) }
-    ensures { result ≡ not (is_held store.now n) }
-{
-    store[1] <= n
-}
-
-// How many cells list k keeps.
-pub fn kept_count(store: &[u32], k: u32) -> u32
-    requires t { T (header_ok store.now) }
-    requires k_lt_heights { k < heights }
-    ensures { result ≡ kept_count store.now k }
-{
-    store[(FIRST_COUNT + k) as usize]
+    not_blank(words, ZEROS, ZERO_WORDS)
 }

@@ -1,9 +1,11 @@
 // The words of the scenes: two for each, its depth and its root pointer.
-ghost use Rattle.std.specs.Prelude.{◌≡◌, not, ◌≤◌, ◌<◌, T};
-ghost use Rattle.paper.specs.Store.{most_scenes, scene_position, scene_depth, scene_root, header_ok, scene_ok};
+ghost use Rattle.std.specs.Prelude.{◌≡◌, false, not, ◌-◌, ◌≤◌, ◌<◌, T, is_ok, IsTrue, IfOk};
+ghost use Rattle.paper.specs.Rooms.{deepest, depth_ok};
+ghost use Rattle.paper.specs.Store.{most_scenes, kept_count, bad_pointer, scene_position, scene_depth, scene_root, header_ok, scene_ok};
 
-use crate::header::kept_count;
+use crate::lent::Store;
 use limits::LEAF_HEIGHT;
+use paper::Damaged;
 use points::depth_bad;
 use store_pointers::bad_pointer;
 
@@ -20,33 +22,55 @@ pub fn scene_position(n: u32) -> usize
     FIRST_SCENE + SCENE_WORDS * (n as usize)
 }
 
-// The depth of scene n.
-pub fn scene_depth(store: &[u32], n: u32) -> u32
-    requires t { T (header_ok store.now) }
-    requires n_lt_most_scenes { n < most_scenes }
-    ensures { result ≡ scene_depth store.now n }
-{
-    store[scene_position(n)]
+// A scene whose two words are in order, ready to be asked: its depth is 2 to 16, and its root pointer, in the list of that depth, isn't bad.
+#[derive(Clone, Copy)]
+pub struct Scene<'a> {
+    pub store: Store<'a>,
+    pub depth: u32,
+    pub root: u32,
+    pub ghost deep: { IsTrue (depth_ok depth) },
+    pub ghost low: { 2 ≤ depth },
+    pub ghost high: { depth ≤ deepest },
+    pub ghost sound: { bad_pointer (kept_count store.words.now (depth - 2)) root ≡ false },
 }
 
-// The root pointer of scene n.
-pub fn scene_root(store: &[u32], n: u32) -> u32
-    requires t { T (header_ok store.now) }
-    requires n_lt_most_scenes { n < most_scenes }
-    ensures { result ≡ scene_root store.now n }
-{
-    store[scene_position(n) + 1]
-}
-
-// Whether scene n is damaged: its depth not 2 to 16, or its root pointer bad.
-pub fn scene_bad(store: &[u32], n: u32) -> bool
-    requires t { T (header_ok store.now) }
-    requires n_lt_most_scenes { n < most_scenes }
-    ensures { result ≡ not (scene_ok store.now n) }
-{
-    let depth = scene_depth(store, n);
-    if depth_bad(depth) {
-        return true;
+impl<'a> Store<'a> {
+    // The depth of scene n.
+    pub fn scene_depth(self, n: u32) -> u32
+        requires n_lt_most_scenes { n < most_scenes }
+        ensures { result ≡ scene_depth self.entry.words.now n }
+    {
+        self.words[scene_position(n)]
     }
-    bad_pointer(kept_count(store, depth - LEAF_HEIGHT), scene_root(store, n))
+
+    // The root pointer of scene n.
+    pub fn scene_root(self, n: u32) -> u32
+        requires n_lt_most_scenes { n < most_scenes }
+        ensures { result ≡ scene_root self.entry.words.now n }
+    {
+        self.words[scene_position(n) + 1]
+    }
+
+    // Scene n, where its two words are in order.
+    pub fn scene(self, n: u32) -> Result<Scene<'a>, Damaged>
+        requires n_lt_most_scenes { n < most_scenes }
+        ensures same_words { IfOk result (λ scene. scene.store.words.now ≡ self.entry.words.now) }
+        ensures its_depth { IfOk result (λ scene. scene.depth ≡ scene_depth self.entry.words.now n) }
+        ensures its_root { IfOk result (λ scene. scene.root ≡ scene_root self.entry.words.now n) }
+        ensures opened { is_ok result ≡ scene_ok self.entry.words.now n }
+    {
+        let depth = self.scene_depth(n);
+        if depth_bad(depth) {
+            return Err(Damaged);
+        }
+        let root = self.scene_root(n);
+        if bad_pointer(self.kept_count(depth - LEAF_HEIGHT), root) {
+            return Err(Damaged);
+        }
+        Ok(Scene {
+            store: self,
+            depth,
+            root,
+        })
+    }
 }

@@ -13,8 +13,7 @@ use Rattle.paper.specs.Answers.{Outcome, outcome, started, kept, number_of}
 use Rattle.paper.specs.Order.{when, first_number, settled}
 use Rattle.paper.specs.Calls.{bad_size, cleared, new_words, new_outcome, kept_outcome}
 use Rattle.paper.specs.declared.Refusal.TheVariants.{BadSize, DamagedStore, Outside}
-use Rattle.paper.specs.declared.Started.TheVariants.{Ready, Refused}
-use Rattle.paper.specs.declared.Kept.TheVariants.{Cells, Refused as Kept-refused}
+use Rattle.std.specs.Prelude.{Ok, Err}
 
 -- ---- new store
 
@@ -35,13 +34,13 @@ module _ (C : ℕ) (ws : List ℕ) where
   unfolding new_outcome bad_size
   new-whole = refl
 
-  pub new-refused : fits ≡ false → outcome (started (Refused BadSize)) (ws ∷ []) ≡ new_outcome C ws
+  pub new-refused : fits ≡ false → outcome (started (Err BadSize)) (ws ∷ []) ≡ new_outcome C ws
   unfolding first_number settled
   new-refused e = sym (new-whole ∙ ap by_fits e)
 
-  pub new-made : fits ≡ true → (l : List ℕ) → l ≡ cleared (used C) ws → outcome (started Ready) (set l 0 C ∷ []) ≡ new_outcome C ws
+  pub new-made : fits ≡ true → (l : List ℕ) → l ≡ cleared (used C) ws → outcome (started (Ok tt)) (set l 0 C ∷ []) ≡ new_outcome C ws
   unfolding first_number settled new_words
-  new-made e l p = ap (λ (m : List ℕ). outcome (started Ready) (set m 0 C ∷ [])) p ∙ sym (new-whole ∙ ap by_fits e)
+  new-made e l p = ap (λ (m : List ℕ). outcome (started (Ok tt)) (set m 0 C ∷ [])) p ∙ sym (new-whole ∙ ap by_fits e)
 
 -- ---- kept
 
@@ -53,14 +52,14 @@ module _ (ws : List ℕ) (h : ℕ) where
   unfolding kept_outcome
   kept_whole = refl
 
-  pub kept-damaged : header_ok ws ≡ false → outcome (kept (Kept-refused DamagedStore)) [] ≡ kept_outcome ws h
+  pub kept-damaged : header_ok ws ≡ false → outcome (kept (Err DamagedStore)) [] ≡ kept_outcome ws h
   unfolding first_number settled
   kept-damaged e = sym (kept_whole ∙ ap (λ (p : Bool). by_tests p (depth_ok h)) e)
 
-  pub kept-outside : header_ok ws ≡ true → depth_ok h ≡ false → outcome (kept (Kept-refused Outside)) [] ≡ kept_outcome ws h
+  pub kept-outside : header_ok ws ≡ true → depth_ok h ≡ false → outcome (kept (Err Outside)) [] ≡ kept_outcome ws h
   unfolding first_number settled
   kept-outside e f = sym (kept_whole ∙ ap₂ by_tests e f)
 
-  pub kept-answered : header_ok ws ≡ true → depth_ok h ≡ true → outcome (kept (Cells (kept_count ws (h - 2)))) [] ≡ kept_outcome ws h
+  pub kept-answered : header_ok ws ≡ true → depth_ok h ≡ true → outcome (kept (Ok (kept_count ws (h - 2)))) [] ≡ kept_outcome ws h
   unfolding first_number settled
   kept-answered e f = sym (kept_whole ∙ ap₂ by_tests e f)

@@ -6,31 +6,29 @@ ghost use Rattle.paper.specs.Answers.{outcome, started, kept as kept-told};
 ghost use Rattle.paper.specs.Calls.{new_outcome, kept_outcome};
 
 use limits::LEAF_HEIGHT;
-use paper::{Kept, Refusal, Started};
+use paper::Refusal;
 use points::depth_bad;
-use store::{clear, header_bad, kept_count, size_bad, used_words};
+use store::{Store, clear, size_bad, used_words};
 
 // New store: the words of this capacity zeroed, then word 0 set; refused by 1.
-pub fn new_store(store: &mut [u32], capacity: u32) -> Started
-    ensures { outcome (started result) (store.new ∷ []) ≡ new_outcome capacity store.old }
+pub fn new_store(words: &mut [u32], capacity: u32) -> Result<(), Refusal>
+    ensures { outcome (started result) (words.new ∷ []) ≡ new_outcome capacity words.old }
 {
-    if size_bad(capacity, store.len()) {
-        return Started::Refused(Refusal::BadSize);
+    if size_bad(capacity, words.len()) {
+        return Err(Refusal::BadSize);
     }
-    clear(store, used_words(capacity));
-    store[0] = capacity;
-    Started::Ready
+    clear(words, used_words(capacity));
+    words[0] = capacity;
+    Ok(())
 }
 
 // Kept: the cells kept at a height; refused by 2 (header), then 10.
-pub fn kept(store: &[u32], height: u32) -> Kept
-    ensures { outcome (kept-told result) [] ≡ kept_outcome store.now height }
+pub fn kept(words: &[u32], height: u32) -> Result<u32, Refusal>
+    ensures { outcome (kept-told result) [] ≡ kept_outcome words.now height }
 {
-    if header_bad(store) {
-        return Kept::Refused(Refusal::DamagedStore);
-    }
+    let store = Store::open(words)?;
     if depth_bad(height) {
-        return Kept::Refused(Refusal::Outside);
+        return Err(Refusal::Outside);
     }
-    Kept::Cells(kept_count(store, height - LEAF_HEIGHT))
+    Ok(store.kept_count(height - LEAF_HEIGHT))
 }

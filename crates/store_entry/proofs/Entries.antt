@@ -13,8 +13,8 @@ use Rattle.paper.specs.declared.Refusal.TheVariants.{DamagedStore, NoScene}
 use Rattle.laws.proofs.Tests.{true-T, T_true, not-false, and_left, and_right}
 use Rattle.laws.proofs.Undamaged.{held-there, there-held}
 use Rattle.store_entry.specs.Entry.{entry_of, past_entry}
-use Rattle.store_entry.specs.declared.Entry.{Entry}
-use Rattle.store_entry.specs.declared.Entry.TheVariants.{Root, Refused}
+use Rattle.store_entry.specs.Entry.{Entry}
+use Rattle.store_entry.specs.Entry.{Root, Refused}
 use Rattle.store_entry.proofs.Asked.{asked, refused_by}
 use Rattle.store_entry.proofs.Settled.{by-header, by-scene, by-words, by_out, by-walk}
 

@@ -2,3 +2,4 @@
 pub mod Asked
 pub mod Settled
 pub mod Entries
+pub mod Entering

@@ -4,8 +4,12 @@ use Rattle.paper.specs.Store.{header_ok, scene_ok, scene_depth, scene_root}
 use Rattle.paper.specs.Answers.{Told, told}
 use Rattle.paper.specs.Calls.{no_scene}
 use Rattle.paper.specs.declared.Refusal.TheVariants.{DamagedStore, NoScene}
-use Rattle.store_entry.specs.declared.Entry.{Entry}
-use Rattle.store_entry.specs.declared.Entry.TheVariants.{Root, Refused}
+use Rattle.paper.specs.declared.Refusal.{Refusal}
+
+-- a scene that can be asked, by its depth and root pointer; or the refusal
+pub data Entry : Type 0 where
+  Root : ℕ → ℕ → Entry
+  Refused : Refusal → Entry
 
 -- 2 (header), 9, 2 (the scene's two words), or the scene's depth and root pointer
 unfoldable pub entry_of : List ℕ → ℕ → Entry

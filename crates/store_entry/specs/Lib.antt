@@ -1,2 +1,4 @@
 -- a scene entered
 pub mod Entry
+-- what entering answers
+pub mod Entering

@@ -1,31 +1,21 @@
 #![tactic(auto)]
 
 // What every question on a scene tests first: the header (2), the scene's number (9), the scene's two words (2).
-ghost use Rattle.std.specs.Prelude.{◌≡◌};
+ghost use Rattle.std.specs.Prelude.{◌≡◌, IfOk};
 ghost use Rattle.store_entry.specs.Entry.{entry_of};
+ghost use Rattle.store_entry.specs.Entering.{entered};
 
 use paper::Refusal;
-use store::{header_bad, not_held, scene_bad, scene_depth, scene_root};
+use store::{Scene, Store};
 
-// A scene that can be asked, by its depth and root pointer; or the refusal.
-#[derive(Clone, Copy)]
-pub enum Entry {
-    Root(u32, u32),
-    Refused(Refusal),
-}
-
-// The depth and root pointer of a scene, or its refusal: 2 (header), 9, 2 (the scene's two words), in this order.
-pub fn enter(store: &[u32], scene: u32) -> Entry
-    ensures { result ≡ entry_of store.now scene }
+// Scene n of these words; or its refusal: 2 (header), 9, 2 (the scene's two words), in this order.
+pub fn enter(words: &[u32], n: u32) -> Result<Scene<'_>, Refusal>
+    ensures same_words { IfOk result (λ scene. scene.store.words.now ≡ words.now) }
+    ensures entry { entered result ≡ entry_of words.now n }
 {
-    if header_bad(store) {
-        return Entry::Refused(Refusal::DamagedStore);
+    let store = Store::open(words)?;
+    if !store.holds(n) {
+        return Err(Refusal::NoScene);
     }
-    if not_held(store, scene) {
-        return Entry::Refused(Refusal::NoScene);
-    }
-    if scene_bad(store, scene) {
-        return Entry::Refused(Refusal::DamagedStore);
-    }
-    Entry::Root(scene_depth(store, scene), scene_root(store, scene))
+    Ok(store.scene(n)?)
 }

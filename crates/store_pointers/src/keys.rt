@@ -3,8 +3,6 @@ ghost use Rattle.std.specs.Prelude.{◌≡◌, ◌*◌, ◌/◌, ◌%◌, ◌^�
 ghost use Rattle.paper.specs.Store.{key_factor, key_of};
 
 use crate::pointers::TAG_STEP;
-use numbers::wider;
-use std::num::wrapping_add_u32;
 
 // How many times a number counts, and the modulus.
 const FACTOR: u64 = 2654435761;
@@ -18,7 +16,7 @@ const TOP_BYTE: u32 = 16777216;
 fn wrapping_times(n: u32) -> u32
     ensures { result ≡ n * key_factor % 2 ^ 32 }
 {
-    (wider(n) * FACTOR % MODULUS) as u32
+    (u64::from(n) * FACTOR % MODULUS) as u32
 }
 
 // The key of a cell.
@@ -26,10 +24,8 @@ pub fn cell_key(cell: [u32; 8]) -> u32
     ensures { result ≡ key_of cell }
 {
     let mut key = 0u32;
-    let mut i = 0usize;
-    while i < 8 {
-        key = wrapping_add_u32(key, wrapping_times(cell[i] % TAG_STEP));
-        i += 1;
+    for p in cell {
+        key = key.wrapping_add(wrapping_times(p % TAG_STEP));
     }
     key
 }

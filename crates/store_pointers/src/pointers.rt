@@ -6,9 +6,6 @@ ghost use Rattle.paper.specs.Store.{tag_of, low_of, cell_no, pointer as pointer-
 // The lowest bit of the mirror: 2^29.
 pub const TAG_STEP: u32 = 536870912;
 
-// A cell's children.
-const CHILDREN: usize = 8;
-
 // The mirror of a pointer.
 pub fn tag(p: u32) -> u32
     ensures { result ≡ tag_of p }
@@ -20,8 +17,7 @@ pub fn tag(p: u32) -> u32
 pub fn cell_number(p: u32) -> u32
     ensures { result ≡ cell_no p }
 {
-    let low = p % TAG_STEP;
-    if low == 0 { 0 } else { low - 1 }
+    (p % TAG_STEP).saturating_sub(1)
 }
 
 // Whether two pointers name cells of different numbers, or just one of them names none: then they don't match, whatever the mirror.
@@ -60,10 +56,8 @@ pub fn any_bad(count: u32, cell: [u32; 8]) -> bool
     ensures { result ≡ any_bad count cell }
 {
     let mut bad = false;
-    let mut i = 0usize;
-    while i < CHILDREN {
-        bad = bad | bad_pointer(count, cell[i]);
-        i += 1;
+    for p in cell {
+        bad |= bad_pointer(count, p);
     }
     bad
 }
@@ -72,22 +66,12 @@ pub fn any_bad(count: u32, cell: [u32; 8]) -> bool
 pub fn all_absent(cell: [u32; 8]) -> bool
     ensures { result ≡ all_below 8 (λ i. nat_eq (slice_index cell i) 0) }
 {
-    let mut i = CHILDREN;
-    while i != 0 {
-        i -= 1;
-        if cell[i] != 0 {
-            return false;
-        }
-    }
-    true
+    cell.iter().all(|p| *p == 0)
 }
 
 // Whether a cell is empty or has a bad pointer.
 pub fn cell_bad(count: u32, cell: [u32; 8]) -> bool
     ensures { result ≡ not (cell_usable count cell) }
 {
-    if all_absent(cell) {
-        return true;
-    }
-    any_bad(count, cell)
+    all_absent(cell) || any_bad(count, cell)
 }

@@ -1,7 +1,7 @@
 -- The chains of a list taken together, as the code adds up their lengths: they are right exactly where the sum is that of all cells kept and nothing follows
 -- a number that isn't kept. And the store's chains are right where those of every list are. By the bound of each length. Assumes nothing.
 use mathlib.Core.Path.{◌≡◌, refl, sym, ap, subst, ◌∙◌}
-use mathlib.Core.Bool.{Bool, true, false, not, true≢false}
+use mathlib.Core.Bool.{Bool, true, false, true≢false}
 use mathlib.Core.List.{List}
 use mathlib.Core.Logic.{◌⊎◌, inl, inr}
 use Prim.Native.Nat.{ℕ, zero, suc, ◌+◌, ◌-◌, ◌≤◌, ◌<◌, zero-le}
@@ -20,9 +20,7 @@ use Rattle.laws.proofs.Sums.{sum-next}
 use Rattle.laws.proofs.Kept.{kept-length}
 use Rattle.laws.proofs.ChainWords.{list_right, lists-right}
 use Rattle.laws.proofs.ChainCounts.{counts_all}
-use Rattle.laws.proofs.CodeTests.{passed-T}
 use Rattle.store_whole.specs.Following.{Followed}
-use Rattle.store_whole.proofs.Links.{count_most}
 
 -- ---- words that are zero, each by its place
 
@@ -71,9 +69,9 @@ module _ (ws : List ℕ) (k : ℕ) where
   together-none = record { most = zero-le; back = λ q i h. absurd (omega arith); fore = λ r. refl }
 
   -- one chain more
-  pub together-more : {j all : ℕ} (r : ℕ) → Together j all → Followed ws k j r → r ≤ kept_count ws k → Together (j + 1) (all + r)
-  together-more {j} {all} r t f h = record {
-    most = omega (arith, one, t.most, f.most h);
+  pub together-more : {j all : ℕ} (r : ℕ) → Together j all → Followed ws k j r → Together (j + 1) (all + r)
+  together-more {j} {all} r t f = record {
+    most = omega (arith, one, t.most, f.most);
     back = λ q i b. go q i b;
     fore = λ c. omega (arith, one, t.fore (λ i b. c i (omega arith)), f.right (c j (omega arith)));
   }
@@ -85,8 +83,8 @@ module _ (ws : List ℕ) (k : ℕ) where
       go q i b = by (eq-or-lt_of_le (omega arith))
         where
           by : (i ≡ j) ⊎ (i < j) → ChainRight ws k i
-          by (inl e) = subst (ChainRight ws k) (sym e) (f.all (omega (arith, one, q, t.most, f.most h)))
-          by (inr l) = t.back (omega (arith, one, q, t.most, f.most h)) i l
+          by (inl e) = subst (ChainRight ws k) (sym e) (f.all (omega (arith, one, q, t.most, f.most)))
+          by (inr l) = t.back (omega (arith, one, q, t.most, f.most)) i l
 
   module _ (listed : k < heights) where
     -- together as many as are kept
@@ -96,23 +94,17 @@ module _ (ws : List ℕ) (k : ℕ) where
     pub together-most : {j all : ℕ} → Together j all → j ≤ chains → all ≤ kept_count ws k
     together-most {j} t h = omega (arith, t.most, every, sum-part chains j many h)
 
-    -- a list that isn't right
-    pub wrong-list : (ListRight ws k → ⊥) → (true ≡ false → ListRight ws k) × (ListRight ws k → true ≡ false)
-    wrong-list n = (λ q. absurd (true≢false q), λ r. absurd (n r))
-
-    pub too_long : {j r : ℕ} → j < chains → Followed ws k j r → kept_count ws k < r → ListRight ws k → ⊥
-    too_long {j} h f l c = omega (arith, f.right (c.each j h), count_most k j (cells_at (kept_of ws) k), kept-length ws k listed)
-
+    -- too few cells together
     pub not-all : {all : ℕ} → Together chains all → (all ≡ kept_count ws k → ⊥) → ListRight ws k → ⊥
     not-all t n c = n (t.fore c.each ∙ every)
 
     -- where all cells are together, the rest says it
     pub by-rest : {all : ℕ} → Together chains all → all ≡ kept_count ws k → kept_count ws k ≤ capacity_of ws
-        → next_position (capacity_of ws) k (capacity_of ws) ≤ length ws → (r : Bool) → r ≡ not (blank ws (next_position (capacity_of ws) k (kept_count ws k)) (capacity_of ws - kept_count ws k))
-        → (r ≡ false → ListRight ws k) × (ListRight ws k → r ≡ false)
+        → next_position (capacity_of ws) k (capacity_of ws) ≤ length ws → (r : Bool) → r ≡ blank ws (next_position (capacity_of ws) k (kept_count ws k)) (capacity_of ws - kept_count ws k)
+        → (r ≡ true → ListRight ws k) × (ListRight ws k → r ≡ true)
     by-rest t e few room r q = (
-      λ z. record { each = t.back (e ∙ sym every); spare = spare-word (passed-T (blank ws first rest) q z) },
-      λ c. q ∙ ap not (blanks (λ i h. ap (λ (p : ℕ). get_or ws p 0) (at i) ∙ c.spare (kept_count ws k + i) (omega arith) (omega arith))),
+      λ z. record { each = t.back (e ∙ sym every); spare = spare-word (true-T (sym q ∙ z)) },
+      λ c. q ∙ blanks (λ i h. ap (λ (p : ℕ). get_or ws p 0) (at i) ∙ c.spare (kept_count ws k + i) (omega arith) (omega arith)),
     )
       where
         first : ℕ
@@ -145,9 +137,9 @@ module _ (ws : List ℕ) where
 
   module _ (room : used (capacity_of ws) ≤ length ws) where
     -- a list that the code finds wrong
-    pub lists-wrong : ((k : ℕ) → k < heights → kept_count ws k ≤ capacity_of ws) → (k : ℕ) {r : Bool} → k < heights → (ListRight ws k → r ≡ false) → r ≡ true → chains_ok ws ≡ false
+    pub lists-wrong : ((k : ℕ) → k < heights → kept_count ws k ≤ capacity_of ws) → (k : ℕ) {r : Bool} → k < heights → (ListRight ws k → r ≡ true) → r ≡ false → chains_ok ws ≡ false
     lists-wrong few k h right wrong =
-        false-unless (chains_ok ws) (λ q. true≢false (sym wrong ∙ right (list_right ws room few (true-T q) k h)))
+        false-unless (chains_ok ws) (λ q. true≢false (sym (right (list_right ws room few (true-T q) k h)) ∙ wrong))
 
     pub lists-end : (k : ℕ) → heights ≤ k → ((i : ℕ) → i < k → ListRight ws i) → chains_ok ws ≡ true
     lists-end k h each = T_true (lists-right ws room (λ i l. each i (omega arith)))

@@ -154,18 +154,10 @@ module _ (ws : List ℕ) (k j : ℕ) where
 
         pub followed-end : Followed ws k j seen
         followed-end = record {
-          most = λ l. omega (arith, w.most);
+          most = omega (arith, w.most);
           right = λ r. omega (arith, w.fore r, count_none k j last (drop last cells) (sym (right-links r last w.inside w.chained) ∙ ended));
           all = λ e.
               let none : behind last ≡ 0 = omega (arith, w.most, e) in
               let here : link_word last ≡ next_from last = ended ∙ sym (count-zero k j last (drop last cells) none) in
               links-right (λ i b. upto (suc (kept_count ws k)) (omega (arith, e, none)) here (λ i a b. none_after last none i a (le_of_suc-le-suc b)) i (omega arith));
         }
-
-    -- r is more than are kept, and the chain isn't right
-    pub followed-wrong : (r : ℕ) → kept_count ws k < r → (ChainRight ws k j → ⊥) → Followed ws k j r
-    followed-wrong r h wrong = record {
-      most = λ l. absurd (omega arith);
-      right = λ c. absurd (wrong c);
-      all = λ e. absurd (omega (arith, e, count_most k j cells, many));
-    }

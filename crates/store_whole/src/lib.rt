@@ -1,272 +1,251 @@
 #![tactic(auto)]
 
-// The whole store's tests: every place of a scene, every cell kept, the unused words, every count, and every chain.
-ghost use Rattle.std.specs.Prelude.{◌≡◌, false, not, ◌≤◌, ◌<◌, T};
+// The whole store's test: every place of a scene, every cell kept, the unused words, every count, and every chain.
+ghost use Rattle.std.specs.Prelude.{◌≡◌, ◌≤◌, ◌<◌, ◌+◌, ◌^◌, ℕ, true, false, not, length, is_ok, IfOk, IsTrue, slice_index};
 ghost use Rattle.paper.specs.Numbers.{all_below};
-ghost use Rattle.paper.specs.Store.{most_scenes, heights, kept_count, kept_of, bad_pointer, any_bad, over_children, count_of, header_ok, place_ok, list_usable, chains, chains_ok, counts_ok, list_blank, store_ok};
-ghost use Rattle.laws.specs.Chains.{ListRight};
+ghost use Rattle.paper.specs.Store.{most_scenes, heights, kept_count, kept_of, bad_pointer, any_bad, over_children, count_of, blank, place_ok, list_usable, chains, chains_ok, counts_ok, list_blank, store_ok};
+ghost use Rattle.laws.specs.Chains.{ChainRight, ListRight};
 ghost use Rattle.store_whole.specs.Counts.{share_of, Bounded, Countable};
 ghost use Rattle.store_whole.specs.Following.{Followed};
 
+use paper::Damaged;
 use store::{
-    CELL_STRIDE, CHAINS, HEIGHTS, LEAF_STRIDE, MOST_SCENES, capacity, cell_at, cell_position,
-    chain_at, count_at, head_at, header_bad, kept_count, leaf_at, next_at, next_position,
-    not_blank, not_held, scene_bad, scene_depth, scene_root,
+    CELL_STRIDE, CHAINS, HEIGHTS, LEAF_STRIDE, MOST_SCENES, Store, cell_position, next_position,
+    not_blank,
 };
 use store_pointers::{cell_bad, cell_number};
 
-// Whether place n is damaged: a place that holds no scene is not two zeros, or the scene held is bad.
-fn place_bad(store: &[u32], n: u32) -> bool
-    requires t { T (header_ok store.now) }
+// Place n: one that holds no scene is two zeros, and a scene held is in order.
+fn test_place(store: Store<'_>, n: u32) -> Result<(), Damaged>
     requires n_lt_most_scenes { n < most_scenes }
-    ensures { result ≡ not (place_ok store.now n) }
+    ensures { is_ok result ≡ place_ok store.entry.words.now n }
 {
-    if not_held(store, n) {
-        return (scene_depth(store, n) != 0) | (scene_root(store, n) != 0);
+    if store.holds(n) {
+        store.scene(n)?;
+        return Ok(());
     }
-    scene_bad(store, n)
+    if (store.scene_depth(n) != 0) | (store.scene_root(n) != 0) {
+        return Err(Damaged);
+    }
+    Ok(())
 }
 
-// Whether one of the places of scenes is damaged.
-fn scenes_bad(store: &[u32]) -> bool
-    requires { T (header_ok store.now) }
-    ensures { result ≡ not (all_below most_scenes (place_ok store.now)) }
+// The places of scenes.
+fn test_scenes(store: Store<'_>) -> Result<(), Damaged>
+    ensures { is_ok result ≡ all_below most_scenes (place_ok store.entry.words.now) }
 {
-    let mut n = MOST_SCENES;
-    while n != 0 {
-        n -= 1;
-        if place_bad(store, n) {
-            return true;
+    for n in (0..MOST_SCENES).rev() {
+        test_place(store, n)?;
+    }
+    Ok(())
+}
+
+// The kept leaves: none is empty.
+fn test_leaves(store: Store<'_>) -> Result<(), Damaged>
+    ensures { is_ok result ≡ list_usable (kept_of store.entry.words.now) 0 }
+{
+    for n in 0..store.kept_count(0) {
+        if store.leaf_at(n) == 0 {
+            return Err(Damaged);
         }
     }
-    false
+    Ok(())
 }
 
-// Whether a kept leaf is empty.
-fn leaves_bad(store: &[u32]) -> bool
-    requires { T (header_ok store.now) }
-    ensures { result ≡ not (list_usable (kept_of store.now) 0) }
+// The cells kept in list k, k not 0: none is empty or has a bad pointer.
+fn test_cells(store: Store<'_>, k: u32) -> Result<(), Damaged>
+    requires inner { (1 ≤ k) × (k < heights) }
+    ensures { is_ok result ≡ list_usable (kept_of store.entry.words.now) k }
 {
-    let count = kept_count(store, 0);
-    let mut n = 0u32;
-    while n < count {
-        if leaf_at(store, n) == 0 {
-            return true;
-        }
-        n += 1;
-    }
-    false
-}
-
-// Whether a cell kept in list k, k not 0, is empty or has a bad pointer.
-fn cells_bad(store: &[u32], k: u32) -> bool
-    requires t { T (header_ok store.now) }
-    requires le_k { (1 ≤ k) × (k < heights) }
-    ensures { result ≡ not (list_usable (kept_of store.now) k) }
-{
-    let below = kept_count(store, k - 1);
-    let count = kept_count(store, k);
-    let mut n = 0u32;
-    while n < count {
-        if cell_bad(below, cell_at(store, k, n)) {
-            return true;
-        }
-        n += 1;
-    }
-    false
-}
-
-// Whether a list keeps an empty cell or one with a bad pointer.
-fn lists_bad(store: &[u32]) -> bool
-    requires { T (header_ok store.now) }
-    ensures { result ≡ not (all_below heights (list_usable (kept_of store.now))) }
-{
-    let mut k = HEIGHTS;
-    while k != 1 {
-        k -= 1;
-        if cells_bad(store, k) {
-            return true;
+    let below = store.kept_count(k - 1);
+    for n in 0..store.kept_count(k) {
+        if cell_bad(below, store.cell_at(k, n)) {
+            return Err(Damaged);
         }
     }
-    leaves_bad(store)
+    Ok(())
 }
 
-// Whether a word of list k past its kept cells is not zero.
-fn list_not_blank(store: &[u32], k: u32) -> bool
-    requires t { T (header_ok store.now) }
+// The cells kept in every list.
+fn test_lists(store: Store<'_>) -> Result<(), Damaged>
+    ensures { is_ok result ≡ all_below heights (list_usable (kept_of store.entry.words.now)) }
+{
+    for k in (1..HEIGHTS).rev() {
+        test_cells(store, k)?;
+    }
+    test_leaves(store)
+}
+
+// So many words from `at` on: all are zero.
+fn test_blank(store: Store<'_>, at: usize, n: usize) -> Result<(), Damaged>
+    requires inside { at + n ≤ length store.words.now }
+    ensures { is_ok result ≡ blank store.entry.words.now at n }
+{
+    if not_blank(store.words, at, n) {
+        return Err(Damaged);
+    }
+    Ok(())
+}
+
+// The words of list k past its kept cells.
+fn test_spare(store: Store<'_>, k: u32) -> Result<(), Damaged>
     requires k_lt_heights { k < heights }
-    ensures { result ≡ not (list_blank store.now k) }
+    ensures { is_ok result ≡ list_blank store.entry.words.now k }
 {
-    let c = capacity(store);
-    let n = kept_count(store, k);
+    let c = store.capacity();
+    let n = store.kept_count(k);
     let at = cell_position(c, k, n);
     let spare = (c - n) as usize;
     if k == 0 {
-        return not_blank(store, at, LEAF_STRIDE * spare);
+        return test_blank(store, at, LEAF_STRIDE * spare);
     }
-    not_blank(store, at, CELL_STRIDE * spare)
+    test_blank(store, at, CELL_STRIDE * spare)
 }
 
-// Whether an unused word of some list is not zero.
-fn lists_not_blank(store: &[u32]) -> bool
-    requires { T (header_ok store.now) }
-    ensures { result ≡ not (all_below heights (list_blank store.now)) }
+// The unused words of every list.
+fn test_unused(store: Store<'_>) -> Result<(), Damaged>
+    ensures { is_ok result ≡ all_below heights (list_blank store.entry.words.now) }
 {
-    let mut k = HEIGHTS;
-    while k != 0 {
-        k -= 1;
-        if list_not_blank(store, k) {
-            return true;
-        }
+    for k in (0..HEIGHTS).rev() {
+        test_spare(store, k)?;
     }
-    false
+    Ok(())
 }
 
 // How many solid voxels a pointer of list k stands for, as the words say.
-fn pointer_count(store: &[u32], k: u32, p: u32) -> u64
-    requires t { T (header_ok store.now) }
-    requires k_lt_heights { (k < heights) × (bad_pointer (kept_count store.now k) p ≡ false) }
-    ensures { result ≡ share_of store.now k p }
+fn pointer_count(store: Store<'_>, k: u32, p: u32) -> u64
+    requires good { (k < heights) × (bad_pointer (kept_count store.words.now k) p ≡ false) }
+    ensures { result ≡ share_of store.entry.words.now k p }
 {
     if p == 0 {
         return 0;
     }
-    count_at(store, k, cell_number(p))
+    store.count_at(k, cell_number(p))
 }
 
 // How many the children of a cell, of list k, have.
-fn children_count(store: &[u32], k: u32, cell: [u32; 8]) -> u64
-    requires t { T (header_ok store.now) }
-    requires k_lt_heights { (k < heights) × (any_bad (kept_count store.now k) cell ≡ false) }
-    requires bounded { Bounded store.now k }
-    ensures { result ≡ over_children (count_of store.now k) cell }
+fn children_count(store: Store<'_>, k: u32, cell: [u32; 8]) -> u64
+    requires good { (k < heights) × (any_bad (kept_count store.words.now k) cell ≡ false) }
+    requires bounded { Bounded store.words.now k }
+    ensures { result ≡ over_children (count_of store.entry.words.now k) cell }
 {
     let mut sum = 0u64;
-    let mut i = 0usize;
-    while i < 8 {
-        sum += pointer_count(store, k, cell[i]);
-        i += 1;
+    for p in cell {
+        sum += pointer_count(store, k, p);
     }
     sum
 }
 
-// Whether a count of list k, k not 0, isn't the sum of its children's.
-fn list_miscounted(store: &[u32], k: u32) -> bool
-    requires t { T (header_ok store.now) }
-    requires countable { Countable store.now k }
-    ensures { result ≡ not (counts_ok store.now k) }
+// The counts of list k, k not 0: each is the sum of its children's.
+fn test_counts(store: Store<'_>, k: u32) -> Result<(), Damaged>
+    requires countable { Countable store.words.now k }
+    ensures { is_ok result ≡ counts_ok store.entry.words.now k }
 {
-    let mut n = kept_count(store, k);
-    while n != 0 {
-        n -= 1;
-        if count_at(store, k, n) != children_count(store, k - 1, cell_at(store, k, n)) {
-            return true;
+    for n in (0..store.kept_count(k)).rev() {
+        if store.count_at(k, n) != children_count(store, k - 1, store.cell_at(k, n)) {
+            return Err(Damaged);
         }
     }
-    false
+    Ok(())
 }
 
-// Whether a count is wrong: from the leaves up, so that no sum passes the voxels of a cell.
-fn miscounted(store: &[u32]) -> bool
-    requires t { T (header_ok store.now) }
-    requires t_2 { T (all_below heights (list_usable (kept_of store.now))) }
-    ensures { result ≡ not (all_below heights (counts_ok store.now)) }
+// The counts of every list: from the leaves up, so that no sum passes the voxels of a cell.
+fn test_sums(store: Store<'_>) -> Result<(), Damaged>
+    requires usable { IsTrue (all_below heights (list_usable (kept_of store.words.now))) }
+    ensures { is_ok result ≡ all_below heights (counts_ok store.entry.words.now) }
 {
-    let mut k = 1u32;
-    while k < HEIGHTS {
-        if list_miscounted(store, k) {
-            return true;
-        }
-        k += 1;
+    for k in 1..HEIGHTS {
+        test_counts(store, k)?;
     }
-    false
+    Ok(())
 }
 
-// How many cells chain j of list k has, followed from its head, each of them in it and the numbers rising; or more than are kept, where it is wrong.
-fn chain_length(store: &[u32], k: u32, j: u32) -> u32
-    requires t { T (header_ok store.now) }
-    requires k_lt_heights { (k < heights) × (j < chains) }
-    ensures { Followed store.now k j result }
+// How many cells chain j of list k has, where each is in it and the numbers rise. It follows the links, which no iterator of std does.
+fn chain_length(store: Store<'_>, k: u32, j: u32) -> Result<u32, Damaged>
+    requires listed { (k < heights) × (j < chains) }
+    ensures followed { IfOk result (λ length. Followed store.entry.words.now k j length) }
+    ensures broken { is_ok result ≡ false → ChainRight store.entry.words.now k j → ⊥ }
 {
-    let count = kept_count(store, k);
+    let count = store.kept_count(k);
     let mut last = 0u32;
     let mut length = 0u32;
-    let mut n = head_at(store, k, j);
+    let mut n = store.head_at(k, j);
     while n != 0 {
         if n <= last {
-            return count + 1;
+            return Err(Damaged);
         }
         if count < n {
-            return count + 1;
+            return Err(Damaged);
         }
-        if chain_at(store, k, n - 1) != j {
-            return count + 1;
+        if store.chain_at(k, n - 1) != j {
+            return Err(Damaged);
         }
         length += 1;
         last = n;
-        n = next_at(store, k, n - 1);
+        n = store.next_at(k, n - 1);
     }
-    length
+    Ok(length)
 }
 
-// Whether the chains of list k are wrong: one is, or together they don't have all cells kept, or a number that isn't kept has a next word. A chain that is
+// The chains of list k: each is right, together they have all cells kept, and a number that isn't kept has no next word. A chain that is
 // followed rightly has no more cells than its key has, so all are right where together they have all cells.
-fn list_unchained(store: &[u32], k: u32) -> bool
-    requires t { T (header_ok store.now) }
+fn test_chains(store: Store<'_>, k: u32) -> Result<(), Damaged>
     requires k_lt_heights { k < heights }
-    ensures { (result ≡ false → ListRight store.now k) × (ListRight store.now k → result ≡ false) }
+    ensures right { is_ok result ≡ true → ListRight store.entry.words.now k }
+    ensures accepted { ListRight store.entry.words.now k → is_ok result ≡ true }
 {
-    let count = kept_count(store, k);
+    let count = store.kept_count(k);
     let mut all = 0u32;
-    let mut j = 0u32;
-    while j < CHAINS as u32 {
-        let length = chain_length(store, k, j);
-        if count < length {
-            return true;
-        }
-        all += length;
-        j += 1;
+    for j in 0..CHAINS as u32 {
+        all += chain_length(store, k, j)?;
     }
     if all != count {
-        return true;
+        return Err(Damaged);
     }
-    let c = capacity(store);
-    not_blank(store, next_position(c, k, count), (c - count) as usize)
+    let c = store.capacity();
+    test_blank(store, next_position(c, k, count), (c - count) as usize)
 }
 
-// Whether a chain is wrong.
-fn unchained(store: &[u32]) -> bool
-    requires { T (header_ok store.now) }
-    ensures { result ≡ not (chains_ok store.now) }
+// Every chain.
+fn test_links(store: Store<'_>) -> Result<(), Damaged>
+    ensures { is_ok result ≡ chains_ok store.entry.words.now }
 {
-    let mut k = 0u32;
-    while k < HEIGHTS {
-        if list_unchained(store, k) {
-            return true;
-        }
-        k += 1;
+    for k in 0..HEIGHTS {
+        test_chains(store, k)?;
     }
-    false
+    Ok(())
 }
 
-// Whether the store is damaged anywhere: header, scenes, cells, unused words, counts, chains.
-pub fn store_bad(store: &[u32]) -> bool
-    ensures { result ≡ not (store_ok store.now) }
+// The whole store: header, scenes, cells, unused words, counts, chains.
+fn test(words: &[u32]) -> Result<(), Damaged>
+    ensures { is_ok result ≡ store_ok words.now }
 {
-    if header_bad(store) {
-        return true;
+    let store = Store::open(words)?;
+    test_scenes(store)?;
+    test_lists(store)?;
+    test_unused(store)?;
+    test_sums(store)?;
+    test_links(store)
+}
+
+// A store of which every word was tested: nothing in it is damaged.
+#[derive(Clone, Copy)]
+pub struct WholeStore<'a> {
+    pub store: Store<'a>,
+    pub ghost whole: { IsTrue (store_ok store.words.now) },
+    // each of them is a word: what is known of a slice's elements, for those who hold the struct
+    pub ghost fits: { (i : ℕ) → slice_index store.words.now i < 2 ^ 32 },
+}
+
+impl<'a> WholeStore<'a> {
+    // These words as a whole store, where none of them is damaged.
+    pub fn open(words: &'a [u32]) -> Result<WholeStore<'a>, Damaged>
+        ensures same_words { IfOk result (λ whole. whole.store.words.now ≡ words.now) }
+        ensures opened { is_ok result ≡ store_ok words.now }
+    {
+        test(words)?;
+        Ok(WholeStore {
+            store: Store::of(words),
+        })
     }
-    if scenes_bad(store) {
-        return true;
-    }
-    if lists_bad(store) {
-        return true;
-    }
-    if lists_not_blank(store) {
-        return true;
-    }
-    if miscounted(store) {
-        return true;
-    }
-    unchained(store)
 }

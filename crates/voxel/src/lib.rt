@@ -6,30 +6,29 @@ ghost use Rattle.paper.specs.Store.{kept_of};
 ghost use Rattle.paper.specs.Answers.{outcome, seen};
 ghost use Rattle.paper.specs.Calls.{voxel_outcome};
 ghost use Rattle.points.specs.Points.{at};
-ghost use Rattle.walk.specs.Walk.{Scene, voxel_told};
+ghost use Rattle.walk.specs.Walk.{voxel_told};
 
-use paper::{Refusal, Seen};
+use paper::{Refusal, Voxel};
 use points::{Point, outside};
-use store_entry::{Entry, enter};
+use store::Scene;
+use store_entry::enter;
 use walk::{voxel_at, voxel_walk};
 
-// The voxel of a scene of this depth and root pointer.
-fn voxel_from(store: &[u32], depth: u32, root: u32, v: Point) -> Seen
-    requires { Scene store.now depth root }
-    ensures { seen result ≡ voxel_told (kept_of store.now) depth root (at v) }
+// The voxel of a scene.
+fn voxel_from(scene: Scene, v: Point) -> Result<Voxel, Refusal>
+    ensures { seen result ≡ voxel_told (kept_of scene.entry.store.words.now) scene.entry.depth scene.entry.root (at v) }
 {
-    if outside(depth, v) {
-        return Seen::Refused(Refusal::Outside);
+    if outside(scene.depth, v) {
+        return Err(Refusal::Outside);
     }
-    voxel_at(store, voxel_walk(store, depth, root, v), v)
+    let end = voxel_walk(scene, v)?;
+    Ok(voxel_at(scene.store, end, v))
 }
 
 // Voxel: solid or empty, with the height of the emptiness.
-pub fn voxel(store: &[u32], scene: u32, v: Point) -> Seen
-    ensures { outcome (seen result) [] ≡ voxel_outcome store.now scene (at v) }
+pub fn voxel(words: &[u32], scene: u32, v: Point) -> Result<Voxel, Refusal>
+    ensures { outcome (seen result) [] ≡ voxel_outcome words.now scene (at v) }
 {
-    match enter(store, scene) {
-        Entry::Refused(refusal) => Seen::Refused(refusal),
-        Entry::Root(depth, root) => voxel_from(store, depth, root, v),
-    }
+    let entered = enter(words, scene)?;
+    voxel_from(entered, v)
 }

@@ -14,8 +14,8 @@ use Rattle.paper.specs.Questions.{child_for, kept_reading}
 use Rattle.laws.proofs.Matching.{tag-lt}
 use Rattle.walk.specs.Walk.{taken_from, walk_to, end_of}
 use Rattle.points.specs.Seeing.{seen_at}
-use Rattle.walk.specs.declared.Ended.{Ended}
-use Rattle.walk.specs.declared.Ended.TheVariants.{Absent, At, Damaged}
+use Rattle.walk.specs.Walk.{Ended}
+use Rattle.walk.specs.Walk.{Absent, At, Damaged}
 use Rattle.points.proofs.Seen.{tag-joins, child-seen, in-seen, tag-seen}
 
 -- a voxel question stops at no list above the leaves

@@ -19,8 +19,8 @@ use Rattle.laws.proofs.Tests.{none-at}
 use Rattle.laws.proofs.Outlines.{depth-two}
 use Rattle.walk.specs.Walk.{taken_from, walk_to, end_of, AtKept}
 use Rattle.points.specs.Seeing.{child_no_at, seen_at}
-use Rattle.walk.specs.declared.Ended.{Ended}
-use Rattle.walk.specs.declared.Ended.TheVariants.{Absent, At, Damaged}
+use Rattle.walk.specs.Walk.{Ended}
+use Rattle.walk.specs.Walk.{Absent, At, Damaged}
 use Rattle.walk.proofs.Ends.{voxel-end}
 use Rattle.laws.proofs.Invariant.{named-kept}
 use Rattle.laws.proofs.Matching.{tag-lt}

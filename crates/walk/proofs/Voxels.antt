@@ -13,11 +13,10 @@ use Rattle.paper.specs.declared.Refusal.{Refusal}
 use Rattle.paper.specs.Walk.{End, is_damaged, root_walk}
 use Rattle.paper.specs.Questions.{child_for, kept_reading, voxel_walk}
 use Rattle.laws.proofs.Tests.{T_true, true-T, not-not, and_left, and_right}
-use Rattle.walk.specs.Walk.{Scene, end_of, voxel_values, end_told, voxel_told}
-use Rattle.walk.specs.declared.Ended.TheVariants.{Absent}
-use Rattle.store_entry.specs.declared.Entry.TheVariants.{Refused}
+use Rattle.walk.specs.Walk.{Absent, end_of, voxel_values, end_told, voxel_told}
+use Rattle.store_entry.specs.Entry.{Refused}
 use Rattle.store_entry.proofs.Asked.{refused_by}
-use Rattle.store_entry.proofs.Entries.{Entered, Says, entered-depth, entered-root, past-outside, past-inside, past-settled}
+use Rattle.store_entry.proofs.Entries.{Entered, Says, past-outside, past-inside, past-settled}
 
 pub not_none : (p : ℕ) → (p ≡ 0 → ⊥) → T (not (eqb p 0))
 not_none p z = true-T (ap not (ne_eqb p 0 z))
@@ -47,10 +46,6 @@ unfolding voxel_walk
 voxel-none K D p v e = ap (λ (q : ℕ). (root_walk (kept_reading K) D (child_for q) v).end) (sym e)
 
 -- ---- the whole outcome of a voxel question
-
--- the scene that was entered, as a walk needs it
-pub entered-scene : {ws : List ℕ} {n D p : ℕ} → Entered ws n D p → Scene ws D p
-entered-scene e = record { header = e.header; deep = entered-depth e; sound = entered-root e }
 
 pub voxel-settled : (ws : List ℕ) (n D p : ℕ) (v : Point) → Entered ws n D p → outcome (voxel_told (kept_of ws) D p v) [] ≡ voxel_outcome ws n v
 unfolding voxel_outcome voxel_outside voxel_damaged

@@ -1,35 +1,24 @@
 -- A walk as code does it: coordinates are never reduced, and numbers are mirrored instead of cells. The eight pointers are looked at as stored;
 -- the number of the child is mirrored by the mirror in force, and its tag joins that mirror. Definitions only.
-use Rattle.std.specs.Prelude.{◌≡◌, false, cond, not, List, [], ◌∷◌, ℕ, zero, suc, ◌-◌, ◌^◌, ◌<◌, T, eqb, leb, length, get_or}
+use Rattle.std.specs.Prelude.{false, cond, not, List, [], ◌∷◌, ℕ, zero, suc, ◌^◌, ◌<◌, eqb, leb, length, get_or}
 use Rattle.std.specs.Int.Bits.{bit_xor}
-use Rattle.paper.specs.Rooms.{Point, depth_ok, inside}
+use Rattle.paper.specs.Rooms.{Point, inside}
 use Rattle.paper.specs.Walk.{End, damaged, absent, in_leaf, is_damaged, solid_at, empty_height}
 use Rattle.paper.specs.Questions.{voxel_walk}
-use Rattle.paper.specs.Store.{Cell, cells_at, cell_at, tag_of, cell_no, leaf_no, any_bad, bad_pointer, header_ok, heights, kept_count}
+use Rattle.paper.specs.Store.{Cell, cells_at, cell_at, tag_of, cell_no, leaf_no, any_bad}
 use Rattle.paper.specs.Numbers.{bit_for}
 use Rattle.paper.specs.Answers.{Told}
 use Rattle.store_entry.specs.Entry.{past_entry}
 use Rattle.points.specs.Seeing.{child_no_at, seen_at}
-use Rattle.walk.specs.declared.Ended.{Ended}
-use Rattle.walk.specs.declared.Ended.TheVariants.{Absent, At, Damaged}
-use Rattle.walk.specs.declared.Image.{Image}
-
--- ---- from where a walk starts
-
--- a kept cell of list k, seen under a mirror
-pub record KeptImage (ws : List ℕ) (k : ℕ) (c : Image) : Type 0 where
-  pub header : T (header_ok ws)
-  pub list : k < heights
-  pub kept : c.number < kept_count ws k
-  pub mirrored : c.mirror < 8
-
--- a scene of depth D and root pointer p, past the tests of its words
-pub record Scene (ws : List ℕ) (D p : ℕ) : Type 0 where
-  pub header : T (header_ok ws)
-  pub deep : T (depth_ok D)
-  pub sound : bad_pointer (kept_count ws (D - 2)) p ≡ false
 
 -- ---- the walk
+
+-- how a walk from a cell down to a list ends: the child of this height is absent; this cell of the list asked for, seen under this mirror; a cell
+-- entered has a bad pointer
+pub data Ended : Type 0 where
+  Absent : ℕ → Ended
+  At : ℕ → ℕ → Ended
+  Damaged : Ended
 
 -- the pointer taken from cell c of list k + 1 seen under m
 abbrev pub taken_from : ℕ → Cell → ℕ → Point → ℕ

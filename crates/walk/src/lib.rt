@@ -2,100 +2,87 @@
 
 // The walk on a store's words, list by list: from a cell down to a list, from a scene's root to a voxel, and the voxel at its end. A list is named by k:
 // that of height k + 2. Coordinates are never reduced; the number of a child is mirrored by the mirror in force, and its tag joins that mirror.
-ghost use Rattle.std.specs.Prelude.{◌≡◌, ◌-◌, ◌^◌, T};
+ghost use Rattle.std.specs.Prelude.{◌≡◌, ◌≢◌, ◌-◌, ◌^◌, ◌<◌, T, Ok};
 ghost use Rattle.paper.specs.Rooms.{inside};
 ghost use Rattle.paper.specs.Answers.{seen};
 ghost use Rattle.paper.specs.Questions.{voxel_walk};
-ghost use Rattle.paper.specs.Store.{cell_no, header_ok, kept_of, tag_of};
+ghost use Rattle.paper.specs.Store.{heights, cell_no, kept_count, kept_of, tag_of};
 ghost use Rattle.points.specs.Points.{at};
-ghost use Rattle.walk.specs.Walk.{AtKept, KeptImage, Scene, end_of, end_told, walk_to};
+ghost use Rattle.walk.specs.Walk.{AtKept, end_of, end_told, walk_to};
+ghost use Rattle.walk.specs.Reached.{ended, reached};
 
+mod image; // where a walk stands
+
+pub use image::{End, Image};
 use limits::LEAF_HEIGHT;
-use paper::{Refusal, Seen};
+use paper::{Damaged, Voxel};
 use points::{Point, child_number, leaf_solid};
-use store::{cell_at, kept_count, leaf_at};
+use store::{Scene, Store};
 use store_pointers::{any_bad, cell_number, tag};
 
-// A cell of a list, seen under a mirror.
-#[derive(Clone, Copy)]
-pub struct Image {
-    pub number: u32,
-    pub mirror: u32,
-}
-
-// How a walk from a cell down to a list ends.
-#[derive(Clone, Copy)]
-pub enum Ended {
-    // The child of this height is absent.
-    Absent(u32),
-    // This cell of the list asked for, seen under this mirror.
-    At(u32, u32),
-    // A cell entered has a bad pointer.
-    Damaged,
-}
-
-// From a cell of list k, seen under a mirror, down to list `stop` on the way to a voxel.
-pub fn walk_to(store: &[u32], stop: u32, k: u32, from: Image, v: Point) -> Ended
-    requires { KeptImage store.now k from }
-    ensures { result ≡ walk_to (kept_of store.now) stop k from.number from.mirror (at v) }
+// From a cell of list k, seen under a mirror, down to list `stop` on the way to a voxel; or a cell entered has a bad pointer.
+pub fn walk_to(store: Store, stop: u32, k: u32, from: Image, v: Point) -> Result<End, Damaged>
+    requires k_lt_heights { k < heights }
+    requires kept { from.number < kept_count store.words.now k }
+    ensures { ended result ≡ walk_to (kept_of store.entry.words.now) stop k from.number from.mirror (at v) }
 {
-    let mut list = k;
     let mut number = from.number;
     let mut seen = from.mirror;
-    while stop < list {
-        let cell = cell_at(store, list, number);
-        if any_bad(kept_count(store, list - 1), cell) {
-            return Ended::Damaged;
+    for below in (stop..k).rev() {
+        let cell = store.cell_at(below + 1, number);
+        if any_bad(store.kept_count(below), cell) {
+            return Err(Damaged);
         }
-        let p = cell[(child_number(list - 1, v) ^ seen) as usize];
+        let p = cell[(child_number(below, v) ^ seen) as usize];
         if p == 0 {
-            return Ended::Absent(list + 1);
+            return Ok(End::Absent(below + LEAF_HEIGHT));
         }
         number = cell_number(p);
         seen = tag(p) ^ seen;
-        list -= 1;
     }
-    Ended::At(number, seen)
+    Ok(End::At(Image {
+        number,
+        mirror: seen,
+    }))
 }
 
-// The same from the cell that the root pointer of a scene of this depth names, which is not none.
-pub fn walk_root(store: &[u32], stop: u32, depth: u32, root: u32, v: Point) -> Ended
-    requires { Scene store.now depth root × (root ≡ 0 → ⊥) }
-    ensures value { result ≡ walk_to (kept_of store.now) stop (depth - 2) (cell_no root) (tag_of root) (at v) }
-    ensures at_kept { stop ≡ 0 → AtKept (kept_of store.now) result }
+// The same from the cell that a scene's root pointer names, which is not none.
+pub fn walk_root(scene: Scene, stop: u32, v: Point) -> Result<End, Damaged>
+    requires rooted { scene.root ≢ 0 }
+    ensures value { ended result ≡ walk_to (kept_of scene.entry.store.words.now) stop (scene.entry.depth - 2) (cell_no scene.entry.root) (tag_of scene.entry.root) (at v) }
+    ensures at_kept { stop ≡ 0 → AtKept (kept_of scene.entry.store.words.now) (ended result) }
 {
     let from = Image {
-        number: cell_number(root),
-        mirror: tag(root),
+        number: cell_number(scene.root),
+        mirror: tag(scene.root),
     };
-    walk_to(store, stop, depth - LEAF_HEIGHT, from, v)
+    walk_to(scene.store, stop, scene.depth - LEAF_HEIGHT, from, v)
 }
 
-// The walk to a voxel inside a scene of this depth and root pointer. One entry serves any number of voxels.
-pub fn voxel_walk(store: &[u32], depth: u32, root: u32, v: Point) -> Ended
-    requires { Scene store.now depth root × T (inside (2 ^ depth) (at v)) }
-    ensures result_value { end_of (kept_of store.now) (at v) result ≡ (voxel_walk (kept_of store.now) depth root (at v)).end }
-    ensures at_kept { AtKept (kept_of store.now) result }
+// The walk to a voxel inside a scene. One scene serves any number of voxels.
+pub fn voxel_walk(scene: Scene, v: Point) -> Result<End, Damaged>
+    requires inside { T (inside (2 ^ scene.depth) (at v)) }
+    ensures value { end_of (kept_of scene.entry.store.words.now) (at v) (ended result) ≡ (voxel_walk (kept_of scene.entry.store.words.now) scene.entry.depth scene.entry.root (at v)).end }
+    ensures at_kept { AtKept (kept_of scene.entry.store.words.now) (ended result) }
 {
-    if root == 0 {
-        return Ended::Absent(depth);
+    if scene.root == 0 {
+        return Ok(End::Absent(scene.depth));
     }
-    walk_root(store, 0, depth, root, v)
+    walk_root(scene, 0, v)
 }
 
 // The voxel at which a walk ended; an empty one in a leaf has height 0.
-pub fn voxel_at(store: &[u32], end: Ended, v: Point) -> Seen
-    requires { T (header_ok store.now) × AtKept (kept_of store.now) end }
-    ensures { seen result ≡ end_told (end_of (kept_of store.now) (at v) end) }
+pub fn voxel_at(store: Store, end: End, v: Point) -> Voxel
+    requires at_kept { AtKept (kept_of store.words.now) (reached end) }
+    ensures { seen (Ok result) ≡ end_told (end_of (kept_of store.entry.words.now) (at v) (reached end)) }
 {
     match end {
-        Ended::Damaged => Seen::Refused(Refusal::DamagedStore),
-        Ended::Absent(height) => Seen::Empty(height),
-        Ended::At(number, mirror) => {
-            if leaf_solid(leaf_at(store, number), mirror, v) {
-                Seen::Solid
+        End::Absent(height) => Voxel::Empty(height),
+        End::At(leaf) => {
+            if leaf_solid(store.leaf_at(leaf.number), leaf.mirror, v) {
+                Voxel::Solid
             } else {
-                Seen::Empty(0)
+                Voxel::Empty(0)
             }
         }
     }

@@ -1,2 +1,0 @@
--- Laws that belong to no one function: how many digits a number has.
-pub mod Digits
