@@ -26,9 +26,9 @@
  *   - The floating-point environment is the default one: floating-point exceptions masked, subnormal numbers as they are
  *     (neither flush-to-zero nor denormals-are-zero set). Only rooms_detail computes with doubles. It may set status flags.
  *     With denormals-are-zero the distance -5e-324 would be taken for 0 where refusal 13 is due.
- *   - The stack suffices: 8 KiB hold every call, by measurement. At depth 16 rooms_add takes most, 4,816 bytes, then
- *     rooms_any 3,736, rooms_box 2,512, rooms_headset_check 1,384, rooms_outline 1,248, rooms_check 1,224, any other call
- *     less than 700; on files and stores with a byte or a word changed none took more (docs/STACK.md). No function's frame
+ *   - The stack suffices: 8 KiB hold every call, by measurement. At depth 16 rooms_add takes most, 4,880 bytes, then
+ *     rooms_any 4,464, rooms_box 2,512, rooms_headset_check 1,592, rooms_check 1,368, rooms_outline 1,264, any other call
+ *     less than 800; on files and stores with a byte or a word changed none took more (docs/STACK.md). No function's frame
  *     has more than 512 bytes.
  *   Of what stands in the memory nothing is asked: any words and any bytes, of any length, noise, a damaged store, half a
  *   file. A call answers or refuses; it never faults, loops without end or writes outside what it was lent. Not
