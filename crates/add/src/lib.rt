@@ -45,9 +45,9 @@ fn take_scene(file: &[u8], store: &mut [u32]) -> Result<u32, Refusal>
     let number = lent.scenes_held();
     let before = counts(lent);
     match add_root(file, store) {
-        Err(Full) => {
+        Err(full) => {
             cut_back(store, before);
-            Err(Refusal::CellsFull)
+            Err(Refusal::from(full))
         }
         Ok(root) => {
             hold_scene(store, depth(file), root.pointer);
