@@ -13,9 +13,9 @@ use Rattle.paper.specs.declared.Refusal.{Refusal}
 use Rattle.paper.specs.declared.Voxel.{Voxel}
 use Rattle.paper.specs.declared.Sight.{Sight}
 use Rattle.paper.specs.Numbers.{bit_for}
-use Rattle.std.specs.Prelude.{Result, Ok, Err, ⊤, Bool, true, false, replicate}
+use Rattle.std.specs.Prelude.{Result, Ok, Err, Option, None, Some, ⊤, Bool, true, false, replicate}
 use Rattle.paper.specs.Rooms.{Point}
-use Rattle.paper.specs.Answers.{Outcome, Told, outcome, answer_told, voxel_values, sight_values, found_values, started, added, seen, sighted, searched, occupied, counted, kept, written, checked, found, chosen, opened, holds}
+use Rattle.paper.specs.Answers.{Outcome, Told, outcome, answer_told, voxel_values, sight_values, found_values, started, added, seen, sighted, searched, occupied, counted, kept, written, checked, found, chosen, refusal_number, opened, holds}
 use Rattle.paper.specs.Promises.{NewStorePromise, AddPromise, VoxelPromise, SightPromise, CellPromise, BoxPromise, AnyPromise, KeptPromise, OutlinePromise, PackPromise, HeadsetPackPromise, CheckPromise, HeadsetCheckPromise, PackedVoxelPromise, OpenPromise, AskPromise, DetailPromise}
 use Rattle.laws.proofs.RefusalNumbers.{answer_of, refused-back}
 
@@ -143,9 +143,17 @@ headset-check file scratch a b = (same_answer checked (answer_from first) (answe
 pub packed-voxel : (file : List ℕ) (v : Point) {r s : Result Found Refusal} → PackedVoxelPromise file v r → PackedVoxelPromise file v s → r ≡ s
 packed-voxel file v a b = same_answer found (answer_from found_from) (answer-back 3 found_values found_from found-back) a b
 
--- an opening is a struct: its number, depth, list starts and the bytes that it holds
-pub opening : (file : List ℕ) (r s : Opening) → OpenPromise file r → OpenPromise file s → (opened r ≡ opened s) × (holds r ≡ holds s)
-opening file r s a b = (ap (λ (o : Outcome). record { number = o.number; values = o.values }) (a ∙ sym b), ap (lent_at 0) (same-lent a b))
+-- an opening is a struct: its refusal, depth, list starts and the bytes that it holds. The refusal is read back from its number
+refusal-back : (o : Option Refusal) → answer_of None Some (refusal_number o) ≡ o
+refusal-back None = refl
+refusal-back (Some r) = refused-back None Some r
+
+pub opening : (file : List ℕ) (r s : Opening) → OpenPromise file r → OpenPromise file s → (opened r ≡ opened s) × (holds r ≡ holds s) × (r.refusal ≡ s.refusal)
+opening file r s a b = (
+  ap (λ (o : Outcome). record { number = o.number; values = o.values }) (a ∙ sym b),
+  ap (lent_at 0) (same-lent a b),
+  sym (refusal-back r.refusal) ∙ ap (λ (o : Outcome). answer_of None Some o.number) (a ∙ sym b) ∙ refusal-back s.refusal,
+)
 
 pub ask : (file : List ℕ) (D : ℕ) (starts : List ℕ) (v : Point) {r s : Result Found Refusal} → AskPromise file D starts v r → AskPromise file D starts v s → r ≡ s
 ask file D starts v a b = same_answer found (answer_from found_from) (answer-back 3 found_values found_from found-back) a b
