@@ -3,7 +3,7 @@
 // Opened packed scenes: a scene's bytes beside the numbers of its header, for many questions. The structs hold a slice; the work is done by
 // functions over plain slices and numbers, and these are straight lines above them.
 ghost use Rattle.std.specs.Prelude.{◌≡◌, []};
-ghost use Rattle.paper.specs.Answers.{outcome, found};
+ghost use Rattle.paper.specs.Answers.{outcome, found, refusal_number};
 ghost use Rattle.paper.specs.Calls.{open_outcome};
 ghost use Rattle.paper.specs.Promises.{OpenPromise, AskPromise};
 ghost use Rattle.points.specs.Points.{at};
@@ -38,6 +38,16 @@ pub fn open<'a>(file: &'a [u8]) -> Opening<'a>
                 starts: [0; 15],
             },
         },
+    }
+}
+
+// An opening's number: 0 where it is accepted, else its refusal's.
+pub fn opening_number(opening: Opening<'_>) -> u32
+    ensures { result ≡ refusal_number opening.entry.refusal }
+{
+    match opening.refusal {
+        None => 0,
+        Some(refusal) => refusal.number(),
     }
 }
 

@@ -14,9 +14,9 @@ pub use paper::{
     blocked_voxel, found_entered, non_empty, number, solid_height, solid_records_height,
 };
 
-// Opening a packed scene, and a question on an opened scene. Their answer and their scene hold a slice, so they are named here
-// and stand in `opened`; the last three do the same on plain bytes and numbers.
-pub use opened::{ask, ask_bytes, open, open_and_ask, read_header};
+// Opening a packed scene, the number that an opening tells, and a question on an opened scene. Their answer and their scene hold a
+// slice, so they are named here and stand in `opened`; `ask_bytes`, `open_and_ask` and `read_header` do the same on plain bytes and numbers.
+pub use opened::{ask, ask_bytes, open, open_and_ask, opening_number, read_header};
 
 /// New store: the words of this capacity (1 to 65,536 cells at each height) are zeroed and word 0 is set; what lies behind them stays. Refused by 1, with
 /// the words as they were (docs/RULES.md, 'The store').
